@@ -1,0 +1,4 @@
+pub mod FiniteTables
+pub mod Overlays
+pub mod Folds
+pub mod Fitting

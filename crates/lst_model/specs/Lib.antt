@@ -1,0 +1,5 @@
+pub mod Cells
+pub mod Tables
+pub mod Histories
+pub mod Soundness
+pub mod Example
