@@ -1,0 +1,31 @@
+-- The least number of bits that counts a number of positions.
+use Rattle.std.proofs.Common.{◌≡◌, ℕ, zero, suc, ◌+◌, ◌-◌, ◌*◌, ◌%◌, ◌^◌, ◌<◌, ◌≤◌, Bool, true, false, cond, nat_le, sym, ap, ◌∙◌, ⊎_elim, subst, arith, le-leb}
+use Rattle.std.proofs.lemmas.Bool.{lt-leb, cases_lt}
+use Rattle.std.proofs.Math.Nat.{pow-le-pow_right}
+use Rattle.std.proofs.lemmas.Nat.{pow-add, one_shl}
+use mathlib.Core.Logic.{dite}
+use native.Mathlib.Decide.{ℕ_discrete}
+use Rattle.lst_layout.specs.Areas.{least, bits_for}
+
+-- the first that passes is the least
+least_is : (p : ℕ → Bool) (n k b : ℕ) → k ≤ b → b < k + n → p b ≡ true → ((j : ℕ) → k ≤ j → j < b → p j ≡ false) → least p n k ≡ b
+least_is p zero k b low high passes fails = absurd (omega arith)
+least_is p (suc n) k b low high passes fails = dite (ℕ_discrete k b)
+    (λ e. ap (λ t. cond t k (least p n (k + 1))) (subst (λ (j : ℕ). p j ≡ true) (sym e) passes) ∙ e)
+    (λ other. let below : k < b = omega arith in let here : k ≤ k = omega arith in ap (λ t. cond t k (least p n (k + 1))) (fails k here below)
+    ∙ least_is p n (k + 1) b (omega arith) (omega arith) passes (λ j a c. fails j (omega arith) c))
+
+pub bits_for_is : (n b : ℕ) → b < 64 → n ≤ 2 ^ b → ((j : ℕ) → j < b → 2 ^ j < n) → bits_for n ≡ b
+unfolding bits_for
+bits_for_is n b few enough fails = least_is (λ j. nat_le n (2 ^ j)) 64 0 b (omega arith) (omega arith) (le-leb n (2 ^ b) enough) (λ j _ low. lt-leb n (2 ^ j) (fails j low))
+
+-- one more than the bits of what is below n
+pub bits_for_log : (n r : ℕ) → r < 63 → 0 < n → 2 ^ r ≤ n - 1 → n - 1 < 2 * 2 ^ r → bits_for n ≡ r + 1
+bits_for_log n r few some above below = bits_for_is n (r + 1) (omega arith) (let e : 2 ^ (r + 1) ≡ 2 ^ r * 2 = pow-add 2 r 1 in omega arith)
+    (λ j low. let up : 2 ^ j ≤ 2 ^ r = pow-le-pow_right {n = 2} (omega arith) {i = j} {j = r} (omega arith) in omega arith)
+
+pub log_low : (r b n : ℕ) → 2 ^ r ≤ n → n < 2 ^ b → r < b
+log_low r b n above below = ⊎_elim (λ e. e) (λ (h : b ≤ r). let up : 2 ^ b ≤ 2 ^ r = pow-le-pow_right {n = 2} (omega arith) {i = b} {j = r} h in absurd (omega arith)) (cases_lt r b)
+
+pub shifted_low : (b k : ℕ) → b ≤ k → k < 64 → (1 * 2 ^ b) % 2 ^ 64 ≤ 2 ^ k
+shifted_low b k few small = let e : (1 * 2 ^ b) % 2 ^ 64 ≡ 2 ^ b = one_shl b 64 (omega arith) in let up : 2 ^ b ≤ 2 ^ k = pow-le-pow_right {n = 2} (omega arith) {i = b} {j = k} few in omega arith
