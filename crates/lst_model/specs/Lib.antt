@@ -3,3 +3,4 @@ pub mod Tables
 pub mod Histories
 pub mod Soundness
 pub mod Example
+pub mod Lines

@@ -1,0 +1,20 @@
+//! The machine of one thread: what a script is answered, line by line, and the state that each line leaves.
+//!
+//! The machine is stated in `specs/` with lists and maps. It has no words, version chains or page frames. `reply` and
+//! `next` give the answer to a line and the state after it, `replies` and `state_after` those of a whole script. The
+//! store part of the state decides every answer but those to merges.
+#![tactic(auto)]
+
+ghost use Rattle.std.specs.Prelude.{◌≡◌, List};
+ghost use Rattle.lst_layout.specs.declared.limits.Limits.{Limits};
+ghost use Rattle.lst_model.specs.declared.lines.Line.{Line};
+ghost use Rattle.lst_machine.specs.State.{State};
+ghost use Rattle.lst_machine.specs.Machine.{replies};
+ghost use Rattle.lst_machine.specs.Others.{without_merges, other_replies};
+
+/// With the merge lines taken out of a script, exactly the replies to those lines are lost: two states with one store part
+/// answer all other lines alike, whatever their page parts are. The contract is a law; the body does nothing.
+pub fn merges_change_no_other_reply()
+    ensures { (limits : Limits) (one other : State) (lines : List Line) → one.store ≡ other.store
+        → other_replies lines (replies limits one lines) ≡ replies limits other (without_merges lines) }
+{}
