@@ -1,6 +1,6 @@
 //! The encoding word of a tail record.
 ghost use Rattle.std.specs.Prelude.{◌≡◌, ◌<◌, ◌≤◌, ◌-◌, ◌^◌, ◌↔◌, IsTrue};
-ghost use Rattle.lst_bits.specs.Encodings.{encoding_word, encoding_of, IsEncodingWord, IsEncodingFor, IsMaskOf, HasColumn, EncodingsArePacked};
+ghost use Rattle.lst_bits.specs.Encodings.{encoding_word, encoding_of, IsEncoding, IsEncodingWord, IsEncodingFor, IsMaskOf, HasColumn, EncodingsArePacked};
 
 /// What kind of write a tail record holds.
 #[derive(Clone, Copy, PartialEq, Eq, Debug)]
@@ -40,6 +40,7 @@ pub fn pack_encoding(e: Encoding) -> u64
 pub fn unpack_encoding(word: u64) -> Encoding
     requires { IsEncodingWord word }
     ensures encoding { result ≡ encoding_of word }
+    ensures range { IsEncoding result }
     ensures word { encoding_word result ≡ word }
 {
     let kind = match word / 256 % 256 {
