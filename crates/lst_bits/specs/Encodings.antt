@@ -1,0 +1,49 @@
+-- The encoding word of a tail record: which columns it holds, what kind of write it is, and the record's slot.
+use Rattle.std.specs.Prelude.{ℕ, ◌+◌, ◌-◌, ◌*◌, ◌/◌, ◌%◌, ◌^◌, ◌<◌, ◌≤◌, ◌≡◌, ◌==◌, if◌then◌else◌}
+use Rattle.std.specs.Int.{bit_at}
+use Rattle.lst_bits.specs.declared.encodings.Encoding.{Encoding}
+use Rattle.lst_bits.specs.declared.encodings.Kind.{Kind}
+use Rattle.lst_bits.specs.declared.encodings.Kind.TheVariants.{Put, Set, Del}
+use Rattle.lst_bits.specs.Packing.{IsPacking}
+
+abbrev pub kind_code : Kind → ℕ
+kind_code Put = 1
+kind_code Set = 2
+kind_code Del = 3
+
+abbrev pub kind_of : ℕ → Kind
+kind_of code = if code == 1 then Put else (if code == 2 then Set else Del)
+
+-- 8 bits each of mask, kind and slot
+abbrev pub encoding_word : Encoding → ℕ
+encoding_word e = e.mask + 256 * kind_code e.kind + 65536 * e.slot
+
+abbrev pub encoding_of : ℕ → Encoding
+encoding_of word = record { mask = word % 256; kind = kind_of (word / 256 % 256); slot = word / 65536 }
+
+abbrev pub IsEncoding : Encoding → Type 0
+IsEncoding e = (e.mask < 256) × (e.slot < 256)
+
+-- the word of some encoding: its kind is one of the three
+abbrev pub IsEncodingWord : ℕ → Type 0
+IsEncodingWord word = (word < 2 ^ 24) × (0 < word / 256 % 256) × (word / 256 % 256 ≤ 3)
+
+-- column c has bit c of the mask
+abbrev pub HasColumn : ℕ → ℕ → Type 0
+HasColumn mask column = bit_at mask column ≡ 1
+
+-- the mask that fits the kind: a put holds every column, a set at least one, a delete none
+abbrev pub IsMaskOf : ℕ → Kind → ℕ → Type 0
+IsMaskOf columns Put mask = mask ≡ 2 ^ columns - 1
+IsMaskOf columns Set mask = (0 < mask) × (mask < 2 ^ columns)
+IsMaskOf columns Del mask = mask ≡ 0
+
+-- the word is the encoding of a write to a table with this many columns
+pub record IsEncodingFor (columns word : ℕ) : Type 0 where
+  pub encoding : Encoding
+  pub range : IsEncoding encoding
+  pub mask : IsMaskOf columns encoding.kind encoding.mask
+  pub is : word ≡ encoding_word encoding
+
+abbrev pub EncodingsArePacked : Type 0
+EncodingsArePacked = IsPacking IsEncoding IsEncodingWord encoding_word encoding_of

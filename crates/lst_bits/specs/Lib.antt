@@ -1,0 +1,9 @@
+pub mod Encodings
+pub mod Heads
+pub mod Logs
+pub mod Numbers
+pub mod Packing
+pub mod Postings
+pub mod Starts
+pub mod States
+pub mod Times

@@ -1,0 +1,103 @@
+//! The packings of a store's words.
+//!
+//! Each word that holds more than a plain number has a pair of calls, which undo one another: a
+//! value in its range is packed to a word, and a word that some value packs to is unpacked.
+#![tactic(auto)]
+
+mod encodings;
+mod heads;
+mod logs;
+mod numbers;
+mod postings;
+mod starts;
+mod states;
+mod times;
+
+pub use encodings::{
+    Encoding, Kind, encodings_are_packed, full_mask, has_column, is_encoding, is_encoding_word,
+    is_mask_of, pack_encoding, unpack_encoding,
+};
+pub use heads::{heads_are_packed, pack_head, unpack_head};
+pub use logs::{Log, logs_are_packed, pack_log, unpack_log};
+pub use numbers::{
+    numbers_are_packed, pack_begin, pack_index, pack_pin, pack_turn, unpack_begin, unpack_index,
+    unpack_pin, unpack_turn,
+};
+pub use postings::{Tail, pack_posting, postings_are_packed, unpack_posting};
+pub use starts::{Start, pack_start, starts_are_packed, unpack_start};
+pub use states::{State, pack_state, states_are_packed, unpack_state};
+pub use times::{pack_time, times_are_packed, unpack_time};
+
+#[cfg(test)]
+mod tests {
+    use super::*;
+
+    #[test]
+    fn the_second_transaction_of_session_1_has_start_word_67_and_log_word_33(rt: HostRuntime) {
+        let start = Start::By {
+            session: 1,
+            number: 2,
+        };
+        assert_eq!(rt; pack_start(start), 67);
+        assert_eq!(rt; unpack_start(67), start);
+        assert_eq!(rt; unpack_start(0), Start::Empty);
+        let log = Log::By {
+            session: 1,
+            number: 2,
+        };
+        assert_eq!(rt; pack_log(log), 33);
+        assert_eq!(rt; unpack_log(33), log);
+    }
+
+    #[test]
+    fn time_3_has_start_word_6_state_word_4_and_time_word_7(rt: HostRuntime) {
+        assert_eq!(rt; pack_start(Start::At { time: 3 }), 6);
+        assert_eq!(rt; unpack_start(6), Start::At { time: 3 });
+        assert_eq!(rt; pack_state(State::Committed { time: 3 }), 4);
+        assert_eq!(rt; unpack_state(4), State::Committed { time: 3 });
+        assert_eq!(rt; unpack_state(1), State::Closed);
+        assert_eq!(rt; pack_time(3, true), 7);
+        assert_eq!(rt; unpack_time(7), (3, true));
+    }
+
+    #[test]
+    fn head_5_latched_has_word_11(rt: HostRuntime) {
+        assert_eq!(rt; pack_head(5, true), 11);
+        assert_eq!(rt; unpack_head(11), (5, true));
+        assert_eq!(rt; unpack_head(10), (5, false));
+    }
+
+    #[test]
+    fn a_set_of_column_1_at_slot_7_has_encoding_459266(rt: HostRuntime) {
+        let encoding = Encoding {
+            mask: 2,
+            kind: Kind::Set,
+            slot: 7,
+        };
+        assert_eq!(rt; pack_encoding(encoding), 459_266);
+        assert_eq!(rt; unpack_encoding(459_266), encoding);
+        assert!(rt; is_encoding(459_266, 2));
+        assert!(rt; !is_encoding(459_266, 1));
+        assert!(rt; has_column(encoding.mask, 1));
+        assert_eq!(rt; full_mask(8), 255);
+    }
+
+    #[test]
+    fn epoch_4_has_pin_word_5(rt: HostRuntime) {
+        assert_eq!(rt; pack_pin(Some(4)), 5);
+        assert_eq!(rt; unpack_pin(5), Some(4));
+        assert_eq!(rt; pack_begin(None), 0);
+        assert_eq!(rt; unpack_begin(1), Some(0));
+        assert_eq!(rt; pack_turn(Some(2)), 3);
+        assert_eq!(rt; unpack_turn(0), None);
+        assert_eq!(rt; pack_index(Some(9)), 10);
+        assert_eq!(rt; unpack_index(10), Some(9));
+    }
+
+    #[test]
+    fn tails_are_numbered_range_after_range(rt: HostRuntime) {
+        let tail = Some(Tail { range: 1, tail: 1 });
+        assert_eq!(rt; pack_posting(4096, tail), 4097);
+        assert_eq!(rt; unpack_posting(4096, 4097), tail);
+    }
+}
