@@ -1,5 +1,5 @@
 -- What a column of a row holds: a number.
-use Rattle.std.specs.Prelude.{ℕ, List, [], ◌∷◌, Bool, Option, unwrap_or, slice_index, ◌==◌}
+use Rattle.std.specs.Prelude.{ℕ, List, [], ◌∷◌, Bool, false, Option, Some, None, unwrap_or, slice_index, slice_get, ◌==◌}
 
 abbrev pub Cell : Type 0
 Cell = ℕ
@@ -8,9 +8,14 @@ Cell = ℕ
 abbrev pub number_at : ℕ → List Cell → ℕ
 number_at column row = slice_index row column
 
--- whether a column's cell is this number
+-- whether there is a cell, and it is this number
+abbrev pub is_number : ℕ → Option Cell → Bool
+is_number number None = false
+is_number number (Some cell) = cell == number
+
+-- whether a column's cell is this number, which a find asks
 abbrev pub holds_at : ℕ → ℕ → List Cell → Bool
-holds_at column number row = slice_index row column == number
+holds_at column number row = is_number number (slice_get row column)
 
 -- the cells of a row, but those that a patch has in their place
 abbrev pub overlaid : List Cell → List (Option Cell) → List Cell

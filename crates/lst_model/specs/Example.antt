@@ -5,8 +5,9 @@ use Rattle.lst_model.specs.declared.acts.Act.TheVariants.{Put, Set, Del}
 use Rattle.lst_model.specs.declared.acts.Write.{Write}
 use Rattle.lst_model.specs.declared.commits.Commit.{Commit}
 use Rattle.lst_model.specs.Cells.{Cell}
-use Rattle.lst_model.specs.Tables.{row_of}
-use Rattle.lst_model.specs.Histories.{snapshot}
+use Rattle.lst_model.specs.Tables.{Rows, no_rows, all_applied, row_of, sum_of, count_of, scan_of, find_of}
+use Rattle.lst_model.specs.Histories.{snapshot, joined}
+use Rattle.lst_model.specs.Soundness.{IsSound}
 
 abbrev pub write_to : ℕ → Act → Write
 write_to key act = record { key = key; act = act }
@@ -36,3 +37,25 @@ pub record IsReadAloud : Type 0 where
   pub changed : seen_row 4 [] ≡ Some (30 ∷ 21 ∷ [])
   pub own : seen_row 1 (write_to 7 (Set (Some 11 ∷ None ∷ [])) ∷ []) ≡ Some (11 ∷ 20 ∷ [])
   pub own_of_absent : seen_row 2 (write_to 7 (Set (Some 11 ∷ None ∷ [])) ∷ []) ≡ None
+  pub sound : IsSound worked_history
+  pub joined : joined (write_to 7 Del ∷ write_to 9 Del ∷ []) (write_to 7 (Put [])) ≡ write_to 7 Del ∷ write_to 7 (Put []) ∷ write_to 9 Del ∷ []
+
+-- histories that are not sound, each for one reason
+pub record AreUnsound : Type 0 where
+  pub begin : ¬ IsSound (commit_of 0 1 1 (write_to 7 (Put (10 ∷ [])) ∷ []) ∷ [])
+  pub conflict : ¬ IsSound (commit_of 0 1 0 (write_to 7 (Put (10 ∷ [])) ∷ []) ∷ commit_of 1 1 0 (write_to 7 (Put (11 ∷ [])) ∷ []) ∷ [])
+  pub number : ¬ IsSound (commit_of 0 1 0 [] ∷ commit_of 0 1 1 [] ∷ [])
+  pub fit : ¬ IsSound (commit_of 0 1 0 (write_to 7 Del ∷ []) ∷ [])
+
+-- two rows, put in falling order of their keys
+abbrev pub worked_table : Rows
+worked_table = all_applied no_rows (write_to 9 (Put (30 ∷ 20 ∷ [])) ∷ write_to 7 (Put (10 ∷ 20 ∷ [])) ∷ [])
+
+-- the answers about them
+pub record IsAnswered : Type 0 where
+  pub scan : scan_of worked_table ≡ (7, 10 ∷ 20 ∷ []) ∷ (9, 30 ∷ 20 ∷ []) ∷ []
+  pub count : count_of worked_table ≡ 2
+  pub sum : sum_of worked_table 0 ≡ 40
+  pub found : find_of worked_table 1 20 ≡ 7 ∷ 9 ∷ []
+  pub absent : find_of worked_table 1 10 ≡ []
+  pub beyond : find_of worked_table 2 0 ≡ []

@@ -23,7 +23,7 @@ pub use acts::{Act, Write, Writes};
 pub use applies::apply;
 pub use commits::{Commit, History};
 pub use laws::{
-    history_prefix_is_sound, snapshot_row_is_fold, sound_history_fits_by_key,
+    history_prefix_is_sound, joined_write_is_last, snapshot_row_is_fold, sound_history_fits_by_key,
     worked_history_is_read_aloud,
 };
 pub use lines::{Call, Key, Line, Time};
