@@ -1,0 +1,152 @@
+//! Version chains: which version a begin time sees first, and what the visible versions leave in
+//! a column.
+//!
+//! A chain is a slice of versions, the newest first.
+#![tactic(auto)]
+
+ghost use Rattle.std.specs.Prelude.{◌≡◌, ◌↔◌, ℕ, Option, IsNone, IfSome};
+ghost use Rattle.std.specs.List.{All};
+ghost use Rattle.lst_chain.specs.Chain.{column_value, IsFirstVisible};
+
+mod laws;
+
+pub use laws::{acts_in_order, column_laws};
+
+/// Whether a transaction with a given begin time sees a version.
+#[derive(Clone, Copy, Debug, PartialEq, Eq)]
+pub enum Seen {
+    Visible,
+    Hidden,
+}
+
+/// A version of a record.
+pub trait Version {
+    ghost use Rattle.lst_chain.specs.declared.Seen.{Seen};
+
+    // What `status` answers.
+    ghost status: { Self → ℕ → Seen };
+
+    // What `explicit` answers.
+    ghost explicit: { Self → ℕ → Option (Option ℕ) };
+
+    /// Whether a transaction that began at the time `begin` sees this version.
+    fn status(&self, begin: u64) -> Seen
+        ensures { result ≡ status self.now begin };
+
+    /// What this version holds in the column with number `column`: `Some(Some(value))` where it
+    /// wrote a value there, `Some(None)` where it deleted the record, and `None` where it doesn't
+    /// hold the column.
+    fn explicit(&self, column: u32) -> Option<Option<u64>>
+        ensures { result ≡ explicit self.now column };
+}
+
+/// The place, from 0, of the newest version of the chain that a transaction with the begin time
+/// `begin` sees. `None` comes exactly where it sees no version.
+pub fn first_visible<V: Version>(chain: &[V], begin: u64) -> Option<usize>
+    ensures first { IfSome result (IsFirstVisible V.status begin chain.now) }
+    ensures none { IsNone result ↔ All (λ v. V.status v begin ≡ Seen.Hidden) chain.now }
+{
+    chain
+        .iter()
+        .position(|version| version.status(begin) == Seen::Visible)
+}
+
+/// The value in the column with number `column`, as a transaction with the begin time `begin` sees
+/// it. `None` comes exactly where the visible versions leave no value there.
+///
+/// It looks at the versions from the newest on, and at none below the first visible one that
+/// holds the column.
+pub fn column_at<V: Version>(chain: &[V], begin: u64, column: u32) -> Option<u64>
+    ensures { result ≡ column_value V.status V.explicit begin column chain.now }
+{
+    for version in chain {
+        if version.status(begin) == Seen::Visible {
+            if let Some(held) = version.explicit(column) {
+                return held;
+            }
+        }
+    }
+    None
+}
+
+#[cfg(test)]
+mod tests {
+    use super::*;
+
+    // A version with one column.
+    struct Entry {
+        time: u64,
+        held: Option<Option<u64>>,
+    }
+
+    impl Version for Entry {
+        ghost use Rattle.std.specs.Prelude.{nat_eq, nat_le, Some, None, if◌then◌else◌};
+        ghost use Rattle.lst_chain.specs.declared.Seen.TheVariants.{Visible, Hidden};
+
+        ghost status = { λ entry begin. if nat_le entry.time begin then Visible else Hidden };
+
+        ghost explicit = { λ entry column. if nat_eq column 0 then entry.held else None };
+
+        fn status(&self, begin: u64) -> Seen {
+            if self.time <= begin {
+                Seen::Visible
+            } else {
+                Seen::Hidden
+            }
+        }
+
+        fn explicit(&self, column: u32) -> Option<Option<u64>> {
+            if column == 0 { self.held } else { None }
+        }
+    }
+
+    const CHAIN: [Entry; 5] = [
+        Entry {
+            time: 9,
+            held: Some(Some(90)),
+        },
+        Entry {
+            time: 7,
+            held: None,
+        },
+        Entry {
+            time: 5,
+            held: Some(Some(50)),
+        },
+        Entry {
+            time: 3,
+            held: Some(None),
+        },
+        Entry {
+            time: 1,
+            held: Some(Some(10)),
+        },
+    ];
+
+    #[test]
+    fn finds_the_newest_version_that_a_begin_sees(rt: HostRuntime) {
+        for (begin, want) in [(9, Some(0)), (8, Some(1)), (4, Some(3)), (0, None)] {
+            assert_eq!(rt; first_visible(&CHAIN, begin), want, "at {begin}");
+        }
+    }
+
+    #[test]
+    fn reads_a_column_through_versions_that_do_not_hold_it(rt: HostRuntime) {
+        for (begin, want) in [
+            (9, Some(90)),
+            (8, Some(50)),
+            (4, None),
+            (2, Some(10)),
+            (0, None),
+        ] {
+            assert_eq!(rt; column_at(&CHAIN, begin, 0), want, "at {begin}");
+        }
+        assert_eq!(rt; column_at(&CHAIN, 9, 1), None);
+    }
+
+    #[test]
+    fn laws_hold_of_a_type_of_version() {
+        acts_in_order::<Entry, u64>();
+        column_laws::<Entry>();
+    }
+}

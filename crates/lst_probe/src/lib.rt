@@ -1,0 +1,117 @@
+//! Linear probing in a table of words whose length is a power of two. A word of 0 is an empty
+//! position.
+//!
+//! The run of a value begins at the position that its hash names, goes to the next position, and
+//! after the last one to the first. It ends at its first empty position.
+#![tactic(auto)]
+
+ghost use Rattle.std.specs.Prelude.{◌≡◌, ℕ, ◌^◌, ◌<◌, ◌≤◌, length, slice_index, true, false};
+ghost use Rattle.std.specs.List.{All, Contains};
+ghost use Rattle.lst_probe.specs.Run.{start_of, IsPowerOfTwo};
+ghost use Rattle.lst_probe.specs.Found.{Answers};
+
+mod laws;
+
+pub use laws::{
+    distinct_within, empty_position, one_answer, pigeonhole, reachable_positions, run_positions,
+};
+
+/// Where a probe ended.
+#[derive(Clone, Copy, Debug, PartialEq, Eq)]
+pub enum Found {
+    /// An equal value stands at the position.
+    At { position: u32 },
+    /// The run has no equal value, and the position is its first empty one.
+    Free { position: u32 },
+}
+
+/// The multiplier of Fibonacci hashing: 2^64 over the golden ratio, made odd.
+const MULTIPLIER: u64 = 11400714819323198485;
+
+/// The position, from 0, at which the run of `value` begins in a table of 2 to the power of `bits`
+/// positions.
+pub fn start(value: u64, bits: u32) -> u32
+    requires some { 1 ≤ bits }
+    requires few { bits ≤ 32 }
+    ensures start { result ≡ start_of value bits }
+    ensures below { result < 2 ^ bits }
+{
+    (value.wrapping_mul(MULTIPLIER) >> (64 - bits)) as u32
+}
+
+/// Probes the positions from `from` on, for a word that `same` takes for equal. `At` comes exactly
+/// where the run has such a word before its first empty position, and tells the first one. `Free`
+/// tells the first empty position of the run.
+///
+/// `same` is asked of filled positions alone.
+pub fn find<T: Fn(u64) -> bool>(positions: &[u64], from: u32, same: T) -> Found
+    requires power { IsPowerOfTwo (length positions.now) }
+    requires few { length positions.now ≤ 2 ^ 31 }
+    requires start { from < length positions.now }
+    requires empty { Contains positions.now 0 }
+    requires callable { All (λ word. 0 < word → T.pre same word) positions.now }
+    ensures { Answers (slice_index positions.now) (λ word. T.post same word true) (λ word. T.post same word false) (length positions.now) from result }
+{
+    let count = positions.len() as u32;
+    for turn in 0..count {
+        let position = (from + turn) & (count - 1);
+        let word = positions[position as usize];
+        if word == 0 {
+            return Found::Free { position };
+        }
+        if same(word) {
+            return Found::At { position };
+        }
+    }
+    unreachable!()
+}
+
+#[cfg(test)]
+mod tests {
+    use super::*;
+
+    #[test]
+    fn a_run_begins_at_the_high_bits_of_the_hash(rt: HostRuntime) {
+        assert_eq!(rt; start(7, 11), 668);
+    }
+
+    #[test]
+    fn a_probe_wraps_round_to_an_equal_value_or_an_empty_position(rt: HostRuntime) {
+        let positions = [30, 0, 0, 0, 0, 0, 10, 20];
+        for (from, word, want) in [
+            (6, 30, Found::At { position: 0 }),
+            (7, 20, Found::At { position: 7 }),
+            (6, 40, Found::Free { position: 1 }),
+            (1, 10, Found::Free { position: 1 }),
+        ] {
+            assert_eq!(rt;
+                find(&positions, from, |other| other == word),
+                want,
+                "{word} from {from}"
+            );
+        }
+    }
+
+    #[test]
+    fn equality_may_be_told_by_what_a_word_points_to(rt: HostRuntime) {
+        let keys = [10, 20, 30];
+        let positions = [3, 0, 1, 2];
+        for (key, want) in [
+            (30, Found::At { position: 0 }),
+            (40, Found::Free { position: 1 }),
+        ] {
+            let found = find(&positions, 2, |word| keys[word as usize - 1] == key);
+            assert_eq!(rt; found, want, "{key}");
+        }
+    }
+
+    #[test]
+    fn laws_hold() {
+        pigeonhole();
+        distinct_within::<u64>();
+        empty_position();
+        run_positions();
+        reachable_positions();
+        one_answer();
+    }
+}
