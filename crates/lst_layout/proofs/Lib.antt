@@ -1,1 +1,6 @@
+pub mod Apart
 pub mod Bits
+pub mod Columns
+pub mod Functions
+pub mod Lows
+pub mod Shown
