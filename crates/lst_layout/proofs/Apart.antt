@@ -1,5 +1,9 @@
 -- Each word of a store has an address of its own.
+<<<<<<< HEAD
 use Rattle.std.proofs.Common.{◌≡◌, ℕ, zero, suc, ◌+◌, ◌-◌, ◌*◌, ◌<◌, ◌≤◌, List, [], ◌∷◌, count_ones, refl, ap, arith, mul-le-mul_right, suc-mul}
+=======
+use Rattle.std.proofs.Common.{◌≡◌, ◌≢◌, ℕ, zero, suc, ◌+◌, ◌-◌, ◌*◌, ◌<◌, ◌≤◌, List, [], ◌∷◌, count_ones, refl, ap, arith, mul-le-mul_right, suc-mul}
+>>>>>>> 665c7c0
 use Rattle.std.proofs.lemmas.Nat.{same_from_place}
 use Rattle.lst_layout.specs.declared.TheConstants.{FRAME_WORDS}
 use Rattle.lst_layout.specs.declared.limits.Limits.{Limits}
@@ -19,7 +23,11 @@ begin_of [] k = 0
 begin_of (x ∷ xs) zero = 0
 begin_of (x ∷ xs) (suc k) = x + begin_of xs k
 
+<<<<<<< HEAD
 begin_rises : (xs : List ℕ) (j k : ℕ) → j ≤ k → begin_of xs j ≤ begin_of xs k
+=======
+pub begin_rises : (xs : List ℕ) (j k : ℕ) → j ≤ k → begin_of xs j ≤ begin_of xs k
+>>>>>>> 665c7c0
 unfolding begin_of
 begin_rises [] j k h = omega arith
 begin_rises (x ∷ xs) zero k h = omega arith
@@ -31,7 +39,11 @@ abbrev sizes : Limits → List ℕ
 sizes l = 1 ∷ 1 ∷ 1 ∷ 1 ∷ transaction_count l ∷ 2 * transaction_count l ∷ record_count l ∷ index_positions l ∷ record_count l ∷ l.ranges ∷ tail_count l * cell_words l ∷ page_count l ∷ frame_count l * FRAME_WORDS ∷ l.sessions ∷ posting_words l ∷ []
 
 -- the area of a place
+<<<<<<< HEAD
 abbrev area_of : Place → ℕ
+=======
+abbrev pub area_of : Place → ℕ
+>>>>>>> 665c7c0
 area_of ClockWord = 0
 area_of CommitWord = 1
 area_of EpochWord = 2
@@ -57,7 +69,11 @@ pub record IsInside (l : Limits) (p : Place) : Type 0 where
   pub above : begin_of (sizes l) (area_of p) ≤ address l p
   pub below : address l p < begin_of (sizes l) (area_of p + 1)
 
+<<<<<<< HEAD
 inside : (l : Limits) (p : Place) → IsWithin l p → IsInside l p
+=======
+pub inside : (l : Limits) (p : Place) → IsWithin l p → IsInside l p
+>>>>>>> 665c7c0
 unfolding begin_of address transactions_start keys_start index_start indirection_start tail_counters_start tail_cells_start directory_start frames_start pins_start postings_start
 inside l ClockWord h = record { above = omega arith; below = omega arith }
 inside l CommitWord h = record { above = omega arith; below = omega arith }
@@ -131,3 +147,21 @@ apart l p q at_p at_q e = same_place l p q at_p at_q (same_area l p q at_p at_q 
 
 pub words_are_apart : WordsAreApart
 words_are_apart l = record { below = below l; apart = apart l }
+<<<<<<< HEAD
+=======
+
+-- where the directory begins and ends among the areas
+directory_ends : (l : Limits) → (directory_start l ≡ begin_of (sizes l) 11) × (frames_start l ≡ begin_of (sizes l) 12)
+unfolding begin_of transactions_start keys_start index_start indirection_start tail_counters_start tail_cells_start directory_start frames_start
+directory_ends l = (omega arith, omega arith)
+
+-- the words of other areas lie before or behind the directory
+pub outside_directory : (l : Limits) (p : Place) → IsWithin l p → area_of p ≢ 11 → directory_start l ≤ address l p → address l p < frames_start l → ⊥
+outside_directory l p h other above low = let i = inside l p h in let ends = directory_ends l in
+    let not_below : ¬ (area_of p < 11) = (λ b. let up : begin_of (sizes l) (area_of p + 1) ≤ begin_of (sizes l) 11 = begin_rises (sizes l) (area_of p + 1) 11 (omega arith) in omega arith) in
+    let not_above : ¬ (11 < area_of p) = (λ b. let up : begin_of (sizes l) 12 ≤ begin_of (sizes l) (area_of p) = begin_rises (sizes l) 12 (area_of p) (omega arith) in omega arith) in other (omega arith)
+
+pub inside_directory : (l : Limits) (r c : ℕ) → IsWithin l (DirectoryWord r c) → (address l (DirectoryWord r c) ≡ directory_start l + r * l.columns + c) × (address l (DirectoryWord r c) < frames_start l)
+unfolding address
+inside_directory l r c h = let i = inside l (DirectoryWord r c) h in let ends = directory_ends l in (refl, omega arith)
+>>>>>>> 665c7c0

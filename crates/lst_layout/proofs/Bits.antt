@@ -5,7 +5,11 @@ use Rattle.std.proofs.Math.Nat.{pow-le-pow_right}
 use Rattle.std.proofs.lemmas.Nat.{pow-add, one_shl, mul-le}
 use mathlib.Core.Logic.{dite}
 use native.Mathlib.Decide.{ℕ_discrete}
+<<<<<<< HEAD
 use Rattle.lst_layout.specs.Areas.{least, bits_for, IsLeastPower, record_count, tail_count, index_bits, posting_bits}
+=======
+use Rattle.lst_layout.specs.Areas.{least, bits_for, IsLeastPower, record_count, tail_count, index_bits, posting_bits, index_positions, posting_positions}
+>>>>>>> 665c7c0
 use Rattle.lst_layout.specs.declared.limits.Limits.{Limits}
 use Rattle.lst_layout.specs.Limits.{IsValid}
 
@@ -39,7 +43,11 @@ pub record IsFirst (p : ℕ → Bool) (k b m : ℕ) : Type 0 where
   pub few : m ≤ b
 
 -- where b passes, the search finds the first that does
+<<<<<<< HEAD
 least_first : (p : ℕ → Bool) (n k b : ℕ) → k ≤ b → b < k + n → p b ≡ true → IsFirst p k b (least p n k)
+=======
+pub least_first : (p : ℕ → Bool) (n k b : ℕ) → k ≤ b → b < k + n → p b ≡ true → IsFirst p k b (least p n k)
+>>>>>>> 665c7c0
 least_first p zero k b low high passes = absurd (omega arith)
 least_first p (suc n) k b low high passes = by_test (p k) refl (λ below. least_first p n (k + 1) b (omega arith) (omega arith) passes)
   where
@@ -65,3 +73,13 @@ index_bits_least l valid = bits_for_least (2 * record_count l) (omega arith)
 pub posting_bits_least : (l : Limits) → IsValid l → IsLeastPower (2 * tail_count l) (posting_bits l)
 unfolding posting_bits
 posting_bits_least l valid = let few : l.ranges * l.tails ≤ 64 * 16384 = mul-le l.ranges l.tails 64 16384 (omega arith) (omega arith) in bits_for_least (2 * tail_count l) (omega arith)
+<<<<<<< HEAD
+=======
+
+-- the index has more positions than there are records, and the postings of a column more than there are tail records
+pub index_room : (l : Limits) → IsValid l → record_count l < index_positions l
+index_room l valid = let r = index_bits_least l valid in let enough : 2 * record_count l ≤ index_positions l = r.enough in omega arith
+
+pub posting_room : (l : Limits) → IsValid l → tail_count l < posting_positions l
+posting_room l valid = let r = posting_bits_least l valid in let enough : 2 * tail_count l ≤ posting_positions l = r.enough in let some : 1 * 1 ≤ l.ranges * l.tails = mul-le 1 1 l.ranges l.tails (omega arith) (omega arith) in omega arith
+>>>>>>> 665c7c0

@@ -18,12 +18,20 @@ cond_same : {A : Type 0} (b : Bool) (x y z : A) → (b ≡ true → x ≡ y) →
 cond_same true x y z e = e refl
 cond_same false x y z e = refl
 
+<<<<<<< HEAD
 both_true : (a b : Bool) → a && b ≡ true → (a ≡ true) × (b ≡ true)
+=======
+pub both_true : (a b : Bool) → a && b ≡ true → (a ≡ true) × (b ≡ true)
+>>>>>>> 665c7c0
 both_true true true e = (refl, refl)
 both_true true false e = absurd (cc)
 both_true false b e = absurd (cc)
 
+<<<<<<< HEAD
 true_both : (a b : Bool) → a ≡ true → b ≡ true → a && b ≡ true
+=======
+pub true_both : (a b : Bool) → a ≡ true → b ≡ true → a && b ≡ true
+>>>>>>> 665c7c0
 true_both true true e f = refl
 true_both true false e f = f
 true_both false b e f = e

@@ -1,11 +1,20 @@
 -- Where each word of a store lies.
+<<<<<<< HEAD
 use Rattle.std.specs.Prelude.{ℕ, ◌≡◌, ◌+◌, ◌-◌, ◌*◌, ◌<◌, ◌≤◌, Bool, true, ◌&&◌, ◌==◌, nat_lt, nat_le, if◌then◌else◌}
+=======
+use Rattle.std.specs.Prelude.{ℕ, ◌≡◌, ◌+◌, ◌-◌, ◌*◌, ◌/◌, ◌%◌, ◌<◌, ◌≤◌, Bool, true, ◌&&◌, ◌==◌, nat_lt, nat_le, if◌then◌else◌}
+>>>>>>> 665c7c0
 use Rattle.std.specs.Int.{bit_at}
 use Rattle.lst_layout.specs.declared.TheConstants.{FRAME_WORDS}
 use Rattle.lst_layout.specs.declared.limits.Limits.{Limits}
 use Rattle.lst_layout.specs.declared.place.Place.{Place}
 use Rattle.lst_layout.specs.declared.place.Place.TheVariants.{ClockWord, CommitWord, EpochWord, RecordCounter, LogWord, BeginWord, StateWord, KeyWord, IndexWord, HeadWord, TailCounter, CellWord, DirectoryWord, FrameWord, PinWord, PostingWord}
+<<<<<<< HEAD
 use Rattle.lst_layout.specs.Areas.{record_count, index_positions, tail_count, posting_positions, transaction_count, cell_words, frame_count, IsIndexed, indexed_below, words_of, log_start, transactions_start, keys_start, index_start, indirection_start, tail_counters_start, tail_cells_start, directory_start, frames_start, pins_start, postings_start}
+=======
+use Rattle.lst_layout.specs.Limits.{IsValid}
+use Rattle.lst_layout.specs.Areas.{least, record_count, index_positions, tail_count, posting_positions, transaction_count, cell_words, frame_count, IsIndexed, indexed_below, words_of, log_start, transactions_start, keys_start, index_start, indirection_start, tail_counters_start, tail_cells_start, directory_start, frames_start, pins_start, postings_start}
+>>>>>>> 665c7c0
 
 -- the store has this word
 abbrev pub IsWithin : Limits → Place → Type 0
@@ -86,3 +95,62 @@ pub record IsAddressing (l : Limits) : Type 0 where
 
 abbrev pub WordsAreApart : Type 0
 WordsAreApart = (l : Limits) → IsAddressing l
+<<<<<<< HEAD
+=======
+
+-- ---- what lies at an address
+-- the j-th of the indexed columns, from 0 on
+unfoldable pub indexed_column : Limits → ℕ → ℕ
+indexed_column l j = least (λ column. bit_at l.indexed column == 1 && indexed_below l column == j) 8 0
+
+-- the words of one each
+abbrev pub single_at : ℕ → Place
+single_at k = if k == 0 then ClockWord else (if k == 1 then CommitWord else (if k == 2 then EpochWord else RecordCounter))
+
+-- the k-th word of an area of several coordinates, from 0 on
+abbrev pub transaction_at : Limits → ℕ → Place
+transaction_at l k = transaction_word (k / 2 / l.txns) (k / 2 % l.txns + 1) (k % 2)
+
+abbrev pub cell_at : Limits → ℕ → Place
+cell_at l k = CellWord (k / cell_words l + 1) (k % cell_words l)
+
+abbrev pub directory_at : Limits → ℕ → Place
+directory_at l k = DirectoryWord (k / l.columns) (k % l.columns)
+
+abbrev pub frame_at : ℕ → Place
+frame_at k = FrameWord (k / FRAME_WORDS) (k % FRAME_WORDS)
+
+abbrev pub posting_at : Limits → ℕ → Place
+posting_at l k = PostingWord (indexed_column l (k / posting_positions l)) (k % posting_positions l)
+
+-- the areas from the tail counters on
+abbrev pub late_place : Limits → ℕ → Place
+late_place l a =
+    if nat_lt a (tail_cells_start l) then TailCounter (a - tail_counters_start l) else
+    (if nat_lt a (directory_start l) then cell_at l (a - tail_cells_start l) else
+    (if nat_lt a (frames_start l) then directory_at l (a - directory_start l) else
+    (if nat_lt a (pins_start l) then frame_at (a - frames_start l) else
+    (if nat_lt a (postings_start l) then PinWord (a - pins_start l) else posting_at l (a - postings_start l)))))
+
+unfoldable pub place_of : Limits → ℕ → Place
+place_of l a =
+    if nat_lt a log_start then single_at a else
+    (if nat_lt a (transactions_start l) then LogWord (a - log_start + 1) else
+    (if nat_lt a (keys_start l) then transaction_at l (a - transactions_start l) else
+    (if nat_lt a (index_start l) then KeyWord (a - keys_start l) else
+    (if nat_lt a (indirection_start l) then IndexWord (a - index_start l) else
+    (if nat_lt a (tail_counters_start l) then HeadWord (a - indirection_start l) else late_place l a)))))
+
+-- the place lies at the address, and the store has it
+pub record IsPlaceAt (l : Limits) (a : ℕ) (p : Place) : Type 0 where
+  pub within : IsWithin l p
+  pub is : address l p ≡ a
+
+-- every word of a store lies in one of its areas, and its address tells where
+pub record IsDecoding (l : Limits) : Type 0 where
+  pub at : (a : ℕ) → a < words_of l → IsPlaceAt l a (place_of l a)
+  pub back : (p : Place) → IsWithin l p → place_of l (address l p) ≡ p
+
+abbrev pub AddressesAreRead : Type 0
+AddressesAreRead = (l : Limits) → IsValid l → IsDecoding l
+>>>>>>> 665c7c0

@@ -1,10 +1,18 @@
 -- The words of a store by area, and how they are read off the row of all words.
+<<<<<<< HEAD
 use Rattle.std.specs.Prelude.{ℕ, ◌≡◌, List, length, slice_index, slice_set, if◌then◌else◌}
+=======
+use Rattle.std.specs.Prelude.{ℕ, ◌≡◌, ◌+◌, ◌-◌, ◌*◌, ◌<◌, List, length, slice_index, slice_set, ◌&&◌, nat_lt, nat_le, if◌then◌else◌}
+>>>>>>> 665c7c0
 use Rattle.lst_layout.specs.declared.limits.Limits.{Limits}
 use Rattle.lst_layout.specs.declared.place.Place.{Place}
 use Rattle.lst_layout.specs.declared.place.Place.TheVariants.{ClockWord, CommitWord, EpochWord, RecordCounter, LogWord, BeginWord, StateWord, KeyWord, IndexWord, HeadWord, TailCounter, CellWord, DirectoryWord, FrameWord, PinWord, PostingWord}
 use Rattle.lst_layout.specs.Addresses.{IsWithin, is_within, address}
+<<<<<<< HEAD
 use Rattle.lst_layout.specs.Areas.{words_of}
+=======
+use Rattle.lst_layout.specs.Areas.{words_of, directory_start, frames_start}
+>>>>>>> 665c7c0
 use Rattle.lst_layout.specs.Functions.{put, put_in}
 
 -- the words of a store, an area a field: a number, or a function of where in the area a word lies
@@ -96,3 +104,40 @@ pub record IsShown (l : Limits) (words : List ℕ) : Type 0 where
 
 abbrev pub AreasAreShown : Type 0
 AreasAreShown = (l : Limits) (words : List ℕ) → length words ≡ words_of l → IsShown l words
+<<<<<<< HEAD
+=======
+
+-- ---- when a store opens
+-- the word at an address: 0, but the directory counts up, so that page k has frame k
+unfoldable pub opening_at : Limits → ℕ → ℕ
+opening_at l a = if nat_le (directory_start l) a && nat_lt a (frames_start l) then a - directory_start l else 0
+
+-- the row of all words of a store that opens
+pub record IsOpening (l : Limits) (words : List ℕ) : Type 0 where
+  pub sized : length words ≡ words_of l
+  pub each : (a : ℕ) → a < words_of l → slice_index words a ≡ opening_at l a
+
+-- the words by area: the page of a range and column has the frame of their number
+abbrev pub opening : Limits → Words
+opening l = record {
+  clock = 0;
+  turn = 0;
+  epoch = 0;
+  counter = 0;
+  log = λ _. 0;
+  begins = λ _ _. 0;
+  states = λ _ _. 0;
+  keys = λ _. 0;
+  index = λ _. 0;
+  heads = λ _. 0;
+  counts = λ _. 0;
+  cells = λ _ _. 0;
+  directory = λ range column. if is_within l (DirectoryWord range column) then range * l.columns + column else 0;
+  frames = λ _ _. 0;
+  pins = λ _. 0;
+  postings = λ _ _. 0;
+}
+
+abbrev pub OpeningIsShown : Type 0
+OpeningIsShown = (l : Limits) (words : List ℕ) → IsOpening l words → shown l words ≡ opening l
+>>>>>>> 665c7c0
