@@ -2,11 +2,7 @@
 use Rattle.std.proofs.Common.{◌≡◌, ℕ, suc, ◌+◌, ◌-◌, ◌*◌, ◌<◌, ◌≤◌, sym, subst, arith, mul-le-mul_right, suc-mul}
 use Rattle.lst_layout.specs.declared.limits.Limits.{Limits}
 use Rattle.lst_layout.specs.declared.place.Place.TheVariants.{LogWord, BeginWord, StateWord, KeyWord, IndexWord, HeadWord, TailCounter, CellWord, DirectoryWord, FrameWord, PinWord, PostingWord}
-<<<<<<< HEAD
-use Rattle.lst_layout.specs.Areas.{words_of, transactions_start, keys_start, index_start, indirection_start, tail_counters_start, tail_cells_start, directory_start, frames_start, pins_start, postings_start, indexed_below, posting_positions, cell_words}
-=======
 use Rattle.lst_layout.specs.Areas.{words_of, transactions_start, keys_start, index_start, indirection_start, tail_counters_start, tail_cells_start, directory_start, frames_start, pins_start, postings_start, indexed_below, posting_positions, posting_words, cell_words}
->>>>>>> 665c7c0
 use Rattle.lst_layout.specs.Addresses.{IsWithin, IsTailWord, address, tail_number}
 use Rattle.lst_layout.proofs.Apart.{below}
 
@@ -62,10 +58,7 @@ pins_low l s h = below l (PinWord s) h
 pub postings_low : (l : Limits) (c q k n : ℕ) → k ≡ indexed_below l c → n ≡ posting_positions l → IsWithin l (PostingWord c q) → postings_start l + k * n + q < words_of l
 unfolding address
 postings_low l c q k n e f h = let same : indexed_below l c * posting_positions l ≡ k * n = λ i. sym e i * sym f i in let low : postings_start l + indexed_below l c * posting_positions l + q < words_of l = below l (PostingWord c q) h in omega arith
-<<<<<<< HEAD
-=======
 
 pub words_end : (l : Limits) → postings_start l + posting_words l ≡ words_of l
 unfolding words_of transactions_start keys_start index_start indirection_start tail_counters_start tail_cells_start directory_start frames_start pins_start postings_start
 words_end l = omega arith
->>>>>>> 665c7c0

@@ -1,20 +1,12 @@
 -- Where each word of a store lies.
-<<<<<<< HEAD
-use Rattle.std.specs.Prelude.{ℕ, ◌≡◌, ◌+◌, ◌-◌, ◌*◌, ◌<◌, ◌≤◌, Bool, true, ◌&&◌, ◌==◌, nat_lt, nat_le, if◌then◌else◌}
-=======
 use Rattle.std.specs.Prelude.{ℕ, ◌≡◌, ◌+◌, ◌-◌, ◌*◌, ◌/◌, ◌%◌, ◌<◌, ◌≤◌, Bool, true, ◌&&◌, ◌==◌, nat_lt, nat_le, if◌then◌else◌}
->>>>>>> 665c7c0
 use Rattle.std.specs.Int.{bit_at}
 use Rattle.lst_layout.specs.declared.TheConstants.{FRAME_WORDS}
 use Rattle.lst_layout.specs.declared.limits.Limits.{Limits}
 use Rattle.lst_layout.specs.declared.place.Place.{Place}
 use Rattle.lst_layout.specs.declared.place.Place.TheVariants.{ClockWord, CommitWord, EpochWord, RecordCounter, LogWord, BeginWord, StateWord, KeyWord, IndexWord, HeadWord, TailCounter, CellWord, DirectoryWord, FrameWord, PinWord, PostingWord}
-<<<<<<< HEAD
-use Rattle.lst_layout.specs.Areas.{record_count, index_positions, tail_count, posting_positions, transaction_count, cell_words, frame_count, IsIndexed, indexed_below, words_of, log_start, transactions_start, keys_start, index_start, indirection_start, tail_counters_start, tail_cells_start, directory_start, frames_start, pins_start, postings_start}
-=======
 use Rattle.lst_layout.specs.Limits.{IsValid}
 use Rattle.lst_layout.specs.Areas.{least, record_count, index_positions, tail_count, posting_positions, transaction_count, cell_words, frame_count, IsIndexed, indexed_below, words_of, log_start, transactions_start, keys_start, index_start, indirection_start, tail_counters_start, tail_cells_start, directory_start, frames_start, pins_start, postings_start}
->>>>>>> 665c7c0
 
 -- the store has this word
 abbrev pub IsWithin : Limits → Place → Type 0
@@ -95,8 +87,6 @@ pub record IsAddressing (l : Limits) : Type 0 where
 
 abbrev pub WordsAreApart : Type 0
 WordsAreApart = (l : Limits) → IsAddressing l
-<<<<<<< HEAD
-=======
 
 -- ---- what lies at an address
 -- the j-th of the indexed columns, from 0 on
@@ -153,4 +143,3 @@ pub record IsDecoding (l : Limits) : Type 0 where
 
 abbrev pub AddressesAreRead : Type 0
 AddressesAreRead = (l : Limits) → IsValid l → IsDecoding l
->>>>>>> 665c7c0

@@ -1,16 +1,9 @@
 //! What the crates above know of a store's words, without a word of how their addresses are
 //! computed.
-<<<<<<< HEAD
-ghost use Rattle.lst_layout.specs.Addresses.{WordsAreApart};
-ghost use Rattle.lst_layout.specs.Areas.{words_of, record_count, tail_count, index_bits, posting_bits, IsLeastPower};
-ghost use Rattle.lst_layout.specs.Limits.{IsValid, default_limits, greatest_limits};
-ghost use Rattle.lst_layout.specs.Words.{AreasAreShown};
-=======
 ghost use Rattle.lst_layout.specs.Addresses.{WordsAreApart, AddressesAreRead};
 ghost use Rattle.lst_layout.specs.Areas.{words_of, record_count, tail_count, index_bits, posting_bits, IsLeastPower};
 ghost use Rattle.lst_layout.specs.Limits.{IsValid, default_limits, greatest_limits};
 ghost use Rattle.lst_layout.specs.Words.{AreasAreShown, OpeningIsShown};
->>>>>>> 665c7c0
 ghost use Rattle.lst_layout.specs.declared.limits.Limits.{Limits};
 ghost use Rattle.std.specs.Prelude.{◌≡◌, ◌*◌};
 
@@ -40,8 +33,6 @@ pub fn positions_are_least()
     ensures index { (l : Limits) → IsValid l → IsLeastPower (2 * record_count l) (index_bits l) }
     ensures postings { (l : Limits) → IsValid l → IsLeastPower (2 * tail_count l) (posting_bits l) }
 {}
-<<<<<<< HEAD
-=======
 
 /// Every address below the number of words is that of one word, and tells which.
 #[tactic(auto, using(crate::proofs::Places::addresses_are_read))]
@@ -55,4 +46,3 @@ pub fn addresses_are_read()
 pub fn opening_is_shown()
     ensures { OpeningIsShown }
 {}
->>>>>>> 665c7c0

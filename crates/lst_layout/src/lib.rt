@@ -3,23 +3,16 @@
 
 mod addresses;
 mod counts;
-<<<<<<< HEAD
-=======
 mod decode;
->>>>>>> 665c7c0
 mod laws;
 mod layout;
 mod limits;
 mod place;
 
-<<<<<<< HEAD
-pub use laws::{areas_are_shown, positions_are_least, word_counts, words_are_apart};
-=======
 pub use laws::{
     addresses_are_read, areas_are_shown, opening_is_shown, positions_are_least, word_counts,
     words_are_apart,
 };
->>>>>>> 665c7c0
 pub use layout::Layout;
 pub use limits::{BadLimits, Limits, Which};
 pub use place::Place;
