@@ -1,6 +1,6 @@
 -- The packings as lemmas, for the proofs of other crates.
 use Rattle.std.proofs.Common.{◌≡◌, ℕ, ap, ◌∙◌, sym, subst, rules}
-use Rattle.lst_bits.specs.Encodings.{IsEncoding, IsEncodingWord, IsEncodingFor, encoding_of, EncodingsArePacked}
+use Rattle.lst_bits.specs.Encodings.{IsEncodingWord, IsEncodingFor, encoding_of, EncodingsArePacked}
 use Rattle.lst_bits.specs.Heads.{HeadsArePacked}
 use Rattle.lst_bits.specs.Logs.{LogsArePacked}
 use Rattle.lst_bits.specs.Numbers.{NumbersArePacked}

@@ -1,9 +1,8 @@
 -- The number of a tail record tells its range and its number in the range.
-use Rattle.std.proofs.Common.{◌≡◌, ◌≢◌, ℕ, suc, ◌+◌, ◌-◌, ◌*◌, ◌/◌, ◌%◌, ◌^◌, ◌<◌, ◌≤◌, Bool, true, false, cond, eqb, Option, Some, None, refl, sym, ap, ◌∙◌, subst, arith, mul-le-mul_right, suc-mul, ne_eqb, eqb-true}
+use Rattle.std.proofs.Common.{◌≡◌, ◌≢◌, ℕ, suc, ◌+◌, ◌-◌, ◌*◌, ◌/◌, ◌%◌, ◌^◌, ◌<◌, ◌≤◌, Bool, true, false, cond, eqb, Option, Some, None, refl, sym, ap, ◌∙◌, arith, mul-le-mul_right, suc-mul, ne_eqb, eqb-true}
 use Rattle.std.proofs.lemmas.Bool.{eqb-false}
 use Rattle.std.proofs.lemmas.Nat.{div-mul-add, mod-mul-add, div-add-mod', mod_below, div_below}
 use Rattle.lst_bits.specs.declared.postings.Tail.{Tail}
-use Rattle.lst_bits.specs.Packing.{IsPacking}
 use Rattle.lst_bits.specs.Postings.{tail_number, tail_of, posting_word, posting_of, IsPosting, IsPostingWord, PostingsArePacked}
 
 pub tail_number_low : (tails range tail : ℕ) → range < 2 ^ 32 → tail ≤ tails → tail_number tails range tail ≤ 2 ^ 32 * tails

@@ -1,5 +1,5 @@
 -- The log's word of a time: the transaction that committed then.
-use Rattle.std.specs.Prelude.{ℕ, ◌+◌, ◌*◌, ◌/◌, ◌%◌, ◌^◌, ◌<◌, ◌≤◌, ◌≡◌, ◌==◌, ◌⊎◌, if◌then◌else◌}
+use Rattle.std.specs.Prelude.{ℕ, ◌+◌, ◌*◌, ◌/◌, ◌%◌, ◌^◌, ◌<◌, ◌≤◌, ◌==◌, if◌then◌else◌}
 use Rattle.lst_bits.specs.declared.logs.Log.{Log}
 use Rattle.lst_bits.specs.declared.logs.Log.TheVariants.{Empty, By}
 use Rattle.lst_bits.specs.Packing.{IsPacking}

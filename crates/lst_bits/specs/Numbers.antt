@@ -1,5 +1,5 @@
 -- Words that hold a number or none: 0 for none, else one above the number.
-use Rattle.std.specs.Prelude.{ℕ, ◌+◌, ◌-◌, ◌^◌, ◌<◌, ◌≤◌, ◌==◌, Option, Some, None, if◌then◌else◌}
+use Rattle.std.specs.Prelude.{ℕ, ◌+◌, ◌-◌, ◌<◌, ◌≤◌, ◌==◌, Option, Some, None, if◌then◌else◌}
 use Rattle.lst_bits.specs.Packing.{IsPacking}
 
 abbrev pub number_word : Option ℕ → ℕ

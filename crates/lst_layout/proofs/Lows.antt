@@ -1,5 +1,6 @@
 -- Addresses fit 32 bits, as sums of what the code adds.
 use Rattle.std.proofs.Common.{◌≡◌, ℕ, suc, ◌+◌, ◌-◌, ◌*◌, ◌<◌, ◌≤◌, sym, subst, arith, mul-le-mul_right, suc-mul}
+use Rattle.lst_layout.specs.declared.TheConstants.{FRAME_WORDS}
 use Rattle.lst_layout.specs.declared.limits.Limits.{Limits}
 use Rattle.lst_layout.specs.declared.place.Place.TheVariants.{LogWord, BeginWord, StateWord, KeyWord, IndexWord, HeadWord, TailCounter, CellWord, DirectoryWord, FrameWord, PinWord, PostingWord}
 use Rattle.lst_layout.specs.Areas.{words_of, transactions_start, keys_start, index_start, indirection_start, tail_counters_start, tail_cells_start, directory_start, frames_start, pins_start, postings_start, indexed_below, posting_positions, posting_words, cell_words}
@@ -47,7 +48,7 @@ pub directory_low : (l : Limits) (r c : ℕ) → IsWithin l (DirectoryWord r c) 
 unfolding address
 directory_low l r c h = below l (DirectoryWord r c) h
 
-pub frames_low : (l : Limits) (f p : ℕ) → IsWithin l (FrameWord f p) → frames_start l + f * 513 + p < words_of l
+pub frames_low : (l : Limits) (f p : ℕ) → IsWithin l (FrameWord f p) → frames_start l + f * FRAME_WORDS + p < words_of l
 unfolding address
 frames_low l f p h = below l (FrameWord f p) h
 

@@ -113,6 +113,15 @@ mod tests {
         assert_eq!(rt; layout.directory(0, 0), 135_176);
         assert_eq!(rt; layout.frames(15, 512), 143_391);
         assert_eq!(rt; layout.pins(3), 143_395);
+        assert_eq!(rt; layout.words, 143_396);
+        assert_eq!(rt; layout.place(53_252), Place::TailCounter { range: 0 });
+        assert_eq!(rt;
+            layout.place(135_175),
+            Place::CellWord {
+                tail: 16_384,
+                place: 4
+            }
+        );
         Ok(())
     }
 
