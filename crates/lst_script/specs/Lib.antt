@@ -1,0 +1,9 @@
+pub mod FaultTexts
+pub mod Texts
+pub mod Numbers
+pub mod Table
+pub mod Grammar
+pub mod Faults
+pub mod Scripts
+pub mod Reading
+pub mod Verbs
