@@ -94,7 +94,7 @@ arguments_faultless limits Abort words are = rw are refl
 
 -- ---- the words of a line
 
-two_words : (n : ℕ) → eqb (suc (suc n)) 1 ≡ false
+pub two_words : (n : ℕ) → eqb (suc (suc n)) 1 ≡ false
 two_words n = ne_eqb _ _ (λ e. omega arith)
 
 call_faultless : (limits : Limits) (first : List ℕ) (session : ℕ) (rest : List (List ℕ)) (call : Call) → number_of first ≡ Some session → session < limits.sessions → IsCall limits rest call → first_fault (word_checks limits (first ∷ rest)) ≡ None

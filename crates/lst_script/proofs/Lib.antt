@@ -5,3 +5,5 @@ pub mod Exits
 pub mod Faultless
 pub mod Scanning
 pub mod OneReading
+pub mod Complete
+pub mod ReadAgain

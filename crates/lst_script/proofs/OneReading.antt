@@ -21,7 +21,7 @@ use Rattle.lst_script.proofs.Scanning.{first_cases, text_fault_none}
 
 -- ---- the one call that words behind the name of a form can be
 
-call_as : Form → List (List ℕ) → Call
+abbrev pub call_as : Form → List (List ℕ) → Call
 call_as phase words = Begin
 call_as merge words = Begin
 call_as begin words = Begin
@@ -47,7 +47,6 @@ values_are read d (word ∷ words) (value ∷ values) e =
     rw (first, values_are read d words values rest) refl
 
 call_is : (limits : Limits) (call : Call) (words : List (List ℕ)) → AreArguments limits call words → call_as (form_of_call call) words ≡ call
-unfolding call_as
 call_is limits Begin words are = refl
 call_is limits (AsOf time) words are = rw (are.1, are.2) refl
 call_is limits (Get key) words are = rw (are.1, are.2) refl

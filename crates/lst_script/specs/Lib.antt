@@ -7,3 +7,5 @@ pub mod Faults
 pub mod Scripts
 pub mod Reading
 pub mod Verbs
+pub mod Laws
+pub mod Worked

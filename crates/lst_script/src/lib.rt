@@ -6,6 +6,7 @@
 #![tactic(auto)]
 
 mod faults;
+mod laws;
 mod lines;
 mod numbers;
 mod parsing;
@@ -14,6 +15,10 @@ mod verbs;
 mod words;
 
 pub use faults::{FaultKind, ScriptFault};
+pub use laws::{
+    joined_words_and_lines_are_read_again, words_pass_exactly_where_they_are_a_line,
+    worked_lines_are_judged,
+};
 pub use parsing::parse;
 pub use scripts::Script;
 
