@@ -7,3 +7,4 @@ pub mod Scanning
 pub mod OneReading
 pub mod Complete
 pub mod ReadAgain
+pub mod OwnFaults

@@ -3,7 +3,7 @@ ghost use Rattle.std.specs.Prelude.{◌≡◌, ℕ, List, Some, IfOk, IfErr, Ok,
 ghost use Rattle.lst_layout.specs.Limits.{IsValid};
 ghost use Rattle.lst_model.specs.declared.lines.Line.{Line};
 ghost use Rattle.lst_script.specs.declared.faults.FaultKind.{FaultKind};
-ghost use Rattle.lst_script.specs.Scripts.{IsScript, text_fault, Explains, AnswersUnlessMemory};
+ghost use Rattle.lst_script.specs.Scripts.{IsScript, text_fault, Explains, NamesFaultOfLine, AnswersUnlessMemory};
 
 use crate::faults::{FaultKind, ScriptFault};
 use crate::lines::read_line;
@@ -26,6 +26,7 @@ pub fn parse(alloc: Global, bytes: &[u8], limits: &Limits) -> Result<Script, Scr
     // What is read is the script of the text, and a fault is that of its first faulty line.
     ensures ok { IfOk result (λ script. IsScript limits.now bytes.now script) }
     ensures fault { IfErr result (Explains limits.now bytes.now) }
+    ensures own { IfErr result NamesFaultOfLine }
 
     // A text that is a script is read as that script, and a text with a faulty line is refused, unless memory is.
     ensures only_ok { (script : List Line) → IsScript limits.now bytes.now script → AnswersUnlessMemory result (Ok script) }
