@@ -1,0 +1,12 @@
+pub mod Timed
+pub mod Placing
+pub mod Acting
+pub mod Seeing
+pub mod Opening
+pub mod Adding
+pub mod Accepting
+pub mod Ending
+pub mod Keeping
+pub mod Answering
+pub mod Founding
+pub mod Settling

@@ -1,0 +1,350 @@
+//! Worked scripts: each line with its reply.
+ghost use Rattle.std.specs.Prelude.{◌<◌, IsTrue};
+ghost use Rattle.lst_model.specs.Lines.{CallFits};
+ghost use Rattle.lst_plain.specs.Plains.{IsPlainCall};
+
+use crate::Plain;
+use arrayvec::ArrayVec;
+use lst_layout::Limits;
+use lst_model::{Act, Call, Cause, Key, Line, Patch, Reply, Row, Table, Write, apply};
+use std::alloc::Global;
+use std::process::Abort;
+use std::test::Fail;
+
+fn row(first: u64, second: u64) -> Row {
+    let mut cells = ArrayVec::new();
+    cells.push(first);
+    cells.push(second);
+    Row::new(cells)
+}
+
+fn patch(first: Option<u64>, second: Option<u64>) -> Patch {
+    let mut cells = ArrayVec::new();
+    cells.push(first);
+    cells.push(second);
+    Patch::new(cells)
+}
+
+fn insert(key: Key, first: u64, second: u64) -> Call {
+    Call::Insert {
+        key,
+        row: row(first, second),
+    }
+}
+
+fn update(key: Key, first: Option<u64>, second: Option<u64>) -> Call {
+    Call::Update {
+        key,
+        patch: patch(first, second),
+    }
+}
+
+fn get(key: Key) -> Call {
+    Call::Get { key }
+}
+
+fn begun(time: u64) -> Reply {
+    Reply::Begun { time }
+}
+
+fn found(first: u64, second: u64) -> Reply {
+    Reply::Row {
+        row: row(first, second),
+    }
+}
+
+fn committed(time: u64) -> Reply {
+    Reply::Committed { time }
+}
+
+fn ended(time: u64) -> Reply {
+    Reply::Ended { time }
+}
+
+fn refused(cause: Cause) -> Reply {
+    Reply::Refused { cause }
+}
+
+/// Whether the engine takes a session's call.
+fn fits(limits: &Limits, session: u32, call: &Call) -> bool
+    ensures { IsTrue result → (session < limits.now.sessions) × CallFits limits.now.columns call.now × IsPlainCall call.now }
+{
+    if session >= limits.sessions {
+        return false;
+    }
+    let columns = limits.columns as usize;
+    match call {
+        Call::Insert { row, .. } => row.len() == columns,
+        Call::Update { patch, .. } => {
+            patch.len() == columns && patch.cells().iter().any(|cell| cell.is_some())
+        }
+        Call::Sum { .. } | Call::Count | Call::Scan | Call::Find { .. } => false,
+        _ => true,
+    }
+}
+
+fn opened(alloc: Global, limits: Limits) -> Result<Plain, Fail> {
+    let Ok(layout) = limits.check() else {
+        return Err(Fail::from("the limits are in range"));
+    };
+    Ok(Plain::new(alloc, &layout)?)
+}
+
+/// A session's call, and its reply compared.
+fn answers(
+    rt: &impl Abort,
+    plain: &mut Plain,
+    session: u32,
+    call: Call,
+    wanted: Reply,
+) -> Result<(), Fail> {
+    assert!(rt; fits(&plain.limits, session, &call));
+    let reply = plain.line(&Line::Call { session, call })?;
+    assert_eq!(rt; reply, wanted);
+    Ok(())
+}
+
+/// The calls of sessions on a new engine, each with its reply.
+fn run<const N: usize>(
+    rt: &impl Abort,
+    alloc: Global,
+    limits: Limits,
+    script: [(u32, Call, Reply); N],
+) -> Result<(), Fail> {
+    let mut plain = opened(alloc, limits)?;
+    for (session, call, wanted) in Vec::from_array(alloc, script)? {
+        answers(rt, &mut plain, session, call, wanted)?;
+    }
+    Ok(())
+}
+
+#[test]
+fn a_row_is_inserted_and_read(rt: HostRuntime) -> Result<(), Fail> {
+    run(
+        &rt,
+        rt.alloc(),
+        Limits::default(),
+        [
+            (0, Call::Begin, begun(0)),
+            (0, insert(7, 10, 20), Reply::Done),
+            (0, get(7), found(10, 20)),
+            (0, Call::Commit, committed(1)),
+            (1, Call::Begin, begun(1)),
+            (1, get(7), found(10, 20)),
+        ],
+    )
+}
+
+#[test]
+fn a_newer_commit_is_a_conflict(rt: HostRuntime) -> Result<(), Fail> {
+    run(
+        &rt,
+        rt.alloc(),
+        Limits::default(),
+        [
+            (0, Call::Begin, begun(0)),
+            (0, insert(7, 10, 20), Reply::Done),
+            (0, Call::Commit, committed(1)),
+            (0, Call::Begin, begun(1)),
+            (1, Call::Begin, begun(1)),
+            (0, update(7, Some(11), None), Reply::Done),
+            (0, Call::Commit, committed(2)),
+            (1, get(7), found(10, 20)),
+            (
+                1,
+                update(7, None, Some(21)),
+                refused(Cause::Newer { time: 2 }),
+            ),
+            (1, Call::Commit, ended(1)),
+        ],
+    )
+}
+
+#[test]
+fn an_open_write_is_a_conflict_until_its_abort(rt: HostRuntime) -> Result<(), Fail> {
+    run(
+        &rt,
+        rt.alloc(),
+        Limits::default(),
+        [
+            (0, Call::Begin, begun(0)),
+            (0, insert(7, 10, 20), Reply::Done),
+            (0, Call::Commit, committed(1)),
+            (0, Call::Begin, begun(1)),
+            (1, Call::Begin, begun(1)),
+            (0, update(7, Some(11), None), Reply::Done),
+            (
+                1,
+                update(7, None, Some(21)),
+                refused(Cause::Unfinished {
+                    session: 0,
+                    number: 2,
+                }),
+            ),
+            (0, Call::Abort, Reply::Aborted),
+            (1, update(7, None, Some(21)), Reply::Done),
+            (1, Call::Commit, committed(2)),
+            (1, Call::Begin, begun(2)),
+            (1, get(7), found(10, 21)),
+        ],
+    )
+}
+
+#[test]
+fn each_time_has_its_row(rt: HostRuntime) -> Result<(), Fail> {
+    run(
+        &rt,
+        rt.alloc(),
+        Limits::default(),
+        [
+            (0, Call::Begin, begun(0)),
+            (0, insert(7, 10, 20), Reply::Done),
+            (0, Call::Commit, committed(1)),
+            (0, Call::Begin, begun(1)),
+            (0, Call::Delete { key: 7 }, Reply::Done),
+            (0, Call::Commit, committed(2)),
+            (0, Call::Begin, begun(2)),
+            (0, insert(7, 30, 40), Reply::Done),
+            (0, Call::Commit, committed(3)),
+            (1, Call::AsOf { time: 1 }, begun(1)),
+            (1, get(7), found(10, 20)),
+            (1, Call::Commit, ended(1)),
+            (1, Call::AsOf { time: 2 }, begun(2)),
+            (1, get(7), Reply::Absent),
+            (1, Call::Commit, ended(2)),
+            (1, Call::Begin, begun(3)),
+            (1, get(7), found(30, 40)),
+        ],
+    )
+}
+
+#[test]
+fn a_write_that_does_not_fit_is_refused(rt: HostRuntime) -> Result<(), Fail> {
+    run(
+        &rt,
+        rt.alloc(),
+        Limits::default(),
+        [
+            (0, Call::Begin, begun(0)),
+            (0, insert(7, 1, 1), Reply::Done),
+            (0, insert(7, 1, 1), refused(Cause::Exists)),
+            (0, update(9, Some(1), None), refused(Cause::Missing)),
+            (0, Call::Delete { key: 7 }, Reply::Done),
+            (0, update(7, Some(1), None), refused(Cause::Missing)),
+        ],
+    )
+}
+
+#[test]
+fn transactions_open_and_end_in_turn(rt: HostRuntime) -> Result<(), Fail> {
+    run(
+        &rt,
+        rt.alloc(),
+        Limits::default(),
+        [
+            (0, get(7), refused(Cause::Idle)),
+            (0, Call::Commit, refused(Cause::Idle)),
+            (0, Call::Begin, begun(0)),
+            (0, Call::Begin, refused(Cause::Active)),
+            (0, Call::Abort, Reply::Aborted),
+            (0, Call::AsOf { time: 0 }, begun(0)),
+            (0, insert(1, 1, 1), refused(Cause::ReadOnly)),
+            (0, Call::Commit, ended(0)),
+            (
+                0,
+                Call::AsOf { time: 1 },
+                refused(Cause::Future { clock: 0 }),
+            ),
+        ],
+    )
+}
+
+#[test]
+fn transactions_of_a_session_are_spent(rt: HostRuntime) -> Result<(), Fail> {
+    let limits = Limits {
+        txns: 1,
+        ..Limits::default()
+    };
+    run(
+        &rt,
+        rt.alloc(),
+        limits,
+        [
+            (0, Call::Begin, begun(0)),
+            (0, insert(7, 10, 20), Reply::Done),
+            (0, Call::Commit, committed(1)),
+            (0, Call::Begin, refused(Cause::Spent)),
+        ],
+    )
+}
+
+#[test]
+fn a_range_is_full_of_writes(rt: HostRuntime) -> Result<(), Fail> {
+    let limits = Limits {
+        tails: 1,
+        ..Limits::default()
+    };
+    run(
+        &rt,
+        rt.alloc(),
+        limits,
+        [
+            (0, Call::Begin, begun(0)),
+            (0, insert(1, 1, 1), Reply::Done),
+            (0, insert(2, 2, 2), refused(Cause::TailFull)),
+            (0, Call::Commit, committed(1)),
+        ],
+    )
+}
+
+#[test]
+fn a_table_of_one_range_has_256_keys(rt: HostRuntime) -> Result<(), Fail> {
+    let limits = Limits {
+        ranges: 1,
+        ..Limits::default()
+    };
+    let mut plain = opened(rt.alloc(), limits)?;
+    answers(&rt, &mut plain, 0, Call::Begin, begun(0))?;
+    for key in 1..257 {
+        answers(&rt, &mut plain, 0, insert(key, 1, 1), Reply::Done)?;
+    }
+    answers(
+        &rt,
+        &mut plain,
+        0,
+        insert(257, 1, 1),
+        refused(Cause::TableFull),
+    )
+}
+
+#[test]
+fn the_rows_are_those_of_a_table_that_the_writes_were_applied_to(
+    rt: HostRuntime,
+) -> Result<(), Fail> {
+    let alloc = rt.alloc();
+    let mut table = Table::new(alloc);
+    let mut plain = opened(alloc, Limits::default())?;
+    answers(&rt, &mut plain, 0, Call::Begin, begun(0))?;
+    answers(&rt, &mut plain, 0, insert(7, 10, 20), Reply::Done)?;
+    answers(&rt, &mut plain, 0, Call::Commit, committed(1))?;
+    apply(
+        &mut table,
+        &Write {
+            key: 7,
+            act: Act::Put(row(10, 20)),
+        },
+    )?;
+    answers(&rt, &mut plain, 0, Call::Begin, begun(1))?;
+    answers(&rt, &mut plain, 0, update(7, Some(11), None), Reply::Done)?;
+    answers(&rt, &mut plain, 0, Call::Commit, committed(2))?;
+    apply(
+        &mut table,
+        &Write {
+            key: 7,
+            act: Act::Set(patch(Some(11), None)),
+        },
+    )?;
+    assert_eq!(rt; table.row(7), Some(row(11, 20)));
+    answers(&rt, &mut plain, 1, Call::Begin, begun(2))?;
+    answers(&rt, &mut plain, 1, get(7), found(11, 20))
+}

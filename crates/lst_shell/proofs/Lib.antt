@@ -1,0 +1,4 @@
+mod Running
+mod Matched
+mod LinesFit
+mod Answers

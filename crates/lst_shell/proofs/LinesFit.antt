@@ -1,0 +1,133 @@
+-- The lines of a script are lines that the store can take.
+use Rattle.std.proofs.Common.{◌≡◌, ℕ, zero, suc, ◌<◌, ◌≤◌, Bool, true, false, cond, List, [], ◌∷◌, length, Option, Some, None, ◌⊎◌, inl, inr, refl, sym, ap, ◌∙◌, subst, arith}
+use Rattle.std.specs.Prelude.{All, Any, find, is_some, IsSome, slice_index_or, bytes_eq}
+use Rattle.std.proofs.lemmas.List.Folds.{Any-from_list_any}
+use Rattle.lst_layout.specs.declared.limits.Limits.{Limits}
+use Rattle.lst_model.specs.declared.lines.Line.{Line}
+use Rattle.lst_model.specs.declared.lines.Line.TheVariants as lines
+use Rattle.lst_model.specs.declared.lines.Call.{Call}
+use Rattle.lst_model.specs.declared.lines.Call.TheVariants.{Begin, AsOf, Get, Insert, Update, Delete, Sum, Count, Scan, Find, Commit, Abort}
+use Rattle.lst_model.specs.Lines.{CallFits, LineFits}
+use Rattle.lst_plain.specs.Plains.{IsPlainCall, IsPlainLine}
+use Rattle.lst_script.specs.Table.{Form, phase, merge, sum, count, scan, find_keys, first_forms, session_forms, form_named, name_of}
+use Rattle.lst_script.specs.Grammar.{AreArguments, IsCall, IsLine, form_of_call}
+use Rattle.lst_script.specs.Scripts.{AreScript, IsScript}
+use Rattle.lst_script.specs.Texts.{text_lines, line_words}
+use Rattle.lst_script.proofs.Scanning.{first_cases}
+use Rattle.lst_shell.specs.Answers.{store_limits}
+use Rattle.lst_shell.specs.Runs.{IsTaken}
+
+-- a form is in a list
+abbrev Among : Form → List Form → Type 0
+Among form [] = ⊥
+Among form (first ∷ forms) = (first ≡ form) ⊎ Among form forms
+
+-- what a word names is in the list
+named : (word : List ℕ) (forms : List Form) (form : Form) → form_named forms word ≡ Some form → Among form forms
+named word [] form same = cc
+named word (first ∷ forms) form same = step (named word forms form) (bytes_eq word (name_of first)) same
+  where
+    step : (find (λ other. bytes_eq word (name_of other)) forms ≡ Some form → Among form forms) → (b : Bool) → cond b (Some first) (find (λ other. bytes_eq word (name_of other)) forms) ≡ Some form → (first ≡ form) ⊎ Among form forms
+    step later true found = inl cc
+    step later false found = inr (later found)
+
+no_merge : ¬ Among merge first_forms
+no_merge (inl same) = cc
+no_merge (inr none) = none
+
+no_sum : ¬ Among sum session_forms
+no_sum (inl same) = cc
+no_sum (inr (inl same)) = cc
+no_sum (inr (inr (inl same))) = cc
+no_sum (inr (inr (inr (inl same)))) = cc
+no_sum (inr (inr (inr (inr (inl same))))) = cc
+no_sum (inr (inr (inr (inr (inr (inl same)))))) = cc
+no_sum (inr (inr (inr (inr (inr (inr (inl same))))))) = cc
+no_sum (inr (inr (inr (inr (inr (inr (inr (inl same)))))))) = cc
+no_sum (inr (inr (inr (inr (inr (inr (inr (inr none)))))))) = none
+
+no_count : ¬ Among count session_forms
+no_count (inl same) = cc
+no_count (inr (inl same)) = cc
+no_count (inr (inr (inl same))) = cc
+no_count (inr (inr (inr (inl same)))) = cc
+no_count (inr (inr (inr (inr (inl same))))) = cc
+no_count (inr (inr (inr (inr (inr (inl same)))))) = cc
+no_count (inr (inr (inr (inr (inr (inr (inl same))))))) = cc
+no_count (inr (inr (inr (inr (inr (inr (inr (inl same)))))))) = cc
+no_count (inr (inr (inr (inr (inr (inr (inr (inr none)))))))) = none
+
+no_scan : ¬ Among scan session_forms
+no_scan (inl same) = cc
+no_scan (inr (inl same)) = cc
+no_scan (inr (inr (inl same))) = cc
+no_scan (inr (inr (inr (inl same)))) = cc
+no_scan (inr (inr (inr (inr (inl same))))) = cc
+no_scan (inr (inr (inr (inr (inr (inl same)))))) = cc
+no_scan (inr (inr (inr (inr (inr (inr (inl same))))))) = cc
+no_scan (inr (inr (inr (inr (inr (inr (inr (inl same)))))))) = cc
+no_scan (inr (inr (inr (inr (inr (inr (inr (inr none)))))))) = none
+
+no_find_keys : ¬ Among find_keys session_forms
+no_find_keys (inl same) = cc
+no_find_keys (inr (inl same)) = cc
+no_find_keys (inr (inr (inl same))) = cc
+no_find_keys (inr (inr (inr (inl same)))) = cc
+no_find_keys (inr (inr (inr (inr (inl same))))) = cc
+no_find_keys (inr (inr (inr (inr (inr (inl same)))))) = cc
+no_find_keys (inr (inr (inr (inr (inr (inr (inl same))))))) = cc
+no_find_keys (inr (inr (inr (inr (inr (inr (inr (inl same)))))))) = cc
+no_find_keys (inr (inr (inr (inr (inr (inr (inr (inr none)))))))) = none
+
+-- a call has the cells and columns of the table
+call_fits : (limits : Limits) (call : Call) (words : List (List ℕ)) → AreArguments limits call words → CallFits limits.columns call
+call_fits limits Begin words are = tt
+call_fits limits (AsOf time) words are = tt
+call_fits limits (Get key) words are = tt
+call_fits limits (Insert key row) words are = are.4.as_many
+call_fits limits (Update key patch) words are = record { width = are.4.as_many; sets = Any-from_list_any is_some patch are.4.sets }
+call_fits limits (Delete key) words are = tt
+call_fits limits (Sum column) words are = are.3
+call_fits limits Count words are = tt
+call_fits limits Scan words are = tt
+call_fits limits (Find column number) words are = are.4
+call_fits limits Commit words are = tt
+call_fits limits Abort words are = tt
+
+-- a call that has a name is no scan
+call_is_plain : (call : Call) → Among (form_of_call call) session_forms → IsPlainCall call
+call_is_plain Begin among = tt
+call_is_plain (AsOf time) among = tt
+call_is_plain (Get key) among = tt
+call_is_plain (Insert key row) among = tt
+call_is_plain (Update key patch) among = tt
+call_is_plain (Delete key) among = tt
+call_is_plain (Sum column) among = no_sum among
+call_is_plain Count among = no_count among
+call_is_plain Scan among = no_scan among
+call_is_plain (Find column number) among = no_find_keys among
+call_is_plain Commit among = tt
+call_is_plain Abort among = tt
+
+line_taken : (words : List (List ℕ)) (line : Line) → IsLine store_limits words line → IsTaken line
+line_taken words lines.Phase is = (tt, tt)
+line_taken words (lines.Merge range column) is = absurd (no_merge (named is.0 first_forms merge is.4))
+line_taken words (lines.Call session call) is =
+    ((is.4, call_fits store_limits call is.5.arguments is.5.are_arguments), call_is_plain call (named is.5.name session_forms (form_of_call call) is.5.is_named))
+
+all_cons : (line : Line) (script : List Line) → IsTaken line → All IsTaken script → All IsTaken (line ∷ script)
+all_cons line script first rest zero d within = first
+all_cons line script first rest (suc k) d within = rest k d (omega arith)
+
+each_taken : (texts : List (List ℕ)) (script : List Line) → AreScript store_limits texts script → All IsTaken script
+each_taken [] script are = λ k d within. absurd (omega (arith, ap length are))
+each_taken (text ∷ texts) script are =
+    elim (first_cases store_limits text texts script are) [
+      | inl skipped ↦ each_taken texts script skipped.1
+      | inr read ↦ subst (λ (all : List Line). All IsTaken all) (sym read.1.parts)
+          (all_cons read.1.first read.1.rest (line_taken (line_words text) read.1.first read.1.is_line) (each_taken texts read.1.rest read.1.is_rest))
+    ]
+
+-- the lines of a script are taken
+pub script_taken : (text : List ℕ) (script : List Line) → IsScript store_limits text script → All IsTaken script
+script_taken text script is = each_taken (text_lines text) script is

@@ -1,0 +1,10 @@
+//! What is so of the definitions, apart from any run.
+ghost use Rattle.std.specs.Prelude.{◌≡◌, ℕ, List};
+ghost use Rattle.lst_model.specs.declared.lines.Line.{Line};
+ghost use Rattle.lst_script.specs.Scripts.{IsScript};
+ghost use Rattle.lst_shell.specs.Answers.{store_limits};
+
+/// An input is one script at most, so a run has one output alone. The contract is a law; the body does nothing.
+pub fn input_is_one_script()
+    ensures { (input : List ℕ) (script other : List Line) → IsScript store_limits input script → IsScript store_limits input other → script ≡ other }
+{}
