@@ -1,0 +1,17 @@
+//! The protocol of a store as data: what a session knows, the single atomic steps, and what holds between any two of them.
+//!
+//! Nothing here runs. `specs/` has the definitions, `proofs/` shows that each step keeps what holds.
+#![tactic(auto)]
+
+mod events;
+mod facts;
+mod known;
+mod laws;
+
+pub use events::Event;
+pub use facts::{Fact, Find};
+pub use known::{Counter, Done, Draft, Hold, Known, Looks, Placing, Stage};
+pub use laws::{
+    chains_are_sights, every_run_is_sound, histories_are_sound, seen_may_grow, steps_are_sound,
+    visible_is_seen,
+};
