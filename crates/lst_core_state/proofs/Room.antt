@@ -13,11 +13,10 @@ abbrev row_of : ℕ → ℕ → ℕ → ℕ
 row_of txns s n = s * txns + (n - 1)
 
 row_apart : (txns s n j m : ℕ) → 0 < n → n ≤ txns → 0 < m → m ≤ txns → row_of txns s n ≡ row_of txns j m → (s ≡ j) × (n ≡ m)
-row_apart txns s n j m a b d f e = let i : n - 1 < txns = omega arith in let k : m - 1 < txns = omega arith in
-    (
-      sym (digits_div s {m = txns} {r = n - 1} i) ∙ (ap (λ (x : ℕ). x / txns) e ∙ digits_div j {m = txns} {r = m - 1} k),
-      let g : n - 1 ≡ m - 1 = sym (digits_mod s {m = txns} {r = n - 1} i) ∙ (ap (λ (x : ℕ). x % txns) e ∙ digits_mod j {m = txns} {r = m - 1} k) in omega arith,
-    )
+row_apart txns s n j m a b d f e = let i : n - 1 < txns = omega arith in let k : m - 1 < txns = omega arith in (
+  sym (digits_div s {m = txns} {r = n - 1} i) ∙ (ap (λ (x : ℕ). x / txns) e ∙ digits_div j {m = txns} {r = m - 1} k),
+  let g : n - 1 ≡ m - 1 = sym (digits_mod s {m = txns} {r = n - 1} i) ∙ (ap (λ (x : ℕ). x % txns) e ∙ digits_mod j {m = txns} {r = m - 1} k) in omega arith,
+)
 
 -- a at 0, and b elsewhere
 abbrev or : ℕ → ℕ → ℕ → ℕ
