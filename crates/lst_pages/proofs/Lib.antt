@@ -1,0 +1,4 @@
+pub mod Folds
+pub mod Pages
+pub mod Rows
+pub mod Chains

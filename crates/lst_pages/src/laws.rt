@@ -1,0 +1,22 @@
+//! Laws of pages. Each function is a law: its contract holds at all values, and its body does nothing.
+ghost use Rattle.lst_pages.specs.Chains.{EntryIsSeen, EntryIsAnswer};
+ghost use Rattle.lst_pages.specs.Laws.{PageStaysRight, PageIsItsWords, FoldGoesOn, BuiltPageIsRight};
+
+/// A page that is right stays right while tails settle, and wherever its words are copied.
+pub fn pages_stay_right()
+    ensures settle { PageStaysRight }
+    ensures words { PageIsItsWords }
+{}
+
+/// A fold over more tails than a page has is the page and then the rest, so a page built from a right one is right.
+pub fn pages_are_built_on()
+    ensures fold { FoldGoesOn }
+    ensures built { BuiltPageIsRight }
+{}
+
+/// An entry whose time is at most a reader's begin is what the reader sees of its column, once nothing visible above the
+/// page's TPS touches the column.
+pub fn entries_are_answers()
+    ensures seen { EntryIsSeen }
+    ensures answer { EntryIsAnswer }
+{}
