@@ -7,70 +7,109 @@ use lst_script::FaultKind;
 use std::alloc::Global;
 use std::process::Abort;
 use std::test::Fail;
-use std::vec;
 
-/// A run over memory: its words and its input, the reads, writes and error writes that fail, and what comes of it.
-#[derive(Drop)]
-struct Case<'a> {
-    words: &'a [&'a str],
-    input: &'a [u8],
-    step: usize,
-    read_fails: &'a [u64],
-    write_fails: &'a [u64],
-    report_fails: &'a [u64],
-    status: Status,
-    output: &'a str,
-    message: &'a str,
+/// Which call of the source, of the sink and of the sink of errors fails, counted from 1; none where it is 0.
+#[derive(Clone, Copy)]
+struct Fails {
+    read: u64,
+    write: u64,
+    report: u64,
 }
 
-/// A run of the command `run` at which nothing fails.
-fn done<'a>(input: &'a str, output: &'a str) -> Case<'a> {
-    Case {
-        words: &["run"],
-        input: input.as_bytes(),
-        step: 7,
-        read_fails: &[],
-        write_fails: &[],
-        report_fails: &[],
-        status: Status::Done,
-        output,
-        message: "",
+const NOTHING: Fails = Fails {
+    read: 0,
+    write: 0,
+    report: 0,
+};
+
+fn failing(alloc: Global, call: u64) -> Result<KeyList, Fail> {
+    let mut calls = KeyList::new(alloc);
+    if call > 0 {
+        calls.push(call)?;
     }
+    Ok(calls)
 }
 
-/// A run that ends with a message and without output.
-fn stopped<'a>(input: &'a [u8], status: Status, message: &'a str) -> Case<'a> {
-    Case {
-        words: &["run"],
-        input,
-        step: 7,
-        read_fails: &[],
-        write_fails: &[],
-        report_fails: &[],
-        status,
-        output: "",
-        message,
-    }
-}
-
-fn keys(alloc: Global, numbers: &[u64]) -> Result<KeyList, Fail> {
-    Ok(KeyList::from_items(numbers.to_vec(alloc)?))
-}
-
-fn shows(rt: &impl Abort, alloc: Global, case: &Case<'_>) -> Result<(), Fail> {
+/// The words of a command line, which spaces separate.
+fn words_of(alloc: Global, line: &str) -> Result<Vec<String>, Fail> {
     let mut words = Vec::new(alloc);
-    for word in case.words {
+    for word in line.split_whitespace() {
         words.push(String::from_str(alloc, word)?)?;
     }
-    let input = Text::from_bytes(case.input.to_vec(alloc)?);
-    let mut source = MemSource::new(input, keys(alloc, case.read_fails)?, case.step);
-    let mut sink = MemSink::new(alloc, keys(alloc, case.write_fails)?, 5)?;
-    let mut errors = MemSink::new(alloc, keys(alloc, case.report_fails)?, 5)?;
-    let status = lstore(alloc, words.as_slice(), &mut source, &mut sink, &mut errors);
-    assert_eq!(rt; status, case.status);
-    assert_eq!(rt; sink.taken(), case.output.as_bytes());
-    assert_eq!(rt; errors.taken(), case.message.as_bytes());
+    Ok(words)
+}
+
+/// A run over memory with these words: how it ends, and what the sink and the sink of errors took.
+fn shows(
+    rt: &impl Abort,
+    alloc: Global,
+    line: &str,
+    input: &[u8],
+    fails: Fails,
+    status: Status,
+    output: &str,
+    message: &str,
+) -> Result<(), Fail> {
+    let words = words_of(alloc, line)?;
+    let step = 7 + input.len() / 256;
+    let text = Text::from_bytes(input.to_vec(alloc)?);
+    let mut source = MemSource::new(text, failing(alloc, fails.read)?, step);
+    let mut sink = MemSink::new(alloc, failing(alloc, fails.write)?, 5)?;
+    let mut errors = MemSink::new(alloc, failing(alloc, fails.report)?, 5)?;
+    let ended = lstore(alloc, words.as_slice(), &mut source, &mut sink, &mut errors);
+    assert_eq!(rt; ended, status);
+    assert_eq!(rt; sink.taken(), output.as_bytes());
+    assert_eq!(rt; errors.taken(), message.as_bytes());
     Ok(())
+}
+
+/// A run at which nothing fails.
+fn answers(rt: &impl Abort, alloc: Global, input: &str, output: &str) -> Result<(), Fail> {
+    shows(
+        rt,
+        alloc,
+        "run",
+        input.as_bytes(),
+        NOTHING,
+        Status::Done,
+        output,
+        "",
+    )
+}
+
+/// A run after one row was put.
+fn answers_after_a_row(
+    rt: &impl Abort,
+    alloc: Global,
+    input: &str,
+    output: &str,
+) -> Result<(), Fail> {
+    let mut whole = String::from_str(alloc, "0 begin\n0 insert 7 10 20\n0 commit\n")?;
+    whole.push_str(input)?;
+    let mut wanted = String::from_str(alloc, "0 begun 0\n0 ok\n0 committed 1\n")?;
+    wanted.push_str(output)?;
+    answers(rt, alloc, whole.as_str(), wanted.as_str())
+}
+
+/// A run that ends at a faulty line.
+fn stops(
+    rt: &impl Abort,
+    alloc: Global,
+    input: &str,
+    line: u64,
+    kind: FaultKind,
+    message: &str,
+) -> Result<(), Fail> {
+    shows(
+        rt,
+        alloc,
+        "run",
+        input.as_bytes(),
+        NOTHING,
+        Status::BadScript { line, kind },
+        "",
+        message,
+    )
 }
 
 const SCRIPT: &str = "0 begin\n0 insert 7 10 20\n0 get 7\n0 commit\n";
@@ -99,113 +138,116 @@ const ACCOUNTS_REPLIES: &str =
 #[test]
 fn each_line_is_answered(rt: HostRuntime) -> Result<(), Fail> {
     let alloc = rt.alloc();
-    shows(&rt, alloc, &done("", ""))?;
-    shows(&rt, alloc, &done(SCRIPT, ANSWERS))?;
-    shows(&rt, alloc, &done("0 begin", "0 begun 0\n"))?;
-    shows(
+    answers(&rt, alloc, "", "")?;
+    answers(&rt, alloc, SCRIPT, ANSWERS)?;
+    answers(&rt, alloc, "0 begin", "0 begun 0\n")?;
+    answers(&rt, alloc, "0 begin\n0 commit\n", "0 begun 0\n0 ended 0\n")
+}
+
+#[test]
+fn a_session_sees_what_was_committed_before_its_begin(rt: HostRuntime) -> Result<(), Fail> {
+    let alloc = rt.alloc();
+    answers_after_a_row(&rt, alloc, "1 begin\n1 get 7\n", "1 begun 1\n1 row 10 20\n")?;
+    answers_after_a_row(
         &rt,
         alloc,
-        &done("0 begin\n0 commit\n", "0 begun 0\n0 ended 0\n"),
-    )?;
-    Ok(())
+        "0 begin\n0 delete 7\n0 commit\n0 begin\n0 insert 7 30 40\n0 commit\n1 asof 1\n1 get 7\n1 commit\n1 asof 2\n1 get 7\n1 commit\n1 begin\n1 get 7\n",
+        "0 begun 1\n0 ok\n0 committed 2\n0 begun 2\n0 ok\n0 committed 3\n1 begun 1\n1 row 10 20\n1 ended 1\n1 begun 2\n1 none\n1 ended 2\n1 begun 3\n1 row 30 40\n",
+    )
 }
 
 #[test]
-fn a_refused_line_is_answered_too(rt: HostRuntime) -> Result<(), Fail> {
-    let input = "0 get 7\n0 begin\n0 begin\n0 insert 7 1 1\n0 insert 7 1 1\n0 get 8\n0 commit\n";
-    let output =
-        "0 refused idle\n0 begun 0\n0 refused active\n0 ok\n0 refused exists\n0 none\n0 committed 1\n";
-    shows(&rt, rt.alloc(), &done(input, output))
-}
-
-#[test]
-fn sessions_see_their_own_snapshots(rt: HostRuntime) -> Result<(), Fail> {
+fn of_two_sessions_that_write_a_row_one_is_refused(rt: HostRuntime) -> Result<(), Fail> {
     let alloc = rt.alloc();
-    let row = "0 begin\n0 insert 7 10 20\n0 commit\n";
-    let put = "0 begun 0\n0 ok\n0 committed 1\n";
-    for (input, output) in [
-        ("1 begin\n1 get 7\n", "1 begun 1\n1 row 10 20\n"),
-        (
-            "0 begin\n1 begin\n0 update 7 11 _\n0 commit\n1 get 7\n1 update 7 _ 21\n1 commit\n",
-            "0 begun 1\n1 begun 1\n0 ok\n0 committed 2\n1 row 10 20\n1 conflict newer 2\n1 ended 1\n",
-        ),
-        (
-            "0 begin\n1 begin\n0 update 7 11 _\n1 update 7 _ 21\n0 abort\n1 update 7 _ 21\n1 commit\n1 begin\n1 get 7\n",
-            "0 begun 1\n1 begun 1\n0 ok\n1 conflict open 0 2\n0 aborted\n1 ok\n1 committed 2\n1 begun 2\n1 row 10 21\n",
-        ),
-        (
-            "0 begin\n0 delete 7\n0 commit\n0 begin\n0 insert 7 30 40\n0 commit\n1 asof 1\n1 get 7\n1 commit\n1 asof 2\n1 get 7\n1 commit\n1 begin\n1 get 7\n",
-            "0 begun 1\n0 ok\n0 committed 2\n0 begun 2\n0 ok\n0 committed 3\n1 begun 1\n1 row 10 20\n1 ended 1\n1 begun 2\n1 none\n1 ended 2\n1 begun 3\n1 row 30 40\n",
-        ),
-    ] {
-        let mut whole = String::from_str(alloc, row)?;
-        whole.push_str(input)?;
-        let mut wanted = String::from_str(alloc, put)?;
-        wanted.push_str(output)?;
-        shows(&rt, alloc, &done(whole.as_str(), wanted.as_str()))?;
-    }
-    Ok(())
+    answers_after_a_row(
+        &rt,
+        alloc,
+        "0 begin\n1 begin\n0 update 7 11 _\n0 commit\n1 get 7\n1 update 7 _ 21\n1 commit\n",
+        "0 begun 1\n1 begun 1\n0 ok\n0 committed 2\n1 row 10 20\n1 conflict newer 2\n1 ended 1\n",
+    )?;
+    answers_after_a_row(
+        &rt,
+        alloc,
+        "0 begin\n1 begin\n0 update 7 11 _\n1 update 7 _ 21\n0 abort\n1 update 7 _ 21\n1 commit\n1 begin\n1 get 7\n",
+        "0 begun 1\n1 begun 1\n0 ok\n1 conflict open 0 2\n0 aborted\n1 ok\n1 committed 2\n1 begun 2\n1 row 10 21\n",
+    )
 }
 
 #[test]
 fn what_cannot_be_done_is_refused_and_the_transaction_goes_on(rt: HostRuntime) -> Result<(), Fail> {
     let alloc = rt.alloc();
-    let input =
-        "0 begin\n0 insert 7 1 1\n0 insert 7 1 1\n0 update 9 1 _\n0 delete 7\n0 update 7 1 _\n";
-    let output = "0 begun 0\n0 ok\n0 refused exists\n0 refused missing\n0 ok\n0 refused missing\n";
-    shows(&rt, alloc, &done(input, output))?;
-    let input =
-        "0 get 7\n0 commit\n0 begin\n0 begin\n0 abort\n0 asof 0\n0 insert 1 1 1\n0 commit\n";
-    let output =
-        "0 refused idle\n0 refused idle\n0 begun 0\n0 refused active\n0 aborted\n0 begun 0\n0 refused readonly\n0 ended 0\n";
-    shows(&rt, alloc, &done(input, output))?;
-    shows(&rt, alloc, &done("0 asof 1\n", "0 refused future 0\n"))
+    answers(
+        &rt,
+        alloc,
+        "0 get 7\n0 begin\n0 begin\n0 insert 7 1 1\n0 insert 7 1 1\n0 get 8\n0 commit\n",
+        "0 refused idle\n0 begun 0\n0 refused active\n0 ok\n0 refused exists\n0 none\n0 committed 1\n",
+    )?;
+    answers(
+        &rt,
+        alloc,
+        "0 begin\n0 insert 7 1 1\n0 insert 7 1 1\n0 update 9 1 _\n0 delete 7\n0 update 7 1 _\n",
+        "0 begun 0\n0 ok\n0 refused exists\n0 refused missing\n0 ok\n0 refused missing\n",
+    )?;
+    answers(
+        &rt,
+        alloc,
+        "0 get 7\n0 commit\n0 begin\n0 begin\n0 abort\n0 asof 0\n0 insert 1 1 1\n0 commit\n",
+        "0 refused idle\n0 refused idle\n0 begun 0\n0 refused active\n0 aborted\n0 begun 0\n0 refused readonly\n0 ended 0\n",
+    )?;
+    answers(&rt, alloc, "0 asof 1\n", "0 refused future 0\n")
 }
 
 #[test]
 fn the_first_faulty_line_is_named(rt: HostRuntime) -> Result<(), Fail> {
     let alloc = rt.alloc();
-    for (input, line, kind, message) in [
-        (
-            "0 begin\n0 fly\n",
-            2,
-            FaultKind::UnknownWord,
-            "lstore: line 2: unknown word\n",
-        ),
-        (
-            "0 update 7 _ _\n",
-            1,
-            FaultKind::NothingToSet,
-            "lstore: line 1: nothing to set\n",
-        ),
-        (
-            "\n# a comment\n0 insert 7 1\n",
-            3,
-            FaultKind::BadCount,
-            "lstore: line 3: wrong number of words\n",
-        ),
-        (
-            "4 begin\n",
-            1,
-            FaultKind::BadSession,
-            "lstore: line 1: no such session\n",
-        ),
-        (
-            "0 get 18446744073709551616\n",
-            1,
-            FaultKind::BadNumber,
-            "lstore: line 1: bad number\n",
-        ),
-        (
-            "merge 0 0\n",
-            1,
-            FaultKind::UnknownWord,
-            "lstore: line 1: unknown word\n",
-        ),
-    ] {
-        let status = Status::BadScript { line, kind };
-        shows(&rt, alloc, &stopped(input.as_bytes(), status, message))?;
-    }
+    stops(
+        &rt,
+        alloc,
+        "0 begin\n0 fly\n0 flee\n",
+        2,
+        FaultKind::UnknownWord,
+        "lstore: line 2: unknown word\n",
+    )?;
+    stops(
+        &rt,
+        alloc,
+        "0 update 7 _ _\n",
+        1,
+        FaultKind::NothingToSet,
+        "lstore: line 1: nothing to set\n",
+    )?;
+    stops(
+        &rt,
+        alloc,
+        "\n# a comment\n0 insert 7 1\n",
+        3,
+        FaultKind::BadCount,
+        "lstore: line 3: wrong number of words\n",
+    )?;
+    stops(
+        &rt,
+        alloc,
+        "4 begin\n",
+        1,
+        FaultKind::BadSession,
+        "lstore: line 1: no such session\n",
+    )?;
+    stops(
+        &rt,
+        alloc,
+        "0 get 18446744073709551616\n",
+        1,
+        FaultKind::BadNumber,
+        "lstore: line 1: bad number\n",
+    )?;
+    stops(
+        &rt,
+        alloc,
+        "merge 0 0\n",
+        1,
+        FaultKind::UnknownWord,
+        "lstore: line 1: unknown word\n",
+    )?;
     let long = vec![in alloc; b'a'; 1_025]?;
     let status = Status::BadScript {
         line: 1,
@@ -214,88 +256,181 @@ fn the_first_faulty_line_is_named(rt: HostRuntime) -> Result<(), Fail> {
     shows(
         &rt,
         alloc,
-        &stopped(long.as_slice(), status, "lstore: line 1: line too long\n"),
+        "run",
+        long.as_slice(),
+        NOTHING,
+        status,
+        "",
+        "lstore: line 1: line too long\n",
     )
 }
 
 #[test]
-fn the_limit_of_an_input_is_exact(rt: HostRuntime) -> Result<(), Fail> {
+fn an_input_of_one_byte_too_many_is_refused(rt: HostRuntime) -> Result<(), Fail> {
     let alloc = rt.alloc();
     let over = vec![in alloc; b'\n'; 16_777_217]?;
-    let mut case = stopped(over.as_slice(), Status::TooLong, "lstore: input too long\n");
-    case.step = 65_536;
-    shows(&rt, alloc, &case)?;
-    let full = vec![in alloc; b'\n'; 16_777_216]?;
-    let mut case = done("", "");
-    case.input = full.as_slice();
-    case.step = 65_536;
-    shows(&rt, alloc, &case)
+    shows(
+        &rt,
+        alloc,
+        "run",
+        over.as_slice(),
+        NOTHING,
+        Status::TooLong,
+        "",
+        "lstore: input too long\n",
+    )
 }
 
 #[test]
-fn orders_stock_and_accounts_are_answered_as_the_guide_says(rt: HostRuntime) -> Result<(), Fail> {
+fn an_input_of_the_greatest_size_is_read(rt: HostRuntime) -> Result<(), Fail> {
     let alloc = rt.alloc();
-    for (script, replies) in [
-        (ORDERS, ORDERS_REPLIES),
-        (STOCK, STOCK_REPLIES),
-        (ACCOUNTS, ACCOUNTS_REPLIES),
-    ] {
-        shows(&rt, alloc, &done(script, replies))?;
-    }
-    Ok(())
+    let full = vec![in alloc; b'\n'; 16_777_216]?;
+    shows(
+        &rt,
+        alloc,
+        "run",
+        full.as_slice(),
+        NOTHING,
+        Status::Done,
+        "",
+        "",
+    )
+}
+
+#[test]
+fn orders_are_answered_as_the_guide_says(rt: HostRuntime) -> Result<(), Fail> {
+    answers(&rt, rt.alloc(), ORDERS, ORDERS_REPLIES)
+}
+
+#[test]
+fn stock_is_answered_as_the_guide_says(rt: HostRuntime) -> Result<(), Fail> {
+    answers(&rt, rt.alloc(), STOCK, STOCK_REPLIES)
+}
+
+#[test]
+fn accounts_are_answered_as_the_guide_says(rt: HostRuntime) -> Result<(), Fail> {
+    answers(&rt, rt.alloc(), ACCOUNTS, ACCOUNTS_REPLIES)
 }
 
 #[test]
 fn other_words_are_no_command_line(rt: HostRuntime) -> Result<(), Fail> {
     let alloc = rt.alloc();
-    for words in [
-        [].as_slice(),
-        ["fly"].as_slice(),
-        ["run", "--columns"].as_slice(),
-    ] {
-        let mut case = stopped(b"0 begin\n", Status::Usage, "lstore: bad command line\n");
-        case.words = words;
-        case.read_fails = &[1];
-        shows(&rt, alloc, &case)?;
-    }
-    Ok(())
+    let fails = Fails {
+        read: 1,
+        write: 0,
+        report: 0,
+    };
+    let message = "lstore: bad command line\n";
+    shows(
+        &rt,
+        alloc,
+        "",
+        b"0 begin\n",
+        fails,
+        Status::Usage,
+        "",
+        message,
+    )?;
+    shows(
+        &rt,
+        alloc,
+        "fly",
+        b"0 begin\n",
+        fails,
+        Status::Usage,
+        "",
+        message,
+    )?;
+    shows(
+        &rt,
+        alloc,
+        "run --columns",
+        b"0 begin\n",
+        fails,
+        Status::Usage,
+        "",
+        message,
+    )
 }
 
 #[test]
 fn a_source_that_fails_gives_no_output(rt: HostRuntime) -> Result<(), Fail> {
     let alloc = rt.alloc();
-    for fails in [[1], [3]] {
-        let mut case = stopped(
-            SCRIPT.as_bytes(),
-            Status::ReadFault,
-            "lstore: read failed\n",
-        );
-        case.read_fails = fails.as_slice();
-        shows(&rt, alloc, &case)?;
-    }
-    Ok(())
+    let first = Fails {
+        read: 1,
+        write: 0,
+        report: 0,
+    };
+    let message = "lstore: read failed\n";
+    shows(
+        &rt,
+        alloc,
+        "run",
+        SCRIPT.as_bytes(),
+        first,
+        Status::ReadFault,
+        "",
+        message,
+    )?;
+    let third = Fails {
+        read: 3,
+        write: 0,
+        report: 0,
+    };
+    shows(
+        &rt,
+        alloc,
+        "run",
+        SCRIPT.as_bytes(),
+        third,
+        Status::ReadFault,
+        "",
+        message,
+    )
 }
 
 #[test]
 fn a_sink_that_fails_has_a_front_of_the_output(rt: HostRuntime) -> Result<(), Fail> {
     let alloc = rt.alloc();
-    for (fails, output) in [([1], ""), ([3], "0 begun 0\n")] {
-        let mut case = stopped(
-            SCRIPT.as_bytes(),
-            Status::WriteFault,
-            "lstore: write failed\n",
-        );
-        case.write_fails = fails.as_slice();
-        case.output = output;
-        shows(&rt, alloc, &case)?;
-    }
-    Ok(())
+    let first = Fails {
+        read: 0,
+        write: 1,
+        report: 0,
+    };
+    let message = "lstore: write failed\n";
+    shows(
+        &rt,
+        alloc,
+        "run",
+        SCRIPT.as_bytes(),
+        first,
+        Status::WriteFault,
+        "",
+        message,
+    )?;
+    let third = Fails {
+        read: 0,
+        write: 3,
+        report: 0,
+    };
+    shows(
+        &rt,
+        alloc,
+        "run",
+        SCRIPT.as_bytes(),
+        third,
+        Status::WriteFault,
+        "0 begun 0\n",
+        message,
+    )
 }
 
 #[test]
 fn a_sink_of_errors_that_fails_changes_nothing_else(rt: HostRuntime) -> Result<(), Fail> {
-    let mut case = stopped(b"", Status::Usage, "lstor");
-    case.words = &[];
-    case.report_fails = &[2];
-    shows(&rt, rt.alloc(), &case)
+    let fails = Fails {
+        read: 0,
+        write: 0,
+        report: 2,
+    };
+    shows(&rt, rt.alloc(), "", b"", fails, Status::Usage, "", "lstor")
 }
