@@ -1,1 +1,9 @@
 pub mod Texts
+pub mod Runs
+pub mod ReplyKinds
+pub mod States
+pub mod Explained
+pub mod Legal
+pub mod ReportTexts
+pub mod Reading
+pub mod Seen

@@ -24,9 +24,16 @@ pub fn push_line(text: &mut Text, script_line: &Line, reply: &Reply) -> Result<(
         return Ok(());
     }
     push_speaker(text, script_line)?;
-    text.push_bytes(word_of(reply))?;
-    push_rest(text, reply)?;
+    push_reply(text, reply)?;
     text.push_bytes(b"\n")
+}
+
+/// Adds the words of a reply at the end of a text, without a session and a newline.
+pub(crate) fn push_reply(text: &mut Text, reply: &Reply) -> Result<(), OutOfMemory>
+    ensures { OnOk result (text.new ≡ text.old ++ (reply_word reply.now ++ reply_rest reply.now)) }
+{
+    text.push_bytes(word_of(reply))?;
+    push_rest(text, reply)
 }
 
 fn is_silent(reply: &Reply) -> bool

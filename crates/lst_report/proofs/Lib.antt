@@ -1,0 +1,13 @@
+pub mod Decimals
+pub mod Sequences
+pub mod Joined
+pub mod Chains
+pub mod Spelling
+pub mod Readings
+pub mod Spelled
+pub mod Fronts
+pub mod Whole
+pub mod Faults
+pub mod Outcomes
+pub mod Printed
+pub mod Shapes
