@@ -1,0 +1,13 @@
+pub mod Flags
+pub mod Masks
+pub mod Numbered
+pub mod Stepped
+pub mod Machines
+pub mod Found
+pub mod Chaining
+pub mod Walking
+pub mod Probing
+pub mod Drafting
+pub mod Standing
+pub mod Stepping
+pub mod Opened

@@ -1,0 +1,8 @@
+use Rattle.lst_core.proofs.Standing.{claim_stands, draft_stands}
+use Rattle.lst_core.proofs.allowed.stands.Goals as goal
+
+pub returns-in-Claim : goal.returns-in-Claim
+returns-in-Claim c = claim_stands c.args.layout.now.limits c.args.words.now c.args.now.now c.args.event c.in-Claim.session c.in-Claim.position c.in-Claim.is c.reaches.result c.reaches.ensures
+
+pub returns-else-place-ne0 : goal.returns-else-place-ne0
+returns-else-place-ne0 c = draft_stands c.args.layout.now.limits c.args.words.now c.args.now.now c.args.event c.requires.within c.requires.allowed c.in-StoreCell.session c.in-StoreCell.place c.in-StoreCell.value c.in-StoreCell.is c.if-place-ne0.false c.is_drafted.result c.is_drafted.ensures

@@ -1,0 +1,10 @@
+use Rattle.std.proofs.Common.{◌-◌, ◌≡◌, ◌≤◌, ℕ}
+use Rattle.std.specs.Prelude.{replicate}
+use Rattle.lst_core.specs.Machine.{newcomer_numbers}
+use Rattle.lst_core.proofs.cores.newcomers.Given as goal
+
+abbrev pub invariant-loop-made : goal.invariant-loop-made
+invariant-loop-made l = (l.numbers.items ≡ replicate l.made newcomer_numbers) × (l.made ≤ l.count)
+
+abbrev pub decreases-loop-made : goal.decreases-loop-made
+decreases-loop-made l = l.count - l.made

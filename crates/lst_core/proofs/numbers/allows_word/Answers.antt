@@ -1,0 +1,5 @@
+use Rattle.lst_core.proofs.Masks.{mask_some}
+use Rattle.lst_core.proofs.numbers.allows_word.Goals as goal
+
+pub overflow_sub-limits : goal.overflow_sub-limits
+overflow_sub-limits c = mask_some c.args.limits.now.columns c.requires.sized.columns.1

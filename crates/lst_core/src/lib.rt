@@ -1,0 +1,21 @@
+//! The protocol core in single steps.
+#![tactic(auto)]
+
+mod afters;
+mod allowed;
+mod chains;
+mod cores;
+mod drafts;
+mod numbers;
+mod probes;
+mod reads;
+mod steps;
+#[cfg(test)]
+mod tests;
+
+pub use afters::after;
+pub use allowed::{is_within, session_of};
+pub use cores::{Core, NotEnabled};
+pub use lst_core_state::{Event, every_run_is_sound};
+pub use numbers::{Numbers, allows};
+pub use steps::{target, written};
