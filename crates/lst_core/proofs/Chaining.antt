@@ -1,13 +1,11 @@
 -- The steps of a walk along a chain.
-use Rattle.std.proofs.Common.{◌≡◌, ◌≢◌, ◌⊎◌, ⊎_elim, ℕ, ◌+◌, ◌-◌, ◌*◌, ◌/◌, ◌%◌, ◌<◌, ◌≤◌, List, length, get_or, refl, sym, subst, ap, ◌∙◌, arith, suc, suc-mul, ◌^◌}
-use mathlib.Core.Logic.{dite}
-use native.Mathlib.Decide.{ℕ_discrete}
+use Rattle.std.proofs.Common.{◌≡◌, ◌≢◌, ℕ, ◌+◌, ◌-◌, ◌*◌, ◌/◌, ◌%◌, ◌<◌, ◌≤◌, List, sym, subst, ap, ◌∙◌, arith, suc, suc-mul, ◌^◌}
 use Rattle.lst_layout.specs.declared.limits.Limits.{Limits}
 use Rattle.lst_layout.specs.declared.place.Place.TheVariants.{LogWord, StateWord}
 use Rattle.lst_layout.specs.Limits.{IsValid}
 use Rattle.lst_layout.specs.Addresses as layout
 use Rattle.lst_layout.specs.Words.{Words, shown}
-use Rattle.lst_core_state.specs.Cells.{tail_at, tail_range, tail_count, record_count, range_of}
+use Rattle.lst_core_state.specs.Cells.{tail_at, tail_range, tail_count, record_count}
 use Rattle.lst_core_state.specs.State.{writer, writer_at, back_in, head_of}
 use Rattle.lst_core_state.proofs.CellsKept.{tail_at-some, tail_at-none}
 use Rattle.lst_core_state.proofs.Steps.{writer_odd, writer_even}

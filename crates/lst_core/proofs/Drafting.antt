@@ -1,5 +1,5 @@
 -- The words of a tail in hand.
-use Rattle.std.proofs.Common.{◌≡◌, ◌≢◌, ◌⊎◌, ⊎_elim, inl, inr, ℕ, ◌+◌, ◌-◌, ◌*◌, ◌/◌, ◌%◌, ◌^◌, ◌<◌, ◌≤◌, List, Bool, true, false, eqb, refl, sym, subst, ap, ◌∙◌, arith, true≢false, eq-eqb, ne_eqb, eqb-true}
+use Rattle.std.proofs.Common.{◌≡◌, ◌≢◌, ⊎_elim, ℕ, ◌+◌, ◌-◌, ◌*◌, ◌/◌, ◌%◌, ◌<◌, List, Bool, true, false, eqb, refl, sym, subst, ap, ◌∙◌, arith, true≢false, eq-eqb}
 use mathlib.Core.Logic.{dite}
 use native.Mathlib.Decide.{ℕ_discrete}
 use Rattle.std.specs.Prelude.{◌↔◌, IsTrue, Option, None, Some, not}
@@ -12,8 +12,8 @@ use Rattle.lst_model.specs.Histories.{row_from}
 use Rattle.lst_model.specs.Soundness.{Fits}
 use Rattle.lst_versions.specs.Lists.{acts}
 use Rattle.lst_core_state.specs.declared.known.Hold.{Hold}
-use Rattle.lst_core_state.specs.Cells.{has_bit, kind_of, mask_of, slot_of, IsCell, record_of, tail_range, act_of, listed, patched}
-use Rattle.lst_core_state.specs.State.{record_in, state_at, act_in, line, FitsAfter}
+use Rattle.lst_core_state.specs.Cells.{has_bit, kind_of, mask_of, IsCell, record_of, tail_range, act_of, listed, patched}
+use Rattle.lst_core_state.specs.State.{record_in, state_at, act_in, line}
 use Rattle.lst_core.specs.Reading.{IsPresent, IsWhole, IsKind}
 use Rattle.lst_core.proofs.Walking.{act_put, act_set, act_del}
 

@@ -1,18 +1,15 @@
 -- Words read off the row of all words.
-use Rattle.std.proofs.Common.{◌≡◌, ◌≢◌, ◌⊎◌, ⊎_elim, ℕ, ◌+◌, ◌-◌, ◌*◌, ◌/◌, ◌%◌, ◌<◌, ◌≤◌, List, length, get_or, sym, subst, ap, ◌∙◌, arith}
-use mathlib.Core.Logic.{dite}
-use native.Mathlib.Decide.{ℕ_discrete}
+use Rattle.std.proofs.Common.{◌≡◌, ℕ, ◌/◌, ◌%◌, ◌<◌, List, length, get_or, sym, ap, ◌∙◌, arith}
 use Rattle.lst_layout.specs.declared.limits.Limits.{Limits}
 use Rattle.lst_layout.specs.declared.place.Place.{Place}
-use Rattle.lst_layout.specs.declared.place.Place.TheVariants.{ClockWord, LogWord, StateWord, KeyWord, IndexWord, HeadWord, CellWord}
+use Rattle.lst_layout.specs.declared.place.Place.TheVariants.{LogWord, StateWord}
 use Rattle.lst_layout.specs.Areas.{words_of}
 use Rattle.lst_layout.specs.Addresses as layout
 use Rattle.lst_layout.specs.Addresses.{address}
 use Rattle.lst_layout.specs.Words.{Words, shown, word_at}
 use Rattle.lst_layout.proofs.Shown.{areas_are_shown}
-use Rattle.lst_core_state.specs.Cells.{tail_count}
-use Rattle.lst_core_state.specs.State.{writer_at, state_at}
-use Rattle.lst_core_state.proofs.Room.{clock_low, logged_number}
+use Rattle.lst_core_state.specs.State.{writer_at}
+use Rattle.lst_core_state.proofs.Room.{clock_low}
 use Rattle.lst_core.specs.Reading.{IsRead}
 
 pub read_at : (l : Limits) (ws : List ℕ) → length ws ≡ words_of l → (p : Place) → layout.IsWithin l p → (a x : ℕ) → a ≡ address l p → x ≡ get_or ws a 0 → x ≡ word_at (shown l ws) p

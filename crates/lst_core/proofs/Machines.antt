@@ -1,5 +1,5 @@
 -- A step on words and numbers is a step of each state that is held.
-use Rattle.std.proofs.Common.{◌≡◌, ◌≢◌, ℕ, zero, suc, ◌+◌, ◌-◌, ◌<◌, ◌≤◌, List, [], ◌∷◌, Bool, true, false, cond, eqb, length, get_or, set, refl, sym, subst, ap, ◌∙◌, arith, length-set, get_or-set_same, get_or-set_other, eq-eqb, ne_eqb}
+use Rattle.std.proofs.Common.{◌≡◌, ◌≢◌, ℕ, zero, suc, ◌+◌, ◌<◌, ◌≤◌, List, [], ◌∷◌, Bool, cond, length, get_or, set, refl, sym, subst, ap, ◌∙◌, arith, get_or-set_same, get_or-set_other, eq-eqb, ne_eqb}
 use mathlib.Core.Logic.{dite}
 use native.Mathlib.Decide.{ℕ_discrete}
 use Rattle.lst_layout.specs.declared.limits.Limits.{Limits}
@@ -18,11 +18,11 @@ use Rattle.lst_core_state.specs.Step as step
 use Rattle.lst_core_state.specs.Step.{session_of, known_of, Enabled, Stands, IsEnabled, words_after, known_after, after_own, after_merger, after}
 use Rattle.lst_core_state.specs.Sound.{Sound}
 use Rattle.lst_core_state.proofs.Functions.{put_here, put_else}
-use Rattle.lst_core_state.proofs.Keeps.{keeps, session_low}
+use Rattle.lst_core_state.proofs.Keeps.{session_low}
 use Rattle.lst_core.specs.declared.numbers.Numbers.{Numbers}
 use Rattle.lst_core.specs.Numbers.{numbers_of, place_for, written_of, numbers_after}
 use Rattle.lst_core.specs.Targets.{time_for}
-use Rattle.lst_core.specs.Machine.{Cells, number_at, Holds, IsCore, state_of, word_found, stepped}
+use Rattle.lst_core.specs.Machine.{Cells, number_at, Holds, IsCore, state_of, stepped}
 use Rattle.lst_core.proofs.Numbered.{numbers_law, look_numbers}
 use Rattle.lst_core.proofs.Stepped.{addressed, shows, with_same}
 

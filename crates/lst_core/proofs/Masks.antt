@@ -1,5 +1,5 @@
 -- The mask of all places of a cell but its start word.
-use Rattle.std.proofs.Common.{◌≡◌, ℕ, ◌+◌, ◌*◌, ◌%◌, ◌^◌, ◌<◌, ◌≤◌, subst, sym, ap, ◌∙◌, arith, mul-le-mul}
+use Rattle.std.proofs.Common.{◌≡◌, ℕ, ◌+◌, ◌*◌, ◌%◌, ◌^◌, ◌<◌, ◌≤◌, arith, mul-le-mul}
 use Rattle.std.proofs.Math.Nat.{pow-le-pow_right, mod-eq_of_lt}
 
 pub mask_bounds : (c : ℕ) → c ≤ 8 → (2 ≤ 2 ^ (3 + c)) × (2 ^ (3 + c) ≤ 2048)

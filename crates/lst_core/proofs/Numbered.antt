@@ -1,11 +1,10 @@
 -- A step on the numbers and on one word is the step on the state.
-use Rattle.std.proofs.Common.{◌≡◌, ◌≢◌, ℕ, ◌+◌, ◌-◌, ◌*◌, ◌/◌, ◌%◌, ◌^◌, ◌<◌, ◌≤◌, List, [], ◌∷◌, ◌++◌, Bool, true, false, ◌||◌, cond, eqb, nat_lt, length, get_or, set, refl, sym, subst, ap, ◌∙◌, arith, length-append, lt-ltb, ltb-true, mul-le-mul}
+use Rattle.std.proofs.Common.{◌≡◌, ℕ, ◌+◌, ◌-◌, ◌%◌, ◌<◌, List, [], ◌∷◌, ◌++◌, Bool, true, false, ◌||◌, cond, eqb, nat_lt, length, get_or, set, refl, sym, ◌∙◌, arith, length-append, lt-ltb, ltb-true}
 use Rattle.lst_layout.specs.declared.limits.Limits.{Limits}
 use Rattle.lst_layout.specs.declared.place.Place.{Place}
 use Rattle.lst_layout.specs.declared.place.Place.TheVariants.{ClockWord, CommitWord, EpochWord, RecordCounter, LogWord, BeginWord, StateWord, KeyWord, IndexWord, HeadWord, TailCounter, CellWord, DirectoryWord, FrameWord, PinWord, PostingWord}
 use Rattle.lst_layout.specs.Limits.{IsValid}
-use Rattle.lst_layout.specs.Functions.{put, put_in}
-use Rattle.lst_layout.specs.Words.{word_at, with_word}
+use Rattle.lst_layout.specs.Words.{word_at}
 use Rattle.lst_layout.specs.Addresses as layout
 use Rattle.lst_layout.specs.Addresses.{place_of}
 use Rattle.lst_model.specs.declared.acts.Write.{Write}
@@ -17,15 +16,12 @@ use Rattle.lst_core_state.specs.declared.known.Known.{Known}
 use Rattle.lst_core_state.specs.declared.known.Counter.{Counter}
 use Rattle.lst_core_state.specs.declared.known.Looks.{Looks}
 use Rattle.lst_core_state.proofs.Functions.{either}
-use Rattle.lst_core_state.specs.Cells.{record_count, tail_count, range_of}
-use Rattle.lst_core_state.specs.Index.{size}
-use Rattle.lst_core_state.specs.State.{Words, Core, rank, history_of, writes_of, counter_of, no_counter, act_in, record_in}
+use Rattle.lst_core_state.specs.Cells.{record_count}
+use Rattle.lst_core_state.specs.State.{Words, writes_of, counter_of, act_in, record_in}
 use Rattle.lst_core_state.specs.Step as step
 use Rattle.lst_core_state.specs.Step.{session_of, Enabled, Stands, words_after, known_after, look_at, served, spent, drawn_full}
-use Rattle.lst_core_state.specs.Sound.{Sound}
 use Rattle.lst_core_state.proofs.Histories.{length-history}
-use Rattle.lst_core.specs.Numbers.{numbers_of, place_for, written_of, numbers_look, numbers_after, gives_up, Allows, flags}
-use Rattle.lst_core.specs.Targets.{time_for}
+use Rattle.lst_core.specs.Numbers.{numbers_of, place_for, numbers_look, numbers_after, Allows, flags}
 use Rattle.lst_core.proofs.Flags.{flags_at, flags_set}
 
 -- ---- what the numbers allow is what the knowledge allows
@@ -103,7 +99,7 @@ module _ (l : Limits) (sized : IsValid l) (w : Words) (v : Known) (counters : le
   look_numbers (HeadWord r) is = refl
   look_numbers (TailCounter range) is = let few = sized.ranges.1 in let low : range < l.ranges = is in
       (λ i. record (numbers_of v) { served = set_served range (served l.tails (w.counts range) (counter_of v range)) is i }) ∙ (λ i. record (numbers_of v) { served = set (flags 64 v.counters) range (sym (served_is v range (omega arith)) i || nat_lt (w.counts range) l.tails) })
-  look_numbers (CellWord t p) is = λ i. record (numbers_of v) { index = either (λ (x : Looks). x.index ≡ v.looks.index) (eqb p 0) (record v.looks { start = w.cells t 0; about = record_in l w.cells t + 1 }) v.looks (λ _. refl) (λ _. refl) i }
+  look_numbers (CellWord t p) is = λ i. record (numbers_of v) { index = either (λ (x : Looks). x.index ≡ v.looks.index) (eqb p 0) (record v.looks { start = w.cells t 0; about = record_in l w.cells t + 1; tail = t }) v.looks (λ _. refl) (λ _. refl) i }
   look_numbers (DirectoryWord r c) is = refl
   look_numbers (FrameWord f p) is = refl
   look_numbers (PinWord s) is = refl

@@ -1,21 +1,19 @@
 -- A core that opens.
-use Rattle.std.proofs.Common.{◌≡◌, ℕ, zero, suc, ◌+◌, ◌-◌, ◌*◌, ◌<◌, ◌≤◌, List, [], ◌∷◌, Bool, true, false, cond, eqb, nat_le, nat_lt, ◌&&◌, length, get_or, refl, sym, subst, ap, ◌∙◌, arith, le-leb, lt-ltb, leb-true, ltb-true}
+use Rattle.std.proofs.Common.{◌≡◌, ℕ, zero, suc, ◌+◌, ◌-◌, ◌*◌, ◌<◌, ◌≤◌, List, ◌∷◌, Bool, true, false, cond, eqb, nat_le, nat_lt, ◌&&◌, length, get_or, refl, sym, ap, ◌∙◌, arith, le-leb, lt-ltb, leb-true, ltb-true}
 use Rattle.std.specs.Prelude.{replicate, if◌then◌else◌}
 use Rattle.lst_layout.specs.declared.limits.Limits.{Limits}
 use Rattle.lst_layout.specs.declared.place.Place.TheVariants.{DirectoryWord, FrameWord}
 use Rattle.lst_layout.specs.Limits.{IsValid}
 use Rattle.lst_layout.specs.Areas.{directory_start, frames_start}
 use Rattle.lst_layout.specs.Addresses.{address}
-use Rattle.lst_layout.specs.Words.{IsOpening, opening_at, shown}
+use Rattle.lst_layout.specs.Words.{IsOpening, opening_at}
 use Rattle.lst_layout.proofs.Openings.{opening_is_shown}
-use Rattle.lst_core_state.specs.declared.known.Counter.{Counter}
 use Rattle.lst_core_state.specs.State.{newcomer, no_counter}
-use Rattle.lst_core_state.specs.Step.{known_of}
 use Rattle.lst_core_state.specs.Runs.{opening}
 use Rattle.lst_core_state.proofs.Starts.{opening_sound}
 use Rattle.lst_core.specs.declared.numbers.Numbers.{Numbers}
 use Rattle.lst_core.specs.Numbers.{numbers_of, flags}
-use Rattle.lst_core.specs.Machine.{Cells, number_at, Holds, IsIdle, IsCore, newcomer_numbers}
+use Rattle.lst_core.specs.Machine.{Cells, number_at, Holds, IsCore, newcomer_numbers}
 
 module _ (l : Limits) (a start end : ℕ) (at_start : start ≡ address l (DirectoryWord 0 0)) (at_end : end ≡ address l (FrameWord 0 0)) where
   start_is : start ≡ directory_start l

@@ -1,5 +1,5 @@
 -- Walks along a key's run through the index.
-use Rattle.std.proofs.Common.{◌≡◌, ◌≢◌, ◌⊎◌, ⊎_elim, inl, inr, ℕ, ◌+◌, ◌-◌, ◌*◌, ◌%◌, ◌^◌, ◌<◌, ◌≤◌, List, Bool, true, false, refl, sym, subst, ap, ◌∙◌, arith}
+use Rattle.std.proofs.Common.{◌≡◌, ◌≢◌, ℕ, ◌+◌, ◌-◌, ◌%◌, ◌^◌, ◌<◌, ◌≤◌, List, true, sym, subst, ap, ◌∙◌, arith}
 use mathlib.Core.Logic.{dite}
 use native.Mathlib.Decide.{ℕ_discrete}
 use Rattle.lst_layout.specs.declared.limits.Limits.{Limits}
@@ -8,8 +8,8 @@ use Rattle.lst_layout.specs.Areas.{index_bits, index_positions}
 use Rattle.lst_layout.specs.Words.{Words, shown}
 use Rattle.lst_probe.specs.Run.{start_of, run_position}
 use Rattle.lst_core_state.specs.Cells.{record_count}
-use Rattle.lst_core_state.specs.Index.{size, first_of, position_of, is_placed, Passes, Reaches}
-use Rattle.lst_core_state.proofs.Positions.{size_enough, size_some, position_low, placed_says, placed_holds}
+use Rattle.lst_core_state.specs.Index.{size, first_of, position_of, is_placed, Reaches}
+use Rattle.lst_core_state.proofs.Positions.{size_enough, position_low, placed_says, placed_holds}
 use Rattle.lst_core.specs.Reading.{IsRead}
 use Rattle.lst_core.specs.Seeks.{Seeks, Comes}
 

@@ -1,24 +1,25 @@
 -- Whether the words allow a step, from what the numbers of its session are.
-use Rattle.std.proofs.Common.{◌≡◌, ◌≢◌, ℕ, ◌+◌, ◌-◌, ◌<◌, ◌≤◌, List, Bool, true, false, cond, eqb, not, refl, sym, subst, ap, ◌∙◌, arith, ne_eqb, nat_lt, lt-ltb, ltb-true}
+use Rattle.std.proofs.Common.{◌≡◌, ℕ, ◌+◌, ◌-◌, ◌<◌, List, Bool, cond, eqb, not, sym, subst, ap, ◌∙◌, arith, ne_eqb, nat_lt, lt-ltb, ltb-true}
 use Rattle.std.specs.Prelude.{◌↔◌, IsTrue}
 use Rattle.lst_layout.specs.declared.limits.Limits.{Limits}
 use Rattle.lst_layout.specs.Words.{Words, shown}
 use Rattle.lst_model.specs.declared.acts.Act.{Act}
 use Rattle.lst_versions.specs.Lists.{acts}
 use Rattle.lst_core_state.specs.declared.events.Event.{Event}
-use Rattle.lst_core_state.specs.declared.events.Event.TheVariants.{Claim, StoreCell}
+use Rattle.lst_core_state.specs.declared.events.Event.TheVariants.{Claim, DrawTail, StoreCell}
 use Rattle.lst_core_state.specs.declared.known.Known.{Known}
 use Rattle.lst_core_state.specs.declared.known.Hold.{Hold}
 use Rattle.lst_layout.specs.Areas.{index_positions}
 use Rattle.lst_core_state.specs.Index.{Reaches, size}
-use Rattle.lst_core_state.specs.State.{Core, FitsAfter, act_in, line, state_at, sight}
+use Rattle.lst_core_state.specs.State.{Core, FitsAfter, act_in, entry, line, name_of, state_at, sight}
 use Rattle.lst_core_state.specs.Step as step
 use Rattle.lst_core_state.specs.Step.{session_of, known_of, Stands, IsDrafted}
 use Rattle.lst_core_state.specs.Sound.{Sound}
 use Rattle.lst_core_state.proofs.Sightings.{judged_sight}
+use Rattle.lst_core_state.proofs.Steps.{name_entry}
 use Rattle.lst_core.specs.declared.numbers.Numbers.{Numbers}
 use Rattle.lst_core.specs.Numbers.{numbers_of, Allows}
-use Rattle.lst_core.specs.Reading.{state_over, StandsIn, IsWhole}
+use Rattle.lst_core.specs.Reading.{IsTold, state_over, StandsIn, IsWhole}
 
 module _ (l : Limits) (ws : List ℕ) (n : Numbers) (e : Event) where
   abbrev w : Words
@@ -55,6 +56,14 @@ module _ (l : Limits) (ws : List ℕ) (n : Numbers) (e : Event) where
       let own : known_of (state_over l ws known merger) s ≡ known s = ap (λ (c : Bool). cond c merger (known s)) (ne_eqb s l.sessions (λ f. omega arith)) in
       let hold : (known s).hold ≡ n.hold = ap (λ (u : Known). u.hold) (sym own) ∙ ap (λ (m : Numbers). m.hold) told in
       own_draft known merger sound s low (subst (λ (h : Hold). 0 < h.tail) (sym hold) some) p first hold b says)
+
+  -- the begin word of a session that draws a tail
+  pub draw_begun : IsTold l ws n e → step.IsWithin l e → Allows l n e → (s range : ℕ) → e ≡ DrawTail s range → entry w.begins (name_of s n.number) ≡ n.begin + 1
+  draw_begun told within ok s range is = let in_range = subst (step.IsWithin l) is within in let low : s < l.sessions = in_range.0 in let allowed = subst (Allows l n) is ok in let some : 0 < n.hold.latch = allowed.0 in
+      let c : Core = state_over l ws told.known told.merger in let v : Known = told.known s in let own : known_of c s ≡ v = ap (λ (b : Bool). cond b told.merger v) (ne_eqb s l.sessions (λ f. omega arith)) in
+      let same : numbers_of v ≡ n = ap numbers_of (sym own) ∙ (ap (λ (x : Event). numbers_of (known_of c (session_of x))) (sym is) ∙ told.numbers) in
+      let latch : v.hold.latch ≡ n.hold.latch = ap (λ (m : Numbers). m.hold.latch) same in let few = told.sound.sized.sessions.1 in
+      name_entry w.begins s n.number (omega arith) ∙ (ap (w.begins s) (sym (ap (λ (m : Numbers). m.number) same)) ∙ ((told.sound.each s low).open_begin ((told.sound.versions.hands s low).opened (omega arith)) ∙ ap (λ (m : Numbers). m.begin + 1) same))
 
 -- whether a claim is within the limits
 pub claim_within : (l : Limits) (e : Event) (s q : ℕ) → e ≡ Claim s q → s < l.sessions → (n : ℕ) → n ≡ index_positions l → IsTrue (nat_lt q n) ↔ step.IsWithin l e

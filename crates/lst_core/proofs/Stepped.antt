@@ -1,10 +1,9 @@
 -- A step's one word, what it stores there, and the words of the store after it.
-use Rattle.std.proofs.Common.{◌≡◌, ◌≢◌, ◌⊎◌, ℕ, ◌+◌, ◌-◌, ◌*◌, ◌/◌, ◌%◌, ◌^◌, ◌<◌, ◌≤◌, List, [], ◌∷◌, Bool, true, false, cond, eqb, length, refl, sym, subst, ap, ◌∙◌, arith, suc, suc-mul, mul-le-mul_right, mul-le-mul}
+use Rattle.std.proofs.Common.{◌≡◌, ℕ, ◌+◌, ◌-◌, ◌*◌, ◌^◌, ◌<◌, ◌≤◌, true, length, refl, ap, ◌∙◌, arith, suc, suc-mul, mul-le-mul_right}
 use Rattle.std.proofs.Math.Nat.{mod-eq_of_lt}
 use Rattle.lst_layout.specs.declared.limits.Limits.{Limits}
 use Rattle.lst_layout.specs.declared.place.Place.{Place}
 use Rattle.lst_layout.specs.declared.place.Place.TheVariants.{ClockWord, CommitWord, EpochWord, RecordCounter, LogWord, BeginWord, StateWord, KeyWord, IndexWord, HeadWord, TailCounter, CellWord, DirectoryWord, FrameWord, PinWord, PostingWord}
-use Rattle.lst_layout.specs.Limits.{IsValid}
 use Rattle.lst_layout.specs.Functions.{put, put_in}
 use Rattle.lst_layout.specs.Words.{word_at, with_word}
 use Rattle.lst_layout.specs.Addresses as layout
@@ -13,16 +12,16 @@ use Rattle.lst_layout.proofs.Places.{at}
 use Rattle.lst_core_state.specs.declared.events.Event.{Event}
 use Rattle.lst_core_state.specs.declared.events.Event.TheVariants.{Look, Begin, Take, Log, State, Clock, Give, Close, DrawRecord, StoreKey, Claim, Latch, DrawTail, StoreCell, Install, Release, Stamp}
 use Rattle.lst_core_state.specs.declared.known.Known.{Known}
-use Rattle.lst_core_state.specs.Cells.{record_count, tail_count, range_of}
+use Rattle.lst_core_state.specs.Cells.{record_count, tail_count}
 use Rattle.lst_core_state.specs.Index.{size}
-use Rattle.lst_core_state.specs.State.{Words, Core, rank, history_of, writes_of, counter_of, name_of}
+use Rattle.lst_core_state.specs.State.{Words, Core, rank, writes_of, counter_of, name_of}
 use Rattle.lst_core_state.specs.Step as step
 use Rattle.lst_core_state.specs.Step.{session_of, Enabled, Stands, words_after, number_in}
 use Rattle.lst_core_state.specs.Sound.{Sound}
 use Rattle.lst_core_state.proofs.Histories.{length-history}
 use Rattle.lst_core_state.proofs.IndexKept.{records_few}
 use Rattle.lst_core_state.proofs.Counters.{counter_low}
-use Rattle.lst_core_state.proofs.Room.{room, seen_few}
+use Rattle.lst_core_state.proofs.Room.{room}
 use Rattle.lst_core_state.proofs.Steady.{put_same}
 use Rattle.lst_core.specs.Numbers.{numbers_of, place_for, written_of}
 use Rattle.lst_core.specs.Targets.{time_for}

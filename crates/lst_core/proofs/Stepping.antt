@@ -1,5 +1,5 @@
 -- A step of the executable core, from any sound state that it holds.
-use Rattle.std.proofs.Common.{◌≡◌, ◌≢◌, ℕ, zero, suc, ◌+◌, ◌-◌, ◌*◌, ◌/◌, ◌<◌, ◌≤◌, ◌^◌, List, [], ◌∷◌, Bool, true, false, cond, length, get_or, set, refl, sym, subst, ap, ◌∙◌, arith, length-set, get_or-set_same, get_or-set_other, eq-eqb, ne_eqb, inl, mul-le-mul, true≢false}
+use Rattle.std.proofs.Common.{◌≡◌, ℕ, ◌+◌, ◌-◌, ◌*◌, ◌/◌, ◌<◌, ◌≤◌, ◌^◌, List, Bool, true, false, cond, length, get_or, set, refl, sym, subst, ap, ◌∙◌, arith, length-set, get_or-set_same, get_or-set_other, eq-eqb, ne_eqb, inl, mul-le-mul, true≢false}
 use Rattle.std.specs.Prelude.{◌↔◌, IsTrue}
 use mathlib.Core.Logic.{dite}
 use native.Mathlib.Decide.{ℕ_discrete}
@@ -14,8 +14,8 @@ use Rattle.lst_layout.specs.Words.{Words, shown, word_at}
 use Rattle.lst_core_state.specs.declared.events.Event.{Event}
 use Rattle.lst_core_state.specs.declared.events.Event.TheVariants.{Look, Begin, Take, Log, State, Clock, Give, Close, DrawRecord, StoreKey, Claim, Latch, DrawTail, StoreCell, Install, Release, Stamp}
 use Rattle.lst_core_state.specs.declared.known.Known.{Known}
-use Rattle.lst_core_state.specs.Cells.{record_count, tail_count, range_of, tail_at}
-use Rattle.lst_core_state.specs.State.{Core, newcomer, history_of, writes_of, line, back_in, head_of, name_of}
+use Rattle.lst_core_state.specs.Cells.{tail_count, range_of, tail_at}
+use Rattle.lst_core_state.specs.State.{Core, newcomer, history_of, writes_of, line, back_in, head_of}
 use Rattle.lst_core_state.specs.Step as step
 use Rattle.lst_core_state.specs.Step.{session_of, known_of, Enabled, Stands, IsEnabled, IsCommitted, after}
 use Rattle.lst_core_state.specs.Sound.{Sound}
@@ -29,7 +29,7 @@ use Rattle.lst_core.specs.Numbers.{numbers_of, place_for, written_of, numbers_af
 use Rattle.lst_core.specs.Targets.{time_for}
 use Rattle.lst_core.specs.Bounds.{BeginFits, TailFits, HeadFits, IsWritable}
 use Rattle.lst_core.specs.Machine.{Cells, number_at, Holds, IsIdle, IsCore, state_of, word_found, stepped}
-use Rattle.lst_core.specs.Reading.{IsRead, IsTold, StandsIn, IsStampable, state_over}
+use Rattle.lst_core.specs.Reading.{IsRead, IsTold, StandsIn, IsStampable}
 use Rattle.lst_core.proofs.Numbered.{allows_enabled, enabled_allows}
 use Rattle.lst_core.proofs.Machines.{any_default, held_is, session_few, step_holds, step_within}
 use Rattle.lst_core.proofs.Found.{read_at}

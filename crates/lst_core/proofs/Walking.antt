@@ -1,8 +1,6 @@
 -- Walks along a chain.
-use Rattle.std.proofs.Common.{◌≡◌, ◌≢◌, ◌⊎◌, ⊎_elim, inl, inr, ℕ, ◌+◌, ◌-◌, ◌*◌, ◌/◌, ◌%◌, ◌<◌, ◌≤◌, List, [], ◌∷◌, ◌++◌, Bool, true, false, cond, not, eqb, eq-eqb, ne_eqb, refl, sym, subst, ap, ◌∙◌, arith, true≢false}
-use Rattle.std.specs.Prelude.{◌↔◌, Option, None, Some, IsTrue}
-use mathlib.Core.Logic.{dite}
-use native.Mathlib.Decide.{ℕ_discrete}
+use Rattle.std.proofs.Common.{◌≡◌, ◌≢◌, ◌⊎◌, ⊎_elim, inl, inr, ℕ, ◌+◌, ◌/◌, ◌%◌, ◌<◌, ◌≤◌, List, [], ◌∷◌, ◌++◌, Bool, true, cond, not, eqb, eq-eqb, ne_eqb, refl, sym, subst, ap, ◌∙◌, arith, true≢false}
+use Rattle.std.specs.Prelude.{Option, None, Some}
 use Rattle.lst_layout.specs.declared.limits.Limits.{Limits}
 use Rattle.lst_layout.specs.Words.{Words, shown}
 use Rattle.lst_model.specs.declared.acts.Act.{Act}

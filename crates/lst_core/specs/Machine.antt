@@ -1,9 +1,9 @@
 -- The executable core: a row of words, and the numbers of each session and of the merger.
-use Rattle.std.specs.Prelude.{◌≡◌, ◌↔◌, Result, IsOk, IfOk, ℕ, ◌+◌, ◌<◌, ◌≤◌, List, Bool, length, slice_index, slice_index_or, slice_set, false, replicate}
+use Rattle.std.specs.Prelude.{◌≡◌, ◌↔◌, Result, IsOk, IfOk, ℕ, ◌+◌, ◌≤◌, List, length, slice_index, slice_index_or, slice_set, false, replicate}
 use Rattle.lst_layout.specs.declared.limits.Limits.{Limits}
 use Rattle.lst_layout.specs.Areas.{words_of}
 use Rattle.lst_layout.specs.Addresses.{address}
-use Rattle.lst_layout.specs.Words.{Words, shown, word_at}
+use Rattle.lst_layout.specs.Words.{shown, word_at}
 use Rattle.lst_core_state.specs.declared.events.Event.{Event}
 use Rattle.lst_core_state.specs.State as state
 use Rattle.lst_core_state.specs.declared.known.Known.{Known}

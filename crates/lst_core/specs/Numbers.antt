@@ -1,14 +1,13 @@
 -- The numbers of what a session knows, and each step on them.
-use Rattle.std.specs.Prelude.{◌≡◌, ℕ, zero, suc, ◌+◌, ◌-◌, ◌*◌, ◌/◌, ◌%◌, ◌^◌, ◌<◌, ◌≤◌, List, [], ◌∷◌, Bool, true, false, ◌&&◌, ◌||◌, cond, eqb, nat_lt, length, bit_or, slice_index, slice_index_or, slice_set}
+use Rattle.std.specs.Prelude.{◌≡◌, ℕ, zero, suc, ◌+◌, ◌-◌, ◌*◌, ◌/◌, ◌%◌, ◌^◌, ◌<◌, ◌≤◌, List, [], ◌∷◌, Bool, true, false, ◌&&◌, ◌||◌, cond, eqb, nat_lt, length, bit_or, slice_index_or, slice_set}
 use Rattle.lst_layout.specs.declared.limits.Limits.{Limits}
 use Rattle.lst_layout.specs.declared.place.Place.{Place}
-use Rattle.lst_layout.specs.declared.place.Place.TheVariants.{ClockWord, CommitWord, EpochWord, RecordCounter, LogWord, BeginWord, StateWord, KeyWord, IndexWord, HeadWord, TailCounter, CellWord, DirectoryWord, FrameWord, PinWord, PostingWord}
+use Rattle.lst_layout.specs.declared.place.Place.TheVariants.{ClockWord, CommitWord, RecordCounter, LogWord, BeginWord, StateWord, KeyWord, IndexWord, HeadWord, TailCounter, CellWord}
 use Rattle.lst_layout.specs.Addresses.{place_of}
 use Rattle.lst_core_state.specs.declared.events.Event.{Event}
 use Rattle.lst_core_state.specs.declared.events.Event.TheVariants.{Look, Begin, Take, Log, State, Clock, Give, Close, DrawRecord, StoreKey, Claim, Latch, DrawTail, StoreCell, Install, Release, Stamp}
 use Rattle.lst_core_state.specs.declared.known.Known.{Known}
 use Rattle.lst_core_state.specs.declared.known.Counter.{Counter}
-use Rattle.lst_core_state.specs.declared.known.Hold.{Hold}
 use Rattle.lst_core_state.specs.declared.known.Stage.TheVariants.{Away, Taken, Logged, Stated, Done}
 use Rattle.lst_core_state.specs.Cells.{record_count, range_of}
 use Rattle.lst_core_state.specs.State.{rank, name_of, no_hold}
@@ -105,7 +104,7 @@ numbers_after l (Give s) x n = record n { turn = Away }
 numbers_after l (Close s) x n = record n { is_open = false; has_writes = false }
 numbers_after l (DrawRecord s) x n = cond (nat_lt x (record_count l)) (record n { hand = x + 1; has_key = false; is_serving = false }) (record n { is_serving = false })
 numbers_after l (StoreKey s k) x n = record n { key = k; has_key = true }
-numbers_after l (Claim s q) x n = cond (eqb x 0) (record n { hand = 0; has_key = false }) n
+numbers_after l (Claim s q) x n = cond (eqb x 0) (record n { hand = 0; has_key = false }) (record n { index = x })
 numbers_after l (Latch s r) x n = cond (eqb (x % 2) 0) (record n { hold = record no_hold { latch = r + 1; head = x / 2 } }) n
 numbers_after l (DrawTail s range) x n = cond (nat_lt x l.tails)
     (record n { hold = record n.hold { tail = range * l.tails + x + 1 }; stored = 0; served = slice_set n.served range false })

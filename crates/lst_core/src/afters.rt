@@ -273,7 +273,10 @@ pub fn after(layout: &Layout, now: Numbers, event: Event, found: u64) -> Numbers
                     ..now
                 }
             } else {
-                now
+                Numbers {
+                    index: found,
+                    ..now
+                }
             }
         }
         Event::Latch { session: _, rec } => latched(now, rec, found),

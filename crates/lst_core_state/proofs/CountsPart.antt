@@ -73,7 +73,7 @@ module _ (c : Core) (sound : Sound c) where
   looks s low (DirectoryWord i n) = same s (K s) refl
   looks s low (FrameWord i n) = same s (K s) refl
   looks s low (PinWord i) = same s (K s) refl
-  looks s low (PostingWord i n) = same s (K s) refl
+  looks s low (PostingWord i n) = same s (look_at L w (K s) (PostingWord i n)) refl
 
   tails : (s range : ℕ) → s < L.sessions → Enabled L (K s) (DrawTail s range) → Parts (put w.counts range (w.counts range + 1)) s (cond (nat_lt (w.counts range) L.tails) (tail_drawn L w (K s) range) (tails_full w (K s) range))
   tails s range low ok = let counts' : ℕ → ℕ = put w.counts range (w.counts range + 1) in let here : counts' range ≡ w.counts range + 1 = put_here w.counts range (w.counts range + 1) in let knows : ℕ → Counter = λ j. counter_of (K j) range in

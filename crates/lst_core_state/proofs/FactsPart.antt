@@ -1,6 +1,6 @@
 -- What steps have found stays so.
-use Rattle.std.proofs.Common.{◌≡◌, ◌≢◌, ℕ, ◌+◌, ◌-◌, ◌%◌, ◌<◌, ◌≤◌, List, [], ◌∷◌, ◌++◌, Bool, true, false, cond, eqb, nat_lt, Contains, refl, sym, subst, ap, ◌∙◌, arith, true≢false, eqb-true, eq-eqb, ◌⊎◌, ⊎_elim, inl, inr}
-use Rattle.std.proofs.lemmas.List.Elements.{Contains-append_cases}
+use Rattle.std.proofs.Common.{◌≡◌, ◌≢◌, ℕ, zero, suc, ◌+◌, ◌-◌, ◌/◌, ◌%◌, ◌<◌, ◌≤◌, List, [], ◌∷◌, ◌++◌, Bool, true, false, cond, eqb, nat_lt, Contains, refl, sym, subst, ap, ◌∙◌, arith, true≢false, eqb-true, eq-eqb, ◌⊎◌, ⊎_elim, inl, inr}
+use Rattle.std.proofs.lemmas.List.Elements.{Contains-append_cases, Contains-append_left, Contains-append_right}
 use mathlib.Core.Logic.{dite}
 use native.Mathlib.Decide.{ℕ_discrete}
 use Rattle.lst_layout.specs.declared.limits.Limits.{Limits}
@@ -8,14 +8,15 @@ use Rattle.lst_layout.specs.Functions.{put, put_in}
 use Rattle.lst_versions.specs.Lists.{Has}
 use Rattle.lst_core_state.specs.declared.known.Known.{Known}
 use Rattle.lst_core_state.specs.declared.facts.Fact.{Fact}
-use Rattle.lst_core_state.specs.declared.facts.Fact.TheVariants.{IndexAt, StateAt, CellIs, OnChain, RecordsAtLeast, TailsAtLeast, EpochAtLeast, PostAt}
+use Rattle.lst_core_state.specs.declared.facts.Fact.TheVariants.{IndexAt, StateAt, CellIs, ChainEnds, CommitAt, RecordsAtLeast, TailsAtLeast, EpochAtLeast, PostAt}
 use Rattle.lst_core_state.specs.declared.events.Event.{Event}
 use Rattle.lst_core_state.specs.declared.events.Event.TheVariants.{Look, Begin, Take, Log, State, Clock, Give, Close, DrawRecord, StoreKey, Claim, Latch, DrawTail, StoreCell, Install, Release, Stamp}
 use Rattle.lst_layout.specs.declared.place.Place.{Place}
 use Rattle.lst_layout.specs.declared.place.Place.TheVariants.{ClockWord, CommitWord, EpochWord, RecordCounter, LogWord, BeginWord, StateWord, KeyWord, IndexWord, HeadWord, TailCounter, CellWord, DirectoryWord, FrameWord, PinWord, PostingWord}
 use Rattle.lst_core_state.specs.Cells.{record_count}
-use Rattle.lst_core_state.specs.State.{Words, Core, line}
-use Rattle.lst_core_state.specs.Facts.{IsFact, index_fact, state_fact, cell_fact, stored_fact, chain_facts}
+use Rattle.lst_core_state.specs.Index.{size}
+use Rattle.lst_core_state.specs.State.{Words, Core, line, name_of}
+use Rattle.lst_core_state.specs.Facts.{IsFact, index_fact, index_below, index_facts, state_fact, cell_fact, stored_fact, commit_fact, cell_facts, chain_facts, post_fact}
 use Rattle.lst_core_state.specs.Step.{session_of, IsWithin, Enabled, Stands, words_after, known_after, look_at, gives_up, given_up, took, held_off, record_drawn, records_full, claimed, claim_lost, latched, latch_lost, tail_drawn, tails_full, cell_started, word_stored}
 use Rattle.lst_core_state.specs.Sound.{FactsOf, Sound}
 use Rattle.lst_core_state.proofs.Functions.{either, each_put, put_here, put_else, put_in_else}
@@ -37,6 +38,8 @@ pub record Later (w w' : Words) : Type 0 where
   pub counter : w.counter ≤ w'.counter
   pub counts : (q : ℕ) → w.counts q ≤ w'.counts q
   pub epoch : w.epoch ≤ w'.epoch
+  pub clock : w.clock ≤ w'.clock
+  pub log : (t : ℕ) → 0 < t → t ≤ w.clock → w'.log t ≡ w.log t
   pub postings : (column q : ℕ) → 0 < w.postings column q → w'.postings column q ≡ w.postings column q
 
 no_facts : (l : Limits) (w : Words) → FactsOf l w []
@@ -45,14 +48,14 @@ no_facts l w f h = let low = h.1 in absurd (omega arith)
 one_fact : (l : Limits) (w : Words) (g : Fact) → IsFact l w g → FactsOf l w (g ∷ [])
 one_fact l w g is f h = subst (IsFact l w) (contains_one g f h) is
 
-more_facts : (l : Limits) (w : Words) (fs gs : List Fact) → FactsOf l w fs → FactsOf l w gs → FactsOf l w (fs ++ gs)
+pub more_facts : (l : Limits) (w : Words) (fs gs : List Fact) → FactsOf l w fs → FactsOf l w gs → FactsOf l w (fs ++ gs)
 more_facts l w fs gs a b f h = ⊎_elim (λ (i : Contains fs f). a f i) (λ (i : Contains gs f). b f i) (Contains-append_cases fs gs f h)
 
 cons_facts : (l : Limits) (w : Words) (g : Fact) (gs : List Fact) → IsFact l w g → FactsOf l w gs → FactsOf l w (g ∷ gs)
 cons_facts l w g gs a b = more_facts l w (g ∷ []) gs (one_fact l w g a) b
 
-pub index_facts : (l : Limits) (w : Words) (q : ℕ) → FactsOf l w (index_fact w q)
-index_facts l w q = either (FactsOf l w) (eqb (w.index q) 0) [] (IndexAt q (w.index q - 1) (w.keys (w.index q - 1)) ∷ []) (λ _. no_facts l w)
+pub index_is_fact : (l : Limits) (w : Words) (q : ℕ) → FactsOf l w (index_fact w q)
+index_is_fact l w q = either (FactsOf l w) (eqb (w.index q) 0) [] (IndexAt q (w.index q - 1) (w.keys (w.index q - 1)) ∷ []) (λ _. no_facts l w)
     (λ e. one_fact l w (IndexAt q (w.index q - 1) (w.keys (w.index q - 1))) (let some : w.index q ≢ 0 = (λ z. true≢false (sym (eq-eqb (w.index q) 0 z) ∙ e)) in omega arith, refl))
 
 pub state_facts : (l : Limits) (w : Words) (s n : ℕ) → FactsOf l w (state_fact w s n)
@@ -66,6 +69,26 @@ pub stored_facts : (l : Limits) (w : Words) (t : ℕ) → FactsOf l w (stored_fa
 stored_facts l w t = either (FactsOf l w) (eqb (w.cells t 0) 0) [] (cell_fact l w t ∷ []) (λ _. no_facts l w)
     (λ e. one_fact l w (cell_fact l w t) (cell_is_fact l w t (let some : w.cells t 0 ≢ 0 = (λ z. true≢false (sym (eq-eqb (w.cells t 0) 0 z) ∙ e)) in omega arith)))
 
+-- the whole index
+pub index_are_facts : (l : Limits) (w : Words) (n : ℕ) → FactsOf l w (index_below n w)
+index_are_facts l w zero = no_facts l w
+index_are_facts l w (suc n) = more_facts l w (index_below n w) (index_fact w n) (index_are_facts l w n) (index_is_fact l w n)
+
+has_at : (keys : ℕ → ℕ) (q x r : ℕ) → x ≡ r + 1 → Contains (cond (eqb x 0) [] (IndexAt q (x - 1) (keys (x - 1)) ∷ [])) (IndexAt q r (keys r))
+has_at keys q x r e = subst (λ (y : ℕ). Contains (cond (eqb x 0) [] (IndexAt q y (keys y) ∷ [])) (IndexAt q r (keys r))) (let f : r ≡ x - 1 = omega arith in f)
+    (either (λ (fs : List Fact). Contains fs (IndexAt q r (keys r))) (eqb x 0) [] (IndexAt q r (keys r) ∷ []) (λ z. let a = eqb-true x 0 z in absurd (omega arith)) (λ _. (0, omega arith, refl)))
+
+-- it has each record that some position holds
+pub index_has : (w : Words) (n q r : ℕ) → q < n → w.index q ≡ r + 1 → Contains (index_below n w) (IndexAt q r (w.keys r))
+index_has w zero q r low e = absurd (omega arith)
+index_has w (suc n) q r low e = dite (ℕ_discrete q n)
+    (λ f. Contains-append_right (index_below n w) (index_fact w n) (IndexAt q r (w.keys r)) (subst (λ (i : ℕ). Contains (index_fact w i) (IndexAt q r (w.keys r))) f (has_at w.keys q (w.index q) r e)))
+    (λ ne. Contains-append_left (index_below n w) (index_fact w n) (IndexAt q r (w.keys r)) (index_has w n q r (omega arith) e))
+
+pub post_facts : (l : Limits) (w : Words) (i q : ℕ) → FactsOf l w (post_fact w i q)
+post_facts l w i q = either (FactsOf l w) (eqb (w.postings i q) 0) [] (PostAt i q (w.postings i q) ∷ []) (λ _. no_facts l w)
+    (λ e. one_fact l w (PostAt i q (w.postings i q)) (let some : w.postings i q ≢ 0 = (λ z. true≢false (sym (eq-eqb (w.postings i q) 0 z) ∙ e)) in omega arith, refl))
+
 module _ (c : Core) (sound : Sound c) where
   abbrev L : Limits
   L = c.limits
@@ -76,28 +99,39 @@ module _ (c : Core) (sound : Sound c) where
   abbrev K : ℕ → Known
   K = c.known
 
+  -- the commit that a stamped start word tells
+  pub commit_facts : (t : ℕ) → FactsOf L w (commit_fact w.log (w.cells t 0))
+  commit_facts t = let x : ℕ = w.cells t 0 in let u : ℕ = x / 2 in let f : Fact = CommitAt u (w.log u % 16) (w.log u / 16) in
+      either (FactsOf L w) (eqb x 0) [] (cond (eqb (x % 2) 0) (f ∷ []) []) (λ _. no_facts L w)
+      (λ e. either (FactsOf L w) (eqb (x % 2) 0) (f ∷ []) []
+      (λ even. let some : x ≢ 0 = (λ z. true≢false (sym (eq-eqb x 0 z) ∙ e)) in let stamp = (sound.versions.stored t (omega arith)).stamped (eqb-true (x % 2) 0 even) in
+      one_fact L w f (stamp.0, stamp.1, (sound.times.named u stamp.0 stamp.1).session, omega arith))
+      (λ _. no_facts L w))
+
   -- all of a chain
-  pub chain_are_facts : (r : ℕ) → r < record_count L → (ys : List ℕ) → ((t : ℕ) → Has t ys → Has t (line L w r)) → FactsOf L w (chain_facts L w r ys)
-  chain_are_facts r low [] has = no_facts L w
-  chain_are_facts r low (t ∷ ts) has = cons_facts L w (OnChain r t) (cell_fact L w t ∷ chain_facts L w r ts) (low, has t (inl refl))
-      (cons_facts L w (cell_fact L w t) (chain_facts L w r ts) (cell_is_fact L w t ((sound.versions.lines r low).stored t (has t (inl refl)))) (chain_are_facts r low ts (λ x i. has x (inr i))))
+  cells_are_facts : (r : ℕ) → r < record_count L → (ys : List ℕ) → ((t : ℕ) → Has t ys → Has t (line L w r)) → FactsOf L w (cell_facts L w ys)
+  cells_are_facts r low [] has = no_facts L w
+  cells_are_facts r low (t ∷ ts) has = cons_facts L w (cell_fact L w t) (cell_facts L w ts) (cell_is_fact L w t ((sound.versions.lines r low).stored t (has t (inl refl)))) (cells_are_facts r low ts (λ x i. has x (inr i)))
+
+  pub chain_are_facts : (r : ℕ) → r < record_count L → FactsOf L w (chain_facts L w r)
+  chain_are_facts r low = cons_facts L w (ChainEnds r (line L w r)) (cell_facts L w (line L w r)) (low, ([], refl)) (cells_are_facts r low (line L w r) (λ t i. i))
 
   ends : (s x j n : ℕ) → w.states s (K s).number ≡ 0 → (put_in w.states s (K s).number x j n ≡ w.states j n) ⊎ (w.states j n ≡ 0)
-  ends s x j n zero = dite (ℕ_discrete j s)
-      (λ e. dite (ℕ_discrete n (K s).number) (λ f. inr ((λ i. w.states (e i) (f i)) ∙ zero)) (λ f. inl (put_in_else w.states s (K s).number x j n (λ _. f))))
+  ends s x j n none = dite (ℕ_discrete j s)
+      (λ e. dite (ℕ_discrete n (K s).number) (λ f. inr ((λ i. w.states (e i) (f i)) ∙ none)) (λ f. inl (put_in_else w.states s (K s).number x j n (λ _. f))))
       (λ e. inl (put_in_else w.states s (K s).number x j n (λ q. absurd (e q))))
 
   pub later : (e : Event) → session_of e < L.sessions → Enabled L (K (session_of e)) e → Later w (words_after L w (K (session_of e)) e)
-  later (Look s a) low ok = record { index = λ _ _. refl; states = λ _ _. inl refl; counter = omega arith; counts = λ _. omega arith; epoch = omega arith; postings = λ _ _ _. refl }
-  later (Begin s b r) low ok = record { index = λ _ _. refl; states = λ _ _. inl refl; counter = omega arith; counts = λ _. omega arith; epoch = omega arith; postings = λ _ _ _. refl }
-  later (Take s) low ok = record { index = λ _ _. refl; states = λ _ _. inl refl; counter = omega arith; counts = λ _. omega arith; epoch = omega arith; postings = λ _ _ _. refl }
-  later (Log s) low ok = record { index = λ _ _. refl; states = λ _ _. inl refl; counter = omega arith; counts = λ _. omega arith; epoch = omega arith; postings = λ _ _ _. refl }
-  later (State s) low ok = record { index = λ _ _. refl; states = λ j n. ends s (w.clock + 2) j n ((sound.each s low).open_state ((sound.each s low).turn_open (omega arith) (omega arith)) (λ e. omega arith)); counter = omega arith; counts = λ _. omega arith; epoch = omega arith; postings = λ _ _ _. refl }
-  later (Clock s) low ok = record { index = λ _ _. refl; states = λ _ _. inl refl; counter = omega arith; counts = λ _. omega arith; epoch = omega arith; postings = λ _ _ _. refl }
-  later (Give s) low ok = record { index = λ _ _. refl; states = λ _ _. inl refl; counter = omega arith; counts = λ _. omega arith; epoch = omega arith; postings = λ _ _ _. refl }
-  later (Close s) low ok = record { index = λ _ _. refl; states = λ j n. ends s 1 j n ((sound.each s low).open_state ok.0 (λ e. let z = ok.1 in omega arith)); counter = omega arith; counts = λ _. omega arith; epoch = omega arith; postings = λ _ _ _. refl }
-  later (DrawRecord s) low ok = record { index = λ _ _. refl; states = λ _ _. inl refl; counter = omega arith; counts = λ _. omega arith; epoch = omega arith; postings = λ _ _ _. refl }
-  later (StoreKey s k) low ok = record { index = λ _ _. refl; states = λ _ _. inl refl; counter = omega arith; counts = λ _. omega arith; epoch = omega arith; postings = λ _ _ _. refl }
+  later (Look s a) low ok = record { index = λ _ _. refl; states = λ _ _. inl refl; counter = omega arith; counts = λ _. omega arith; epoch = omega arith; clock = omega arith; log = λ _ _ _. refl; postings = λ _ _ _. refl }
+  later (Begin s b r) low ok = record { index = λ _ _. refl; states = λ _ _. inl refl; counter = omega arith; counts = λ _. omega arith; epoch = omega arith; clock = omega arith; log = λ _ _ _. refl; postings = λ _ _ _. refl }
+  later (Take s) low ok = record { index = λ _ _. refl; states = λ _ _. inl refl; counter = omega arith; counts = λ _. omega arith; epoch = omega arith; clock = omega arith; log = λ _ _ _. refl; postings = λ _ _ _. refl }
+  later (Log s) low ok = record { index = λ _ _. refl; states = λ _ _. inl refl; counter = omega arith; counts = λ _. omega arith; epoch = omega arith; clock = omega arith; log = λ t p q. put_else w.log (w.clock + 1) (name_of s (K s).number) t (λ e. omega arith); postings = λ _ _ _. refl }
+  later (State s) low ok = record { index = λ _ _. refl; states = λ j n. ends s (w.clock + 2) j n ((sound.each s low).open_state ((sound.each s low).turn_open (omega arith) (omega arith)) (λ e. omega arith)); counter = omega arith; counts = λ _. omega arith; epoch = omega arith; clock = omega arith; log = λ _ _ _. refl; postings = λ _ _ _. refl }
+  later (Clock s) low ok = record { index = λ _ _. refl; states = λ _ _. inl refl; counter = omega arith; counts = λ _. omega arith; epoch = omega arith; clock = omega arith; log = λ _ _ _. refl; postings = λ _ _ _. refl }
+  later (Give s) low ok = record { index = λ _ _. refl; states = λ _ _. inl refl; counter = omega arith; counts = λ _. omega arith; epoch = omega arith; clock = omega arith; log = λ _ _ _. refl; postings = λ _ _ _. refl }
+  later (Close s) low ok = record { index = λ _ _. refl; states = λ j n. ends s 1 j n ((sound.each s low).open_state ok.0 (λ e. let z = ok.1 in omega arith)); counter = omega arith; counts = λ _. omega arith; epoch = omega arith; clock = omega arith; log = λ _ _ _. refl; postings = λ _ _ _. refl }
+  later (DrawRecord s) low ok = record { index = λ _ _. refl; states = λ _ _. inl refl; counter = omega arith; counts = λ _. omega arith; epoch = omega arith; clock = omega arith; log = λ _ _ _. refl; postings = λ _ _ _. refl }
+  later (StoreKey s k) low ok = record { index = λ _ _. refl; states = λ _ _. inl refl; counter = omega arith; counts = λ _. omega arith; epoch = omega arith; clock = omega arith; log = λ _ _ _. refl; postings = λ _ _ _. refl }
   later (Claim s q) low ok = record {
     index = λ p some. dite (ℕ_discrete p q)
         (λ e. let x : ℕ = cond (eqb (w.index q) 0) (K s).placing.hand (w.index q) in ap (put w.index q x) e ∙ (put_here w.index q x ∙ (either (λ (y : ℕ). y ≡ w.index q) (eqb (w.index q) 0) (K s).placing.hand (w.index q)
@@ -107,14 +141,16 @@ module _ (c : Core) (sound : Sound c) where
     counter = omega arith;
     counts = λ _. omega arith;
     epoch = omega arith;
+    clock = omega arith;
+    log = λ _ _ _. refl;
     postings = λ _ _ _. refl;
   }
-  later (Latch s r) low ok = record { index = λ _ _. refl; states = λ _ _. inl refl; counter = omega arith; counts = λ _. omega arith; epoch = omega arith; postings = λ _ _ _. refl }
-  later (DrawTail s range) low ok = record { index = λ _ _. refl; states = λ _ _. inl refl; counter = omega arith; counts = each_put (λ (j x : ℕ). w.counts j ≤ x) w.counts range (w.counts range + 1) (omega arith) (λ j other. omega arith); epoch = omega arith; postings = λ _ _ _. refl }
-  later (StoreCell s p x) low ok = record { index = λ _ _. refl; states = λ _ _. inl refl; counter = omega arith; counts = λ _. omega arith; epoch = omega arith; postings = λ _ _ _. refl }
-  later (Install s) low ok = record { index = λ _ _. refl; states = λ _ _. inl refl; counter = omega arith; counts = λ _. omega arith; epoch = omega arith; postings = λ _ _ _. refl }
-  later (Release s) low ok = record { index = λ _ _. refl; states = λ _ _. inl refl; counter = omega arith; counts = λ _. omega arith; epoch = omega arith; postings = λ _ _ _. refl }
-  later (Stamp s range n) low ok = record { index = λ _ _. refl; states = λ _ _. inl refl; counter = omega arith; counts = λ _. omega arith; epoch = omega arith; postings = λ _ _ _. refl }
+  later (Latch s r) low ok = record { index = λ _ _. refl; states = λ _ _. inl refl; counter = omega arith; counts = λ _. omega arith; epoch = omega arith; clock = omega arith; log = λ _ _ _. refl; postings = λ _ _ _. refl }
+  later (DrawTail s range) low ok = record { index = λ _ _. refl; states = λ _ _. inl refl; counter = omega arith; counts = each_put (λ (j x : ℕ). w.counts j ≤ x) w.counts range (w.counts range + 1) (omega arith) (λ j other. omega arith); epoch = omega arith; clock = omega arith; log = λ _ _ _. refl; postings = λ _ _ _. refl }
+  later (StoreCell s p x) low ok = record { index = λ _ _. refl; states = λ _ _. inl refl; counter = omega arith; counts = λ _. omega arith; epoch = omega arith; clock = omega arith; log = λ _ _ _. refl; postings = λ _ _ _. refl }
+  later (Install s) low ok = record { index = λ _ _. refl; states = λ _ _. inl refl; counter = omega arith; counts = λ _. omega arith; epoch = omega arith; clock = omega arith; log = λ _ _ _. refl; postings = λ _ _ _. refl }
+  later (Release s) low ok = record { index = λ _ _. refl; states = λ _ _. inl refl; counter = omega arith; counts = λ _. omega arith; epoch = omega arith; clock = omega arith; log = λ _ _ _. refl; postings = λ _ _ _. refl }
+  later (Stamp s range n) low ok = record { index = λ _ _. refl; states = λ _ _. inl refl; counter = omega arith; counts = λ _. omega arith; epoch = omega arith; clock = omega arith; log = λ _ _ _. refl; postings = λ _ _ _. refl }
 
   -- an enabled step leaves each fact
   pub fact_stays : (e : Event) → session_of e < L.sessions → Enabled L (K (session_of e)) e → Stands L w (K (session_of e)) e → (f : Fact) → IsFact L w f → IsFact L (words_after L w (K (session_of e)) e) f
@@ -123,12 +159,13 @@ module _ (c : Core) (sound : Sound c) where
   fact_stays e low ok stands (StateAt s n x) h = (h.0, ⊎_elim (λ (same : (words_after L w (K (session_of e)) e).states s n ≡ w.states s n). same ∙ h.1) (λ (z : w.states s n ≡ 0). let a = h.0 in let b = h.1 in absurd (omega arith)) ((later e low ok).states s n))
   fact_stays e low ok stands (CellIs t x en b vs) h = let q = steady c sound e low ok stands t h.0 in let w' : Words = words_after L w (K (session_of e)) e in
       (q.stays, q.by ∙ h.1, q.words 1 (omega arith) ∙ h.2, q.words 2 (omega arith) ∙ h.3, values_same L w.cells w'.cells t q.words ∙ h.4)
-  fact_stays e low ok stands (OnChain r t) h = let w' : Words = words_after L w (K (session_of e)) e in (
+  fact_stays e low ok stands (ChainEnds r ts) h = let w' : Words = words_after L w (K (session_of e)) e in (
     h.0,
     ⊎_elim
-        (λ (same : line L w' r ≡ line L w r). subst (λ (zs : List ℕ). Has t zs) (sym same) h.1)
-        (λ (q : (x : ℕ) × (line L w' r ≡ x ∷ line L w r)). subst (λ (zs : List ℕ). Has t zs) (sym q.1) (inr h.1)) (chains_grow c sound e low ok stands r h.0),
+        (λ (same : line L w' r ≡ line L w r). (h.1.0, same ∙ h.1.1))
+        (λ (q : (x : ℕ) × (line L w' r ≡ x ∷ line L w r)). (q.0 ∷ h.1.0, q.1 ∙ ap (λ (zs : List ℕ). q.0 ∷ zs) h.1.1)) (chains_grow c sound e low ok stands r h.0),
   )
+  fact_stays e low ok stands (CommitAt t s n) h = let a = h.1 in let b = (later e low ok).clock in (h.0, omega arith, h.2, (later e low ok).log t h.0 h.1 ∙ h.3)
   fact_stays e low ok stands (RecordsAtLeast n) h = let a : n ≤ w.counter = h in let b = (later e low ok).counter in omega arith
   fact_stays e low ok stands (TailsAtLeast range n) h = let a : n ≤ w.counts range = h in let b = (later e low ok).counts range in omega arith
   fact_stays e low ok stands (EpochAtLeast n) h = let a : n ≤ w.epoch = h in let b = (later e low ok).epoch in omega arith
@@ -139,22 +176,22 @@ module _ (c : Core) (sound : Sound c) where
 
   -- what a load finds is so
   pub look_facts : (v : Known) → FactsOf L w v.facts → (p : Place) → ((r : ℕ) → p ≡ HeadWord r → r < record_count L) → FactsOf L w (look_at L w v p).facts
-  look_facts v old ClockWord low = old
+  look_facts v old ClockWord low = more_facts L w v.facts (index_facts L w) old (index_are_facts L w (size L))
   look_facts v old EpochWord low = more_facts L w v.facts (EpochAtLeast w.epoch ∷ []) old (one_fact L w (EpochAtLeast w.epoch) (omega arith))
   look_facts v old RecordCounter low = more_facts L w v.facts (RecordsAtLeast w.counter ∷ []) old (one_fact L w (RecordsAtLeast w.counter) (omega arith))
   look_facts v old (StateWord s n) low = more_facts L w v.facts (state_fact w s n) old (state_facts L w s n)
   look_facts v old (KeyWord r) low = either (λ (u : Known). FactsOf L w u.facts) (gives_up v r (w.keys r)) (given_up v) v (λ _. old) (λ _. old)
-  look_facts v old (IndexWord q) low = more_facts L w v.facts (index_fact w q) old (index_facts L w q)
-  look_facts v old (HeadWord r) low = more_facts L w v.facts (chain_facts L w r (line L w r)) old (chain_are_facts r (low r refl) (line L w r) (λ t i. i))
+  look_facts v old (IndexWord q) low = more_facts L w v.facts (index_fact w q) old (index_is_fact L w q)
+  look_facts v old (HeadWord r) low = more_facts L w v.facts (chain_facts L w r) old (chain_are_facts r (low r refl))
   look_facts v old (TailCounter range) low = more_facts L w v.facts (TailsAtLeast range (w.counts range) ∷ []) old (one_fact L w (TailsAtLeast range (w.counts range)) (omega arith))
-  look_facts v old (CellWord t p) low = more_facts L w v.facts (stored_fact L w t) old (stored_facts L w t)
+  look_facts v old (CellWord t p) low = more_facts L w v.facts (stored_fact L w t ++ commit_fact w.log (w.cells t 0)) old (more_facts L w (stored_fact L w t) (commit_fact w.log (w.cells t 0)) (stored_facts L w t) (commit_facts t))
   look_facts v old CommitWord low = old
   look_facts v old (LogWord i) low = old
   look_facts v old (BeginWord i n) low = old
   look_facts v old (DirectoryWord i n) low = old
   look_facts v old (FrameWord i n) low = old
   look_facts v old (PinWord i) low = old
-  look_facts v old (PostingWord i n) low = old
+  look_facts v old (PostingWord i n) low = more_facts L w v.facts (post_fact w i n) old (post_facts L w i n)
 
   -- the place of an address is a record's only where there is the record
   head_low : (p : Place) → layout.IsWithin L p → (r : ℕ) → p ≡ HeadWord r → r < record_count L
@@ -186,9 +223,11 @@ module _ (c : Core) (sound : Sound c) where
           (more_facts L w' (K s).facts (IndexAt q ((K s).placing.hand - 1) (K s).placing.key ∷ []) old (one_fact L w' (IndexAt q ((K s).placing.hand - 1) (K s).placing.key)
           (put_here w.index q (cond (eqb (w.index q) 0) (K s).placing.hand (w.index q)) ∙ (ap (λ (t : Bool). cond t (K s).placing.hand (w.index q)) e ∙ (omega arith)), k.1)))
       choose false e old = let w' : Words = words_after L w (K s) (Claim s q) in subst (λ (t : Bool). FactsOf L w' (cond t (claimed (K s) q) (claim_lost w (K s) q)).facts) (sym e)
-          (more_facts L w' (K s).facts (index_fact w q) old (facts_stay (Claim s q) low ok stands (index_fact w q) (index_facts L w q)))
-  new_facts (Latch s r) low within ok stands old = let w' : Words = words_after L w (K s) (Latch s r) in let now = more_facts L w' (K s).facts (chain_facts L w r (line L w r)) old (facts_stay (Latch s r) low ok stands (chain_facts L w r (line L w r)) (chain_are_facts r within.1 (line L w r) (λ t i. i))) in
-      either (λ (u : Known). FactsOf L w' u.facts) (eqb (w.heads r % 2) 0) (latched L w (K s) r) (latch_lost L w (K s) r) (λ _. now) (λ _. now)
+          (more_facts L w' (K s).facts (index_fact w q) old (facts_stay (Claim s q) low ok stands (index_fact w q) (index_is_fact L w q)))
+  new_facts (Latch s r) low within ok stands old = let w' : Words = words_after L w (K s) (Latch s r) in let chain = facts_stay (Latch s r) low ok stands (chain_facts L w r) (chain_are_facts r within.1) in
+      let all = more_facts L w' (index_facts L w) (chain_facts L w r) (facts_stay (Latch s r) low ok stands (index_facts L w) (index_are_facts L w (size L))) chain in
+      either (λ (u : Known). FactsOf L w' u.facts) (eqb (w.heads r % 2) 0) (latched L w (K s) r) (latch_lost L w (K s) r)
+      (λ _. more_facts L w' (K s).facts (index_facts L w ++ chain_facts L w r) old all) (λ _. more_facts L w' (K s).facts (chain_facts L w r) old chain)
   new_facts (DrawTail s range) low within ok stands old = let w' : Words = words_after L w (K s) (DrawTail s range) in let here : w'.counts range ≡ w.counts range + 1 = put_here w.counts range (w.counts range + 1) in
       let now = more_facts L w' (K s).facts (TailsAtLeast range (w.counts range + 1) ∷ []) old (one_fact L w' (TailsAtLeast range (w.counts range + 1)) (omega arith)) in
       either (λ (u : Known). FactsOf L w' u.facts) (nat_lt (w.counts range) L.tails) (tail_drawn L w (K s) range) (tails_full w (K s) range) (λ _. now) (λ _. now)

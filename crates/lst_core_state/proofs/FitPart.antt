@@ -112,7 +112,7 @@ module _ (c : Core) (sound : Sound c) where
   looks s a low (DirectoryWord i n) = fit_same (Look s a) low tt tt (K s) refl (λ _. refl)
   looks s a low (FrameWord i n) = fit_same (Look s a) low tt tt (K s) refl (λ _. refl)
   looks s a low (PinWord i) = fit_same (Look s a) low tt tt (K s) refl (λ _. refl)
-  looks s a low (PostingWord i n) = fit_same (Look s a) low tt tt (K s) refl (λ _. refl)
+  looks s a low (PostingWord i n) = fit_same (Look s a) low tt tt (look_at L w (K s) (PostingWord i n)) refl (λ _. refl)
 
   starts_fit : (s p x : ℕ) (low : s < L.sessions) (ok : Enabled L (K s) (StoreCell s p x)) (stands : Stands L w (K s) (StoreCell s p x)) → p ≡ 0 → FitsOf L (words_after L w (K s) (StoreCell s p x)) (cell_started L w (K s) p x)
   starts_fit s p x low ok stands first whole = let T : ℕ = (K s).hold.tail in

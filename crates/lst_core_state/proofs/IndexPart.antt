@@ -62,7 +62,7 @@ module _ (c : Core) (sound : Sound c) where
   looks s low (DirectoryWord i n) = still s (K s) low refl
   looks s low (FrameWord i n) = still s (K s) low refl
   looks s low (PinWord i) = still s (K s) low refl
-  looks s low (PostingWord i n) = still s (K s) low refl
+  looks s low (PostingWord i n) = still s (look_at L w (K s) (PostingWord i n)) low refl
 
   draws : (s : ℕ) → s < L.sessions → Enabled L (K s) (DrawRecord s) → Indexed L (w.counter + 1) w.keys w.index (λ j. (put K s (known_after L w (K s) (DrawRecord s)) j).placing)
   draws s low ok = either (λ (u : Known). Indexed L (w.counter + 1) w.keys w.index (λ j. (put K s u j).placing)) (nat_lt w.counter (record_count L)) (record_drawn w (K s)) (records_full w (K s))

@@ -1,5 +1,5 @@
 -- Each enabled step keeps all parts, and so does every list of them.
-use Rattle.std.proofs.Common.{length, length-set, ◌∙◌, ◌≡◌, ◌≢◌, ℕ, ◌<◌, List, [], ◌∷◌, Bool, cond, refl, sym, subst, ap, arith, eq-eqb, ne_eqb}
+use Rattle.std.proofs.Common.{length, length-set, ◌∙◌, ◌≡◌, ◌≢◌, ℕ, ◌<◌, List, [], ◌∷◌, Bool, false, cond, refl, sym, subst, ap, arith, eq-eqb, ne_eqb, true≢false}
 use mathlib.Core.Logic.{dite}
 use native.Mathlib.Decide.{ℕ_discrete}
 use Rattle.lst_layout.specs.declared.limits.Limits.{Limits}
@@ -27,6 +27,8 @@ use Rattle.lst_core_state.proofs.TailWordsPart.{tail_words_keeps}
 use Rattle.lst_core_state.proofs.CountsPart.{counts_keep}
 use Rattle.lst_core_state.proofs.ListedPart.{listed_keeps}
 use Rattle.lst_core_state.proofs.FactsPart.{facts_stay, looks_facts, facts_keep}
+use Rattle.lst_core_state.proofs.RecordedPart.{look_seen, recorded_keeps}
+use Rattle.lst_core_state.proofs.FoundPart.{looks_found, found_after, found_keeps}
 use Rattle.lst_core_state.proofs.Starts.{opening_sound}
 
 module _ (c : Core) (sound : Sound c) where
@@ -55,9 +57,14 @@ module _ (c : Core) (sound : Sound c) where
     counters = counts.1;
     listed = listed_keeps c sound e low ok stands;
     facts = facts_keep c sound e low within ok stands;
+    recorded = recorded_keeps c sound e low ok stands;
+    found = found_keeps c sound e low within ok;
     merger_facts = facts_stay c sound e low ok stands c.merger.facts sound.merger_facts;
     merger_seen = starts_trans (history_of L (words_after L w (K (session_of e)) e)) (history_of L w) c.merger.seen (grows c sound e low ok stands) sound.merger_seen;
     merger_counters = sound.merger_counters;
+    merger_recorded = sound.merger_recorded;
+    merger_found = found_after c sound e low ok L.sessions c.merger sound.merger_found;
+    merger_idle = sound.merger_idle;
   }
 
   merger_sees : (p : Place) → Extends (history_of L w) (look_at L w c.merger p).seen
@@ -96,6 +103,24 @@ module _ (c : Core) (sound : Sound c) where
   merger_counts (PinWord i) = sound.merger_counters
   merger_counts (PostingWord i n) = sound.merger_counters
 
+  merger_opens : (p : Place) → (look_at L w c.merger p).is_open ≡ false
+  merger_opens ClockWord = sound.merger_idle
+  merger_opens EpochWord = sound.merger_idle
+  merger_opens RecordCounter = sound.merger_idle
+  merger_opens (StateWord s n) = sound.merger_idle
+  merger_opens (KeyWord r) = either (λ (u : Known). u.is_open ≡ false) (gives_up c.merger r (w.keys r)) (given_up c.merger) c.merger (λ _. sound.merger_idle) (λ _. sound.merger_idle)
+  merger_opens (IndexWord q) = sound.merger_idle
+  merger_opens (HeadWord r) = sound.merger_idle
+  merger_opens (TailCounter range) = sound.merger_idle
+  merger_opens (CellWord t p) = sound.merger_idle
+  merger_opens CommitWord = sound.merger_idle
+  merger_opens (LogWord i) = sound.merger_idle
+  merger_opens (BeginWord i n) = sound.merger_idle
+  merger_opens (DirectoryWord i n) = sound.merger_idle
+  merger_opens (FrameWord i n) = sound.merger_idle
+  merger_opens (PinWord i) = sound.merger_idle
+  merger_opens (PostingWord i n) = sound.merger_idle
+
   -- a load by the merger
   merger_looks : (s a : ℕ) → a < words_of L → Sound (after_merger c (Look s a))
   merger_looks s a inside = record {
@@ -112,9 +137,14 @@ module _ (c : Core) (sound : Sound c) where
     counters = sound.counters;
     listed = sound.listed;
     facts = sound.facts;
+    recorded = sound.recorded;
+    found = sound.found;
     merger_facts = looks_facts c sound a inside c.merger sound.merger_facts;
     merger_seen = merger_sees (place_of L a);
     merger_counters = merger_counts (place_of L a);
+    merger_recorded = look_seen c sound c.merger sound.merger_recorded (place_of L a);
+    merger_found = looks_found c sound L.sessions c.merger (λ e. absurd (true≢false (sym e ∙ sound.merger_idle))) sound.merger_found a inside;
+    merger_idle = merger_opens (place_of L a);
   }
 
   keeps_merger : (e : Event) → IsWithin L e → session_of e ≡ L.sessions → Sound (after_merger c e)

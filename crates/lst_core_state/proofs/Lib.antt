@@ -24,6 +24,8 @@ pub mod TailWordsPart
 pub mod CountsPart
 pub mod ListedPart
 pub mod FactsPart
+pub mod RecordedPart
+pub mod FoundPart
 pub mod Starts
 pub mod Keeps
 pub mod Statements

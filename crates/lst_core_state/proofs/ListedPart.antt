@@ -112,7 +112,7 @@ module _ (c : Core) (sound : Sound c) where
   looks s a low (DirectoryWord i n) = same (Look s a) low tt tt (λ i. i) refl (K s) refl refl refl
   looks s a low (FrameWord i n) = same (Look s a) low tt tt (λ i. i) refl (K s) refl refl refl
   looks s a low (PinWord i) = same (Look s a) low tt tt (λ i. i) refl (K s) refl refl refl
-  looks s a low (PostingWord i n) = same (Look s a) low tt tt (λ i. i) refl (K s) refl refl refl
+  looks s a low (PostingWord i n) = same (Look s a) low tt tt (λ i. i) refl (look_at L w (K s) (PostingWord i n)) refl refl refl
 
   latches : (s r : ℕ) (low : s < L.sessions) (ok : Enabled L (K s) (Latch s r)) (stands : Stands L w (K s) (Latch s r)) → Listed L (words_after L w (K s) (Latch s r)) (put K s (cond (eqb (w.heads r % 2) 0) (latched L w (K s) r) (latch_lost L w (K s) r)))
   latches s r low ok stands = either (λ (u : Known). Listed L (words_after L w (K s) (Latch s r)) (put K s u)) (eqb (w.heads r % 2) 0) (latched L w (K s) r) (latch_lost L w (K s) r)

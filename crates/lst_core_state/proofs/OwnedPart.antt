@@ -66,7 +66,7 @@ module _ (c : Core) (sound : Sound c) where
   looks s a low (DirectoryWord i n) = owned_same (Look s a) low tt tt (λ i. i) (K s) (index_same L w w refl refl) refl refl refl
   looks s a low (FrameWord i n) = owned_same (Look s a) low tt tt (λ i. i) (K s) (index_same L w w refl refl) refl refl refl
   looks s a low (PinWord i) = owned_same (Look s a) low tt tt (λ i. i) (K s) (index_same L w w refl refl) refl refl refl
-  looks s a low (PostingWord i n) = owned_same (Look s a) low tt tt (λ i. i) (K s) (index_same L w w refl refl) refl refl refl
+  looks s a low (PostingWord i n) = owned_same (Look s a) low tt tt (λ i. i) (look_at L w (K s) (PostingWord i n)) (index_same L w w refl refl) refl refl refl
 
   -- the index with a claim
   pub claim_indexed : (s q : ℕ) → s < L.sessions → Enabled L (K s) (Claim s q) → Stands L w (K s) (Claim s q) → Reindexed L w (words_after L w (K s) (Claim s q))

@@ -1,10 +1,9 @@
 -- The log has room for the commit of an open transaction.
 use Rattle.std.proofs.Common.{◌≡◌, ◌≢◌, ℕ, zero, suc, ◌+◌, ◌-◌, ◌*◌, ◌/◌, ◌%◌, ◌<◌, ◌≤◌, true, sym, ap, ◌∙◌, arith, length}
 use Rattle.std.proofs.Math.Arith.{digits_div, digits_mod}
-use Rattle.lst_layout.specs.declared.limits.Limits.{Limits}
 use Rattle.lst_layout.proofs.Apart.{row_low}
 use Rattle.lst_probe.proofs.Counting.{pigeonhole}
-use Rattle.lst_core_state.specs.State.{Core, rank, history_of, writes_of}
+use Rattle.lst_core_state.specs.State.{Core, rank}
 use Rattle.lst_core_state.specs.Sound.{Sound}
 use Rattle.lst_core_state.proofs.RunsKept.{seen_low}
 

@@ -73,7 +73,7 @@ module _ (c : Core) (sound : Sound c) where
   looks s (DirectoryWord i n) = same s (K s) (sound.each s)
   looks s (FrameWord i n) = same s (K s) (sound.each s)
   looks s (PinWord i) = same s (K s) (sound.each s)
-  looks s (PostingWord i n) = same s (K s) (sound.each s)
+  looks s (PostingWord i n) = same s (look_at L w (K s) (PostingWord i n)) (sound.each s)
 
   takes : (s : ℕ) → s < L.sessions → Enabled L (K s) (Take s) → (b : Bool) → eqb w.turn 0 ≡ b → Each L (record w { turn = cond b (s + 1) w.turn }) (put K s (cond b (took (K s)) (held_off (K s))))
   takes s low ok true e = kept.take_each L w K sound.times sound.each s low (eqb-true w.turn 0 e) ok.0 ok.1

@@ -1,14 +1,14 @@
 -- The opening state is sound.
-use Rattle.std.proofs.Common.{◌≡◌, ℕ, ◌<◌, [], refl, sym, subst, ap, arith, true≢false, get_or}
+use Rattle.std.proofs.Common.{◌≡◌, ℕ, ◌<◌, [], refl, sym, subst, ap, arith, true≢false, get_or, inl}
 use Rattle.std.proofs.lemmas.List.{length-replicate, get_or-replicate}
 use Rattle.lst_layout.specs.declared.limits.Limits.{Limits}
 use Rattle.lst_layout.specs.Limits.{IsValid}
 use Rattle.lst_layout.specs.Words as layout
 use Rattle.lst_versions.specs.Lists.{Has, chain_of}
 use Rattle.lst_core_state.specs.Cells.{range_of, tail_at}
-use Rattle.lst_core_state.specs.State.{history, line, back_in, no_counter}
+use Rattle.lst_core_state.specs.State.{history, line, back_in, no_counter, newcomer}
 use Rattle.lst_core_state.specs.Runs.{opening}
-use Rattle.lst_core_state.specs.Sound.{Sound}
+use Rattle.lst_core_state.specs.Sound.{FoundOf, Sound}
 use Rattle.lst_core_state.proofs.CellsKept.{tail_at-none}
 use Rattle.lst_core_state.proofs.Positions.{placed_says}
 
@@ -104,13 +104,21 @@ module _ (l : Limits) (sized : IsValid l) where
       tails = λ range g h d. absurd (let a = d.0 in let b = d.2 in omega arith);
     };
     facts = λ s h f a. absurd (let low = a.1 in omega arith);
+    recorded = λ s h. record { seen_keys = λ k. inl refl; own_keys = λ k. inl refl; latched = λ p. absurd (omega arith) };
+    found = λ s h. blank s;
     merger_facts = λ f a. absurd (let low = a.1 in omega arith);
     merger_seen = ([], refl);
     merger_counters = length-replicate l.ranges no_counter;
+    merger_recorded = λ k. inl refl;
+    merger_found = blank l.sessions;
+    merger_idle = refl;
   }
     where
       fresh : (range : ℕ) → range < l.ranges → get_or (opening l).merger.counters range no_counter ≡ no_counter
       fresh range h = get_or-replicate l.ranges range no_counter no_counter h
+
+      blank : (s : ℕ) → FoundOf l (opening l).words (opening l).known s (newcomer l)
+      blank s = record { each = λ f a. absurd (let low = a.1 in omega arith); last = record { session = sized.sessions.0; state = λ p. absurd (omega arith); start = λ j n low e. absurd (omega arith) } }
 
       none : (r t : ℕ) → ¬ Has t (line l (layout.opening l) r)
       none r t i = subst (Has t) (no_line r) i

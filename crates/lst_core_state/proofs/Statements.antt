@@ -9,14 +9,16 @@ use Rattle.lst_model.specs.Histories.{all_acts_on, acts_on, Extends}
 use Rattle.lst_model.specs.Soundness.{IsSound, IsConflictFree}
 use Rattle.lst_versions.proofs.Lists.{judged_below}
 use Rattle.lst_core_state.specs.declared.known.Known.{Known}
+use Rattle.lst_core_state.specs.declared.facts.Fact.{Fact}
+use Rattle.lst_layout.specs.Functions.{put}
 use Rattle.lst_core_state.specs.declared.events.Event.{Event}
 use Rattle.lst_core_state.specs.declared.events.Event.TheVariants.{Look, Begin, Take, Log, State, Clock, Give, Close, DrawRecord, StoreKey, Claim, Latch, DrawTail, StoreCell, Install, Release, Stamp}
 use Rattle.lst_core_state.specs.Cells.{record_count}
 use Rattle.lst_core_state.specs.Index.{is_placed}
 use Rattle.lst_core_state.specs.State.{Words, Core, entry, writer_at, name_of, history_of, commits_of, act_in, FitsAfter}
 use Rattle.lst_core_state.specs.Step.{session_of, IsWithin, Enabled, Stands, known_of, after_own, after_merger}
-use Rattle.lst_core_state.specs.Sound.{Sound, ViewOf, FitsOf, FactsOf}
-use Rattle.lst_core_state.specs.Laws.{HistoriesAreSound, ChainsAreSights, AbsentIsUnseen, VisibleIsSeen, SeenMayGrow, with_seen, published, StepOf, StepsAreSound}
+use Rattle.lst_core_state.specs.Sound.{Sound, ViewOf, FitsOf, FactsOf, RecordedOf, FoundOf}
+use Rattle.lst_core_state.specs.Laws.{HistoriesAreSound, ChainsAreSights, AbsentIsUnseen, VisibleIsSeen, SeenMayGrow, MergerMayGrow, MayHear, heard, with_heard, published, StepOf, StepsAreSound}
 use Rattle.lst_core_state.proofs.Functions.{each_put}
 use Rattle.lst_core_state.proofs.Histories.{starts_length}
 use Rattle.lst_core_state.proofs.VersionsKept.{early_of}
@@ -33,7 +35,9 @@ use Rattle.lst_core_state.proofs.FitPart as fit
 use Rattle.lst_core_state.proofs.TailWordsPart as words
 use Rattle.lst_core_state.proofs.CountsPart as counts
 use Rattle.lst_core_state.proofs.ListedPart as listed
-use Rattle.lst_core_state.proofs.FactsPart.{fact_stays}
+use Rattle.lst_core_state.proofs.FactsPart.{fact_stays, more_facts}
+use Rattle.lst_core_state.proofs.RecordedPart.{grows_by, recorded_more}
+use Rattle.lst_core_state.proofs.FoundPart.{still, found_same}
 use Rattle.lst_core_state.proofs.Steady.{settled_stays, chains_grow}
 use Rattle.lst_core_state.proofs.Decodes.{decodes, appended}
 use Rattle.lst_core_state.proofs.Keeps.{keeps, session_low}
@@ -83,7 +87,7 @@ nothing_added : {A : Type 0} (xs ys : List A) → xs ≡ xs ++ ys → ys ≡ []
 nothing_added {A} xs [] e = refl
 nothing_added {A} xs (y ∷ ys) e = absurd (let h : length xs ≡ length (xs ++ y ∷ ys) = ap length e in let g = length-append xs (y ∷ ys) in omega arith)
 
-module _ (c : Core) (sound : Sound c) (s : ℕ) (low : s < c.limits.sessions) (seen : List Commit) (all : Extends (history_of c.limits c.words) seen) (more : Extends seen (c.known s).seen) where
+module _ (c : Core) (sound : Sound c) (s : ℕ) (low : s < c.limits.sessions) (seen : List Commit) (gs : List Fact) (may : MayHear c (c.known s) seen gs) where
   abbrev w : Words
   w = c.words
 
@@ -94,7 +98,13 @@ module _ (c : Core) (sound : Sound c) (s : ℕ) (low : s < c.limits.sessions) (s
   v = c.known s
 
   abbrev v' : Known
-  v' = record v { seen = seen }
+  v' = heard v seen gs
+
+  all : Extends (history_of c.limits c.words) seen
+  all = may.prefix
+
+  more : Extends seen (c.known s).seen
+  more = may.longer
 
   view_more : ViewOf H s v'
   view_more = let y = sound.views s low in record {
@@ -115,7 +125,7 @@ module _ (c : Core) (sound : Sound c) (s : ℕ) (low : s < c.limits.sessions) (s
   fit_more whole = let k : ℕ = w.keys (v.hold.latch - 1) in let is_on = (fit.whole_stored c sound s low whole).3 in
       subst (λ (acts : List Act). FitsAfter acts (act_in c.limits w.cells v.hold.tail)) (sym (ap (λ (l : List Commit). all_acts_on k l ++ acts_on k v.own) (front_of H seen v.seen all more v.begin ((sound.views s low).begun is_on)))) (sound.fit s low whole)
 
-  pub sees_more : Sound (with_seen c s seen)
+  pub sees_more : Sound (with_heard c s seen gs)
   sees_more = let both = counts.same c sound s v' refl in record {
     sized = sound.sized;
     times = sound.times;
@@ -129,14 +139,45 @@ module _ (c : Core) (sound : Sound c) (s : ℕ) (low : s < c.limits.sessions) (s
     counted = both.0;
     counters = both.1;
     listed = listed.same c sound (Look s 0) low tt tt (λ i. i) refl v' refl refl refl;
-    facts = each_put (λ (j : ℕ) (u : Known). j < c.limits.sessions → FactsOf c.limits w u.facts) c.known s v' (sound.facts s) (λ j other. sound.facts j);
+    facts = each_put (λ (j : ℕ) (u : Known). j < c.limits.sessions → FactsOf c.limits w u.facts) c.known s v' (λ h. more_facts c.limits w v.facts gs (sound.facts s h) may.facts) (λ j other. sound.facts j);
+    recorded = each_put (λ (j : ℕ) (u : Known). j < c.limits.sessions → RecordedOf w.keys u) c.known s v' (λ h. let r = recorded_more c sound (Look s 0) low tt s h (v.facts ++ gs) (grows_by v.facts gs) in record { seen_keys = may.keys; own_keys = r.own_keys; latched = r.latched })
+        (λ j other. sound.recorded j);
+    found = each_put (λ (j : ℕ) (u : Known). j < c.limits.sessions → FoundOf c.limits w (put c.known s v') j u) c.known s v' (λ h. found_same c sound s v' (still v) s v' (sound.found s h)) (λ j other h. found_same c sound s v' (still v) j (c.known j) (sound.found j h));
     merger_facts = sound.merger_facts;
     merger_seen = sound.merger_seen;
     merger_counters = sound.merger_counters;
+    merger_recorded = sound.merger_recorded;
+    merger_found = found_same c sound s v' (still v) c.limits.sessions c.merger sound.merger_found;
+    merger_idle = sound.merger_idle;
   }
 
 pub seen_may_grow : SeenMayGrow
-seen_may_grow c sound s low seen all more = sees_more c sound s low seen all more
+seen_may_grow c sound s low seen more may = sees_more c sound s low seen more may
+
+pub merger_may_grow : MergerMayGrow
+merger_may_grow c sound seen more may = record {
+  sized = sound.sized;
+  times = sound.times;
+  each = sound.each;
+  views = sound.views;
+  index = sound.index;
+  versions = sound.versions;
+  owned = sound.owned;
+  fit = sound.fit;
+  tail_words = sound.tail_words;
+  counted = sound.counted;
+  counters = sound.counters;
+  listed = sound.listed;
+  facts = sound.facts;
+  recorded = sound.recorded;
+  found = sound.found;
+  merger_facts = more_facts c.limits c.words c.merger.facts more sound.merger_facts may.facts;
+  merger_seen = may.prefix;
+  merger_counters = sound.merger_counters;
+  merger_recorded = may.keys;
+  merger_found = sound.merger_found;
+  merger_idle = sound.merger_idle;
+}
 
 -- ---- steps
 

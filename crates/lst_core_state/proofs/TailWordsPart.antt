@@ -90,7 +90,7 @@ module _ (c : Core) (sound : Sound c) where
   looks s low (DirectoryWord i n) = same s (K s) low (sound.tail_words.drafts s low)
   looks s low (FrameWord i n) = same s (K s) low (sound.tail_words.drafts s low)
   looks s low (PinWord i) = same s (K s) low (sound.tail_words.drafts s low)
-  looks s low (PostingWord i n) = same s (K s) low (sound.tail_words.drafts s low)
+  looks s low (PostingWord i n) = same s (look_at L w (K s) (PostingWord i n)) low (sound.tail_words.drafts s low)
 
   -- a tail that is drawn now has no words yet
   fresh : (range p : ℕ) → range < L.ranges → w.counts range < L.tails → w.cells (range * L.tails + w.counts range + 1) p ≡ 0

@@ -66,7 +66,7 @@ module _ (c : Core) (sound : Sound c) where
   looks s low (DirectoryWord i n) = quiet s (K s) low refl refl refl refl (λ z. z)
   looks s low (FrameWord i n) = quiet s (K s) low refl refl refl refl (λ z. z)
   looks s low (PinWord i) = quiet s (K s) low refl refl refl refl (λ z. z)
-  looks s low (PostingWord i n) = quiet s (K s) low refl refl refl refl (λ z. z)
+  looks s low (PostingWord i n) = quiet s (look_at L w (K s) (PostingWord i n)) low refl refl refl refl (λ z. z)
 
   takes : (s : ℕ) → s < L.sessions → Enabled L (K s) (Take s) → (turn' : ℕ) → Versions L (record w { turn = turn' }) (put K s (cond (eqb w.turn 0) (took (K s)) (held_off (K s))))
   takes s low ok turn' = either (Part (record w { turn = turn' }) s) (eqb w.turn 0) (took (K s)) (held_off (K s))

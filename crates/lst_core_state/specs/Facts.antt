@@ -1,21 +1,29 @@
--- What steps find, and what a fact says.
-use Rattle.std.specs.Prelude.{◌≡◌, ℕ, ◌+◌, ◌-◌, ◌*◌, ◌<◌, ◌≤◌, List, [], ◌∷◌, cond, eqb, nat_lt}
+-- What steps find, and what a fact and a find say.
+use Rattle.std.specs.Prelude.{◌≡◌, ◌≢◌, ◌⊎◌, ℕ, zero, suc, ◌+◌, ◌-◌, ◌*◌, ◌/◌, ◌%◌, ◌<◌, ◌≤◌, List, [], ◌∷◌, ◌++◌, true, cond, eqb, nat_lt}
+use Rattle.std.specs.List.{Contains}
 use Rattle.lst_layout.specs.declared.limits.Limits.{Limits}
-use Rattle.lst_versions.specs.Lists.{Has}
 use Rattle.lst_core_state.specs.declared.known.Known.{Known}
+use Rattle.lst_core_state.specs.declared.known.Hold.{Hold}
+use Rattle.lst_core_state.specs.declared.known.Done.{Done}
 use Rattle.lst_core_state.specs.declared.facts.Fact.{Fact}
-use Rattle.lst_core_state.specs.declared.facts.Fact.TheVariants.{IndexAt, StateAt, CellIs, OnChain, RecordsAtLeast, TailsAtLeast, EpochAtLeast, PostAt}
+use Rattle.lst_core_state.specs.declared.facts.Fact.TheVariants.{IndexAt, StateAt, CellIs, ChainEnds, CommitAt, RecordsAtLeast, TailsAtLeast, EpochAtLeast, PostAt}
 use Rattle.lst_core_state.specs.declared.facts.Find.{Find}
-use Rattle.lst_core_state.specs.declared.facts.Find.TheVariants.{UnfinishedVersion}
+use Rattle.lst_core_state.specs.declared.facts.Find.TheVariants.{UnfinishedVersion, LatchedRecord}
 use Rattle.lst_core_state.specs.State.{Words, writer_at, line, name_of}
 use Rattle.lst_core_state.specs.Cells.{listed}
+use Rattle.lst_core_state.specs.Index.{size}
+
+-- the list ends in ts
+abbrev pub Ends : List ℕ → List ℕ → Type 0
+Ends ts ys = (front : List ℕ) × (ys ≡ front ++ ts)
 
 -- a fact is so
 abbrev pub IsFact : Limits → Words → Fact → Type 0
 IsFact l w (IndexAt q r k) = (w.index q ≡ r + 1) × (w.keys r ≡ k)
 IsFact l w (StateAt s n x) = (0 < x) × (w.states s n ≡ x)
 IsFact l w (CellIs t x e b vs) = (0 < w.cells t 0) × (writer_at w t ≡ x) × (w.cells t 1 ≡ e) × (w.cells t 2 ≡ b) × (listed (w.cells t) 3 l.columns ≡ vs)
-IsFact l w (OnChain r t) = (r < 256 * l.ranges) × Has t (line l w r)
+IsFact l w (ChainEnds r ts) = (r < 256 * l.ranges) × Ends ts (line l w r)
+IsFact l w (CommitAt t s n) = (0 < t) × (t ≤ w.clock) × (s < l.sessions) × (w.log t ≡ name_of s n)
 IsFact l w (RecordsAtLeast n) = n ≤ w.counter
 IsFact l w (TailsAtLeast range n) = n ≤ w.counts range
 IsFact l w (EpochAtLeast e) = e ≤ w.epoch
@@ -27,6 +35,15 @@ IsFact l w (PostAt c q t) = (0 < t) × (w.postings c q ≡ t)
 abbrev pub index_fact : Words → ℕ → List Fact
 index_fact w q = cond (eqb (w.index q) 0) [] (IndexAt q (w.index q - 1) (w.keys (w.index q - 1)) ∷ [])
 
+-- those of the positions below n, in order
+abbrev pub index_below : ℕ → Words → List Fact
+index_below zero w = []
+index_below (suc n) w = index_below n w ++ index_fact w n
+
+-- the whole index
+abbrev pub index_facts : Limits → Words → List Fact
+index_facts l w = index_below (size l) w
+
 abbrev pub state_fact : Words → ℕ → ℕ → List Fact
 state_fact w s n = cond (eqb (w.states s n) 0) [] (StateAt s n (w.states s n) ∷ [])
 
@@ -37,10 +54,22 @@ cell_fact l w t = CellIs t (writer_at w t) (w.cells t 1) (w.cells t 2) (listed (
 abbrev pub stored_fact : Limits → Words → ℕ → List Fact
 stored_fact l w t = cond (eqb (w.cells t 0) 0) [] (cell_fact l w t ∷ [])
 
--- each tail of a chain
-abbrev pub chain_facts : Limits → Words → ℕ → List ℕ → List Fact
-chain_facts l w r [] = []
-chain_facts l w r (t ∷ ts) = OnChain r t ∷ cell_fact l w t ∷ chain_facts l w r ts
+-- the commit at the time that a start word holds, where it holds one
+abbrev pub commit_fact : (ℕ → ℕ) → ℕ → List Fact
+commit_fact log start = cond (eqb start 0) [] (cond (eqb (start % 2) 0) (CommitAt (start / 2) (log (start / 2) % 16) (log (start / 2) / 16) ∷ []) [])
+
+-- each of these tails
+abbrev pub cell_facts : Limits → Words → List ℕ → List Fact
+cell_facts l w [] = []
+cell_facts l w (t ∷ ts) = cell_fact l w t ∷ cell_facts l w ts
+
+-- a record's whole chain, and each tail of it
+abbrev pub chain_facts : Limits → Words → ℕ → List Fact
+chain_facts l w r = ChainEnds r (line l w r) ∷ cell_facts l w (line l w r)
+
+-- a posting that isn't 0
+abbrev pub post_fact : Words → ℕ → ℕ → List Fact
+post_fact w c q = cond (eqb (w.postings c q) 0) [] (PostAt c q (w.postings c q) ∷ [])
 
 -- ---- unfinished versions
 
@@ -52,10 +81,41 @@ begun v = cond v.is_open (v.begin + 1) 0
 abbrev pub about : Known → ℕ → ℕ → ℕ
 about v s n = cond (eqb v.looks.start (1 + 2 * name_of s n)) v.looks.about 0
 
+-- and its tail, or 0
+abbrev pub about_tail : Known → ℕ → ℕ → ℕ
+about_tail v s n = cond (eqb v.looks.start (1 + 2 * name_of s n)) v.looks.tail 0
+
+abbrev pub unfinished : Known → ℕ → ℕ → Find
+unfinished v s n = UnfinishedVersion (about v s n) (about_tail v s n) s n (begun v)
+
 -- a state word that is 0
 abbrev pub active_find : Known → ℕ → ℕ → ℕ → List Find
-active_find v s n state = cond (eqb state 0) (UnfinishedVersion (about v s n) s n (begun v) ∷ []) []
+active_find v s n state = cond (eqb state 0) (unfinished v s n ∷ []) []
 
 -- a clock below the time of the committed state that was loaded last
 abbrev pub early_find : Known → ℕ → List Find
-early_find v clock = cond (nat_lt (clock + 1) v.looks.state) (UnfinishedVersion (about v v.looks.session v.looks.number) v.looks.session v.looks.number (begun v) ∷ []) []
+early_find v clock = cond (nat_lt (clock + 1) v.looks.state) (unfinished v v.looks.session v.looks.number ∷ []) []
+
+-- ---- what a find says, for good
+
+-- another session than s has latched the record
+abbrev pub LatchedApart : ℕ → (ℕ → List ℕ) → ℕ → ℕ → Type 0
+LatchedApart sessions latched s r = (j : ℕ) × (j < sessions) × (j ≢ s) × Contains (latched j) r
+
+-- a session that did this, has this in hand and is at its transaction `number`, wrote the tail t of the record r by its
+-- transaction n: the tail is on the chain, or still in hand
+abbrev pub Wrote : List Done → Hold → ℕ → ℕ → ℕ → ℕ → Type 0
+Wrote done h number n r t = Contains done record { number = n; rec = r; tail = t } ⊎ ((h.tail ≡ t) × (h.is_whole ≡ true) × (h.latch ≡ r + 1) × (number ≡ n))
+
+abbrev pub WroteOf : Known → ℕ → ℕ → ℕ → Type 0
+WroteOf v n r t = Wrote v.done v.hold v.number n r t
+
+-- b isn't above the clock, and the log has this name at no time up to b
+abbrev pub UnloggedUntil : ℕ → (ℕ → ℕ) → ℕ → ℕ → Type 0
+UnloggedUntil clock log b name = (b ≤ clock) × ((t : ℕ) → 0 < t → t ≤ b → log t ≢ name)
+
+-- a find of the session s
+abbrev pub IsFind : Limits → ℕ → (ℕ → ℕ) → (ℕ → Known) → ℕ → Find → Type 0
+IsFind l clock log known s (LatchedRecord r) = LatchedApart l.sessions (λ j. (known j).latched) s r
+IsFind l clock log known s (UnfinishedVersion a t j n b) = (j < l.sessions) × (0 < a → WroteOf (known j) n (a - 1) t) × (0 < b → UnloggedUntil clock log (b - 1) (name_of j n))
+IsFind l clock log known s f = Unit {0}

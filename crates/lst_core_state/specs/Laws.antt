@@ -15,7 +15,7 @@ use Rattle.lst_core_state.specs.Index.{is_placed}
 use Rattle.lst_core_state.specs.State.{Words, Core, entry, writer_at, state_at, name_of, line, record_in, act_in, history_of, sight, is_visible}
 use Rattle.lst_core_state.specs.Step.{session_of, IsWithin, IsEnabled, after}
 use Rattle.lst_core_state.specs.Facts.{IsFact}
-use Rattle.lst_core_state.specs.Sound.{Sound}
+use Rattle.lst_core_state.specs.Sound.{FactsOf, SeenIsRecorded, Sound}
 
 -- ---- every state
 
@@ -55,12 +55,27 @@ abbrev pub VisibleIsSeen : Type 0
 VisibleIsSeen = (c : Core) → Sound c → (s : ℕ) → s < c.limits.sessions → (c.known s).is_open ≡ true → (x : ℕ) → x % 16 < c.limits.sessions
     → (is_until (c.known s).begin (entry c.words.states x) ≡ true) ↔ Names (take (c.known s).begin (c.known s).seen) (x % 16) (x / 16)
 
--- what a session has seen may be lengthened to any longer front of the history
-abbrev pub with_seen : Core → ℕ → List Commit → Core
-with_seen c s seen = record c { known = put c.known s (record (c.known s) { seen = seen }) }
+-- what a session has heard of the history, with more facts
+abbrev pub heard : Known → List Commit → List Fact → Known
+heard v seen more = record v { seen = seen; facts = v.facts ++ more }
+
+abbrev pub with_heard : Core → ℕ → List Commit → List Fact → Core
+with_heard c s seen more = record c { known = put c.known s (heard (c.known s) seen more) }
+
+-- what a session has seen may be lengthened to any longer front of the history, with facts that are so and have the record
+-- of each key that it wrote
+pub record MayHear (c : Core) (v : Known) (seen : List Commit) (more : List Fact) : Type 0 where
+  pub prefix : Extends (history_of c.limits c.words) seen
+  pub longer : Extends seen v.seen
+  pub facts : FactsOf c.limits c.words more
+  pub keys : SeenIsRecorded (v.facts ++ more) seen
 
 abbrev pub SeenMayGrow : Type 0
-SeenMayGrow = (c : Core) → Sound c → (s : ℕ) → s < c.limits.sessions → (seen : List Commit) → Extends (history_of c.limits c.words) seen → Extends seen (c.known s).seen → Sound (with_seen c s seen)
+SeenMayGrow = (c : Core) → Sound c → (s : ℕ) → s < c.limits.sessions → (seen : List Commit) (more : List Fact) → MayHear c (c.known s) seen more → Sound (with_heard c s seen more)
+
+-- and so may what the merger has seen
+abbrev pub MergerMayGrow : Type 0
+MergerMayGrow = (c : Core) → Sound c → (seen : List Commit) (more : List Fact) → MayHear c c.merger seen more → Sound (record c { merger = heard c.merger seen more })
 
 -- ---- every step
 

@@ -6,7 +6,7 @@ use Rattle.lst_layout.specs.Limits.{IsValid}
 use Rattle.lst_model.specs.declared.acts.Act.{Act}
 use Rattle.lst_model.specs.declared.acts.Write.{Write}
 use Rattle.lst_model.specs.declared.commits.Commit.{Commit}
-use Rattle.lst_model.specs.Histories.{acts_on, Extends}
+use Rattle.lst_model.specs.Histories.{acts_on, all_acts_on, Extends}
 use Rattle.lst_versions.specs.Lists.{Has, Links, acts, Below, Ordered, Fitting}
 use Rattle.lst_versions.specs.Writes.{Rising}
 use Rattle.lst_core_state.specs.declared.known.Known.{Known}
@@ -15,11 +15,14 @@ use Rattle.lst_core_state.specs.declared.known.Placing.{Placing}
 use Rattle.lst_core_state.specs.declared.known.Hold.{Hold}
 use Rattle.lst_core_state.specs.declared.known.Draft.{Draft}
 use Rattle.lst_core_state.specs.declared.known.Done.{Done}
+use Rattle.lst_core_state.specs.declared.known.Looks.{Looks}
 use Rattle.lst_core_state.specs.declared.facts.Fact.{Fact}
+use Rattle.lst_core_state.specs.declared.facts.Fact.TheVariants.{IndexAt}
+use Rattle.lst_core_state.specs.declared.facts.Find.{Find}
 use Rattle.lst_core_state.specs.Cells.{record_count, tail_count, range_of, tail_at, IsCell}
 use Rattle.lst_core_state.specs.Index.{size, position_of, is_placed}
 use Rattle.lst_core_state.specs.State.{Words, Core, rank, history_of, commits_of, entry, writer, writer_at, name_of, line, record_in, act_in, back_in, head_of, starts, sight, FitsAfter, counter_of}
-use Rattle.lst_core_state.specs.Facts.{IsFact}
+use Rattle.lst_core_state.specs.Facts.{IsFact, IsFind, WroteOf}
 
 -- ---- the log, the clock, and each session's transactions and turn
 
@@ -256,6 +259,37 @@ pub record Listed (l : Limits) (w : Words) (known : ℕ → Known) : Type 0 wher
 abbrev pub FactsOf : Limits → Words → List Fact → Type 0
 FactsOf l w facts = (f : Fact) → Contains facts f → IsFact l w f
 
+-- some fact has the key's record
+abbrev pub IsRecorded : List Fact → ℕ → Type 0
+IsRecorded facts k = (q : ℕ) × (r : ℕ) × Contains facts (IndexAt q r k)
+
+-- of each key that these commits wrote
+abbrev pub SeenIsRecorded : List Fact → List Commit → Type 0
+SeenIsRecorded facts seen = (k : ℕ) → (all_acts_on k seen ≡ []) ⊎ IsRecorded facts k
+
+-- the facts have the record of each key that was seen or is own, and the record of the latch in hand, which has this key
+pub record Recorded (facts : List Fact) (seen : List Commit) (own : List Write) (latch key : ℕ) : Type 0 where
+  pub seen_keys : SeenIsRecorded facts seen
+  pub own_keys : (k : ℕ) → (acts_on k own ≡ []) ⊎ IsRecorded facts k
+  pub latched : 0 < latch → (q : ℕ) × Contains facts (IndexAt q (latch - 1) key)
+
+abbrev pub RecordedOf : (ℕ → ℕ) → Known → Type 0
+RecordedOf keys v = Recorded v.facts v.seen v.own v.hold.latch (keys (v.hold.latch - 1))
+
+-- what the words that were loaded last say, for good
+pub record Looked (l : Limits) (states : ℕ → ℕ → ℕ) (known : ℕ → Known) (k : Looks) : Type 0 where
+  pub session : k.session < l.sessions
+  pub state : 0 < k.state → states k.session k.number ≡ k.state
+  pub start : (j n : ℕ) → j < l.sessions → k.start ≡ 1 + 2 * name_of j n → WroteOf (known j) n (k.about - 1) k.tail
+
+-- what the session s found is so
+pub record Found (l : Limits) (clock : ℕ) (log : ℕ → ℕ) (states : ℕ → ℕ → ℕ) (known : ℕ → Known) (s : ℕ) (finds : List Find) (k : Looks) : Type 0 where
+  pub each : (f : Find) → Contains finds f → IsFind l clock log known s f
+  pub last : Looked l states known k
+
+abbrev pub FoundOf : Limits → Words → (ℕ → Known) → ℕ → Known → Type 0
+FoundOf l w known s v = Found l w.clock w.log w.states known s v.finds v.looks
+
 -- ---- all parts
 
 pub record Sound (c : Core) : Type 0 where
@@ -272,6 +306,11 @@ pub record Sound (c : Core) : Type 0 where
   pub counters : HasCounters c.limits c.known
   pub listed : Listed c.limits c.words c.known
   pub facts : (s : ℕ) → s < c.limits.sessions → FactsOf c.limits c.words (c.known s).facts
+  pub recorded : (s : ℕ) → s < c.limits.sessions → RecordedOf c.words.keys (c.known s)
+  pub found : (s : ℕ) → s < c.limits.sessions → FoundOf c.limits c.words c.known s (c.known s)
   pub merger_facts : FactsOf c.limits c.words c.merger.facts
   pub merger_seen : Extends (history_of c.limits c.words) c.merger.seen
   pub merger_counters : length c.merger.counters ≡ c.limits.ranges
+  pub merger_recorded : SeenIsRecorded c.merger.facts c.merger.seen
+  pub merger_found : FoundOf c.limits c.words c.known c.limits.sessions c.merger
+  pub merger_idle : c.merger.is_open ≡ false

@@ -40,7 +40,7 @@ abbrev pub no_draft : Draft
 no_draft = record { words = []; stored = 0; posted = 0 }
 
 abbrev pub no_looks : Looks
-no_looks = record { index = 0; start = 0; about = 0; state = 0; session = 0; number = 0 }
+no_looks = record { index = 0; start = 0; about = 0; tail = 0; state = 0; session = 0; number = 0 }
 
 abbrev pub newcomer : Limits → Known
 newcomer l = record {

@@ -9,7 +9,7 @@ use Rattle.lst_versions.specs.Writes.{write, commit}
 use Rattle.lst_core_state.specs.declared.events.Event.{Event}
 use Rattle.lst_core_state.specs.declared.events.Event.TheVariants.{Look, Begin, Take, Log, State, Clock, Give, Close, DrawRecord, StoreKey, Claim, Latch, DrawTail, StoreCell, Install, Release, Stamp}
 use Rattle.lst_layout.specs.declared.place.Place.{Place}
-use Rattle.lst_layout.specs.declared.place.Place.TheVariants.{ClockWord, EpochWord, RecordCounter, StateWord, KeyWord, IndexWord, HeadWord, TailCounter, CellWord}
+use Rattle.lst_layout.specs.declared.place.Place.TheVariants.{ClockWord, EpochWord, RecordCounter, StateWord, KeyWord, IndexWord, HeadWord, TailCounter, CellWord, PostingWord}
 use Rattle.lst_core_state.specs.declared.facts.Fact.TheVariants.{RecordsAtLeast, TailsAtLeast, EpochAtLeast, IndexAt}
 use Rattle.lst_core_state.specs.declared.facts.Find.{Find}
 use Rattle.lst_core_state.specs.declared.facts.Find.TheVariants.{LatchedRecord, FreshClock, FreshEpoch, HeldTurn, FullRecords, FullTails, CountedTails, EmptyStart, TailLoad}
@@ -21,7 +21,7 @@ use Rattle.lst_core_state.specs.Cells.{record_count, range_of, IsCell}
 use Rattle.lst_core_state.specs.Index.{size, is_placed, Reaches}
 use Rattle.lst_core_state.specs.State.{Words, Core, rank, name_of, entry, writer_at, state_at, line, record_in, act_in, history_of, sight, FitsAfter, no_hold, counter_of}
 use Rattle.lst_layout.specs.Addresses.{place_of}
-use Rattle.lst_core_state.specs.Facts.{index_fact, state_fact, cell_fact, stored_fact, chain_facts, active_find, early_find}
+use Rattle.lst_core_state.specs.Facts.{index_fact, index_facts, state_fact, cell_fact, stored_fact, commit_fact, chain_facts, post_fact, active_find, early_find}
 
 abbrev pub session_of : Event → ℕ
 session_of (Look s a) = s
@@ -151,7 +151,7 @@ given_up v = record v { placing = record v.placing { hand = 0; has_key = false }
 
 -- a load, by what lies at the address
 abbrev pub look_at : Limits → Words → Known → Place → Known
-look_at l w v ClockWord = record v { seen = history_of l w; turn = refreshed v.turn; finds = v.finds ++ FreshClock w.clock ∷ early_find v w.clock }
+look_at l w v ClockWord = record v { seen = history_of l w; turn = refreshed v.turn; facts = v.facts ++ index_facts l w; finds = v.finds ++ FreshClock w.clock ∷ early_find v w.clock }
 look_at l w v EpochWord = record v { facts = v.facts ++ EpochAtLeast w.epoch ∷ []; finds = v.finds ++ FreshEpoch w.epoch ∷ [] }
 look_at l w v RecordCounter = record v {
   placing = record v.placing { counter = served (record_count l) w.counter v.placing.counter };
@@ -165,17 +165,18 @@ look_at l w v (StateWord s n) = record v {
 }
 look_at l w v (KeyWord r) = cond (gives_up v r (w.keys r)) (given_up v) v
 look_at l w v (IndexWord q) = record v { facts = v.facts ++ index_fact w q; looks = record v.looks { index = w.index q } }
-look_at l w v (HeadWord r) = record v { facts = v.facts ++ chain_facts l w r (line l w r) }
+look_at l w v (HeadWord r) = record v { facts = v.facts ++ chain_facts l w r }
 look_at l w v (TailCounter range) = record v {
   counters = slice_set v.counters range (served l.tails (w.counts range) (counter_of v range));
   facts = v.facts ++ TailsAtLeast range (w.counts range) ∷ [];
   finds = v.finds ++ CountedTails range (w.counts range) ∷ if_full l.tails (w.counts range) (FullTails range);
 }
 look_at l w v (CellWord t p) = record v {
-  facts = v.facts ++ stored_fact l w t;
+  facts = v.facts ++ (stored_fact l w t ++ commit_fact w.log (w.cells t 0));
   finds = v.finds ++ TailLoad t ∷ cond (eqb p 0 && eqb (w.cells t 0) 0) (EmptyStart t ∷ []) [];
-  looks = cond (eqb p 0) (record v.looks { start = w.cells t 0; about = record_in l w.cells t + 1 }) v.looks;
+  looks = cond (eqb p 0) (record v.looks { start = w.cells t 0; about = record_in l w.cells t + 1; tail = t }) v.looks;
 }
+look_at l w v (PostingWord c q) = record v { facts = v.facts ++ post_fact w c q }
 look_at l w v _ = v
 
 -- the two ways in which a step may go, where it can go in two
@@ -202,17 +203,17 @@ abbrev pub claimed : Known → ℕ → Known
 claimed v q = record v { placing = record v.placing { hand = 0; has_key = false }; facts = v.facts ++ IndexAt q (v.placing.hand - 1) v.placing.key ∷ [] }
 
 abbrev pub claim_lost : Words → Known → ℕ → Known
-claim_lost w v q = record v { facts = v.facts ++ index_fact w q }
+claim_lost w v q = record v { facts = v.facts ++ index_fact w q; looks = record v.looks { index = w.index q } }
 
 abbrev pub latched : Limits → Words → Known → ℕ → Known
 latched l w v r = record v {
   hold = record no_hold { latch = r + 1; head = w.heads r / 2 };
   latched = v.latched ++ r ∷ [];
-  facts = v.facts ++ chain_facts l w r (line l w r);
+  facts = v.facts ++ (index_facts l w ++ chain_facts l w r);
 }
 
 abbrev pub latch_lost : Limits → Words → Known → ℕ → Known
-latch_lost l w v r = record v { facts = v.facts ++ chain_facts l w r (line l w r); finds = v.finds ++ LatchedRecord r ∷ [] }
+latch_lost l w v r = record v { facts = v.facts ++ chain_facts l w r; finds = v.finds ++ LatchedRecord r ∷ [] }
 
 abbrev pub tail_drawn : Limits → Words → Known → ℕ → Known
 tail_drawn l w v range = record v {

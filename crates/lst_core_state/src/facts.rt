@@ -24,10 +24,16 @@ pub enum Fact {
         back: u64,
         values: LinkedList<u64>,
     },
-    /// The tail is on the record's chain.
-    OnChain {
+    /// The record's chain, newest first, ends in these tails.
+    ChainEnds {
         rec: u32,
-        tail: u32,
+        tails: LinkedList<u32>,
+    },
+    /// The log names this transaction at the time, which isn't above the clock.
+    CommitAt {
+        time: u64,
+        session: u32,
+        number: u32,
     },
     /// The record counter is at least this.
     RecordsAtLeast {
@@ -66,9 +72,11 @@ pub enum Find {
         epoch: u64,
     },
     /// The transaction was neither closed nor committed by the clock. `about` is one more than the record of the version
-    /// that was at hand, or 0; `begin` is one more than the finder's begin, or 0 where it had no transaction.
+    /// that was at hand, and `tail` its tail, or both are 0; `begin` is one more than the finder's begin, or 0 where it
+    /// had no transaction.
     UnfinishedVersion {
         about: u32,
+        tail: u32,
         session: u32,
         number: u32,
         begin: u64,

@@ -79,9 +79,10 @@ pub struct Done {
 pub struct Looks {
     /// The index word.
     pub index: u64,
-    /// The start word of a tail, and one more than the tail's record.
+    /// The start word of a tail, one more than the tail's record, and the tail.
     pub start: u64,
     pub about: u32,
+    pub tail: u32,
     /// The state word of a transaction, and whose it was.
     pub state: u64,
     pub session: u32,

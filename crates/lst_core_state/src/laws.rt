@@ -1,5 +1,5 @@
 //! The laws of the protocol. Each function is a law: its contract holds at all values, and its body does nothing.
-ghost use Rattle.lst_core_state.specs.Laws.{HistoriesAreSound, ChainsAreSights, AbsentIsUnseen, VisibleIsSeen, SeenMayGrow, StepsAreSound};
+ghost use Rattle.lst_core_state.specs.Laws.{HistoriesAreSound, ChainsAreSights, AbsentIsUnseen, VisibleIsSeen, SeenMayGrow, MergerMayGrow, StepsAreSound};
 ghost use Rattle.lst_core_state.specs.Runs.{EveryRunIsSound};
 
 /// Every list of enabled events, from the opening state of a store with any limits, leads to a sound state.
@@ -33,7 +33,8 @@ pub fn visible_is_seen()
     ensures { VisibleIsSeen }
 {}
 
-/// A state stays sound where a session has seen more of the history.
+/// A state stays sound where a session has seen more of the history and has more facts, and so it does for the merger.
 pub fn seen_may_grow()
-    ensures { SeenMayGrow }
+    ensures sessions { SeenMayGrow }
+    ensures merger { MergerMayGrow }
 {}

@@ -1,5 +1,8 @@
-use Rattle.lst_core.proofs.Standing.{claim_stands, draft_stands}
+use Rattle.lst_core.proofs.Standing.{claim_stands, draft_stands, draw_begun}
 use Rattle.lst_core.proofs.allowed.stands.Goals as goal
+
+pub is_judged-requires-clause-begin : goal.is_judged-requires-clause-begin
+is_judged-requires-clause-begin c = draw_begun c.args.layout.now.limits c.args.words.now c.args.now.now c.args.event c.requires.told c.requires.within c.requires.allowed c.in-DrawTail.session c.in-DrawTail.range c.in-DrawTail.is
 
 pub returns-in-Claim : goal.returns-in-Claim
 returns-in-Claim c = claim_stands c.args.layout.now.limits c.args.words.now c.args.now.now c.args.event c.in-Claim.session c.in-Claim.position c.in-Claim.is c.reaches.result c.reaches.ensures

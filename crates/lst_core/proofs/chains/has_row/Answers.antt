@@ -1,4 +1,4 @@
-use Rattle.std.proofs.Common.{◌<◌, ◌≡◌, ◌≢◌, ℕ, Bool, true, false, not, eqb, subst, sym, refl, ap, ◌∙◌, arith, true≢false, eq-eqb, ne_eqb}
+use Rattle.std.proofs.Common.{◌<◌, ℕ, subst, sym, arith, true≢false}
 use Rattle.lst_layout.specs.Words.{shown}
 use Rattle.lst_core.proofs.Walking.{rows_start, walk_tail, walk_stored, walk_falls, row_here, rows_closed, rows_none, kind_true}
 use Rattle.lst_core.proofs.chains.has_row.Goals as goal

@@ -1,4 +1,4 @@
-use Rattle.std.proofs.Common.{◌<◌, ℕ, subst, sym, true, refl, arith}
+use Rattle.std.proofs.Common.{◌<◌, ℕ, subst, sym, refl}
 use Rattle.lst_layout.specs.Words.{shown}
 use Rattle.lst_core.proofs.Walking.{judges_start, walk_tail, walk_stored, walk_falls, judged_here, judged_closed, judged_end}
 use Rattle.lst_core.proofs.chains.is_judged.Goals as goal

@@ -1,6 +1,5 @@
-use Rattle.std.proofs.Common.{◌≤◌, ◌/◌, ap, subst, sym, ℕ, ◌∙◌, arith}
+use Rattle.std.proofs.Common.{◌/◌, ap, ℕ, arith}
 use Rattle.lst_layout.specs.Words.{shown}
-use Rattle.lst_core_state.specs.Cells.{tail_count}
 use Rattle.lst_core.proofs.Chaining.{head_some, head_none, newest_few, fits_tail}
 use Rattle.lst_core.proofs.chains.newest.Goals as goal
 

@@ -1,6 +1,5 @@
-use Rattle.std.proofs.Common.{◌≤◌, ◌<◌, subst, sym, ℕ, ◌∙◌, arith}
+use Rattle.std.proofs.Common.{arith}
 use Rattle.lst_layout.specs.Words.{shown}
-use Rattle.lst_core_state.specs.Cells.{tail_count}
 use Rattle.lst_core.proofs.Chaining.{back_some, back_none, fits_tail}
 use Rattle.lst_core.proofs.chains.older.Goals as goal
 

@@ -1,4 +1,4 @@
-use Rattle.std.proofs.Common.{◌-◌, ◌≡◌, ◌≤◌, ℕ}
+use Rattle.std.proofs.Common.{◌-◌, ◌≡◌, ◌≤◌}
 use Rattle.std.specs.Prelude.{replicate}
 use Rattle.lst_core.specs.Machine.{newcomer_numbers}
 use Rattle.lst_core.proofs.cores.newcomers.Given as goal

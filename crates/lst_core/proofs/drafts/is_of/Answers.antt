@@ -1,4 +1,4 @@
-use Rattle.std.proofs.Common.{◌≡◌, ◌∙◌, sym, ◌+◌, ◌*◌, ◌/◌, ◌-◌, eq-eqb, eqb-true}
+use Rattle.std.proofs.Common.{◌∙◌, sym, ◌+◌, ◌*◌, ◌/◌, ◌-◌, eq-eqb, eqb-true}
 use Rattle.lst_layout.specs.Words.{shown}
 use Rattle.lst_core.proofs.Drafting.{record_is}
 use Rattle.lst_core.proofs.drafts.is_of.Goals as goal

@@ -1,5 +1,5 @@
 use Rattle.std.proofs.Common.{refl, sym, true≢false, ◌∙◌, arith}
-use Rattle.lst_core.proofs.Probing.{reached, ended, empty_stops, same_stops, more_comes, word_low}
+use Rattle.lst_core.proofs.Probing.{reached, ended}
 use Rattle.lst_core.proofs.probes.reaches.Goals as goal
 
 pub returns-then-position-goal : goal.returns-then-position-goal
