@@ -37,7 +37,7 @@ use Rattle.lst_core.proofs.Walking.{first_link}
 
 -- ---- bounds
 
-begin_fits : (l : Limits) (n : Numbers) (e : Event) → Allows l n e → BeginFits n e
+pub begin_fits : (l : Limits) (n : Numbers) (e : Event) → Allows l n e → BeginFits n e
 begin_fits l n (Look s a) ok = tt
 begin_fits l n (Begin s b r) ok = ok.2
 begin_fits l n (Take s) ok = tt
@@ -56,7 +56,7 @@ begin_fits l n (Install s) ok = tt
 begin_fits l n (Release s) ok = tt
 begin_fits l n (Stamp s range t) ok = tt
 
-tail_fits : (l : Limits) (n : Numbers) (e : Event) → Allows l n e → (n.hold.is_whole ≡ true → (range_of (n.hold.latch - 1) * l.tails < n.hold.tail) × (n.hold.tail ≤ range_of (n.hold.latch - 1) * l.tails + l.tails) × (0 < n.hold.latch)) → TailFits l n e
+pub tail_fits : (l : Limits) (n : Numbers) (e : Event) → Allows l n e → (n.hold.is_whole ≡ true → (range_of (n.hold.latch - 1) * l.tails < n.hold.tail) × (n.hold.tail ≤ range_of (n.hold.latch - 1) * l.tails + l.tails) × (0 < n.hold.latch)) → TailFits l n e
 tail_fits l n (Look s a) ok h = tt
 tail_fits l n (Begin s b r) ok h = tt
 tail_fits l n (Take s) ok h = tt
@@ -75,7 +75,7 @@ tail_fits l n (Install s) ok h = h ok
 tail_fits l n (Release s) ok h = tt
 tail_fits l n (Stamp s range t) ok h = tt
 
-head_fits : (l : Limits) (n : Numbers) (e : Event) → Allows l n e → (0 < n.hold.latch → n.hold.head < 2 ^ 32) → HeadFits n e
+pub head_fits : (l : Limits) (n : Numbers) (e : Event) → Allows l n e → (0 < n.hold.latch → n.hold.head < 2 ^ 32) → HeadFits n e
 head_fits l n (Look s a) ok h = tt
 head_fits l n (Begin s b r) ok h = tt
 head_fits l n (Take s) ok h = tt
@@ -197,10 +197,10 @@ time_low w l (Install s) h = omega arith
 time_low w l (Release s) h = omega arith
 time_low w l (Stamp s range n) h = let a = h.1 in let b = h.2 in omega arith
 
-rows_few : (l : Limits) → IsValid l → l.sessions * l.txns < 2 ^ 32
+pub rows_few : (l : Limits) → IsValid l → l.sessions * l.txns < 2 ^ 32
 rows_few l sized = let a = sized.sessions.1 in let b = sized.txns.1 in let h : l.sessions * l.txns ≤ 16 * 65535 = mul-le-mul a b in omega arith
 
-tails_few : (l : Limits) → IsValid l → tail_count l < 2 ^ 32
+pub tails_few : (l : Limits) → IsValid l → tail_count l < 2 ^ 32
 tails_few l sized = let a = sized.ranges.1 in let b = sized.tails.1 in let h : l.ranges * l.tails ≤ 64 * 16384 = mul-le-mul a b in omega arith
 
 -- ---- the step

@@ -43,7 +43,7 @@ fn gives_up(now: &Numbers, rec: u32, found: u64) -> bool
 }
 
 /// The numbers after a load of the word at a place.
-fn looked(limits: &Limits, now: Numbers, place: Place, found: u64) -> Numbers
+pub fn looked(limits: &Limits, now: Numbers, place: Place, found: u64) -> Numbers
     requires sized { IsValid limits.now }
     requires place { addresses.IsWithin limits.now place }
     ensures { result ≡ spec.numbers_look limits.now found now place }

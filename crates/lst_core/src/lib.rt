@@ -13,7 +13,7 @@ mod steps;
 #[cfg(test)]
 mod tests;
 
-pub use afters::after;
+pub use afters::{after, looked};
 pub use allowed::{is_within, session_of};
 pub use cores::{Core, NotEnabled};
 pub use lst_core_state::{Event, every_run_is_sound};
