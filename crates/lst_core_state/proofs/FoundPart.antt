@@ -1,5 +1,5 @@
 -- Each step keeps that what finds say is so.
-use Rattle.std.proofs.Common.{◌≡◌, ◌≢◌, ℕ, ◌+◌, ◌-◌, ◌*◌, ◌/◌, ◌%◌, ◌<◌, ◌≤◌, List, [], ◌∷◌, ◌++◌, Bool, true, false, cond, eqb, nat_lt, ◌&&◌, Contains, refl, sym, subst, ap, ◌∙◌, arith, true≢false, eqb-true, eq-eqb, ltb-true, ◌⊎◌, ⊎_elim, inl, inr}
+use Rattle.std.proofs.Common.{◌≡◌, ◌≢◌, ℕ, ◌+◌, ◌-◌, ◌*◌, ◌/◌, ◌%◌, ◌<◌, ◌≤◌, List, [], ◌∷◌, ◌++◌, Bool, true, false, cond, eqb, nat_lt, ◌&&◌, Contains, refl, sym, subst, ap, ◌∙◌, arith, true≢false, eqb-true, eq-eqb, ltb-true, ltb-false, ◌⊎◌, ⊎_elim, inl, inr}
 use Rattle.std.proofs.lemmas.List.Elements.{Contains-append_cases, Contains-append_left}
 use Rattle.lst_layout.specs.declared.limits.Limits.{Limits}
 use Rattle.lst_layout.specs.Functions.{put}
@@ -48,23 +48,23 @@ unwhole done done' h h' number number' more none n r t q = ⊎_elim (λ (i : Con
 
 -- ---- what stays of finds
 
-module _ (l : Limits) (clock clock' : ℕ) (log log' : ℕ → ℕ) (known known' : ℕ → Known) (onward : clock ≤ clock') (logs : (t : ℕ) → 0 < t → t ≤ clock → log' t ≡ log t) (keeps : (j : ℕ) → KeepsOf (known j) (known' j)) where
+module _ (l : Limits) (counter counter' : ℕ) (counts counts' : ℕ → ℕ) (clock clock' : ℕ) (log log' : ℕ → ℕ) (known known' : ℕ → Known) (counted : counter ≤ counter') (tails : (q : ℕ) → counts q ≤ counts' q) (onward : clock ≤ clock') (logs : (t : ℕ) → 0 < t → t ≤ clock → log' t ≡ log t) (keeps : (j : ℕ) → KeepsOf (known j) (known' j)) where
   unlogged_on : (b x : ℕ) → UnloggedUntil clock log b x → UnloggedUntil clock' log' b x
   unlogged_on b x h = let low = h.0 in (omega arith, λ t p q e. h.1 t p q (sym (logs t p (omega arith)) ∙ e))
 
-  pub find_on : (s : ℕ) (f : Find) → IsFind l clock log known s f → IsFind l clock' log' known' s f
+  pub find_on : (s : ℕ) (f : Find) → IsFind l counter counts clock log known s f → IsFind l counter' counts' clock' log' known' s f
   find_on s (LatchedRecord r) h = (h.0, h.1, h.2, (keeps h.0).latches r h.3)
   find_on s (UnfinishedVersion a t j n b) h = (h.0, λ p. (keeps j).wrote n (a - 1) t (h.1 p), λ p. unlogged_on (b - 1) (name_of j n) (h.2 p))
   find_on s (FreshClock x) h = tt
   find_on s (FreshEpoch x) h = tt
   find_on s HeldTurn h = tt
-  find_on s FullRecords h = tt
-  find_on s (FullTails range) h = tt
+  find_on s FullRecords h = let low : 256 * l.ranges ≤ counter = h in omega arith
+  find_on s (FullTails range) h = let low : l.tails ≤ counts range = h in let more = tails range in omega arith
   find_on s (CountedTails range x) h = tt
   find_on s (EmptyStart t) h = tt
   find_on s (TailLoad t) h = tt
 
-  pub found_on : (states states' : ℕ → ℕ → ℕ) → ((s n : ℕ) → (states' s n ≡ states s n) ⊎ (states s n ≡ 0)) → (s : ℕ) (finds : List Find) (k : Looks) → Found l clock log states known s finds k → Found l clock' log' states' known' s finds k
+  pub found_on : (states states' : ℕ → ℕ → ℕ) → ((s n : ℕ) → (states' s n ≡ states s n) ⊎ (states s n ≡ 0)) → (s : ℕ) (finds : List Find) (k : Looks) → Found l counter counts clock log states known s finds k → Found l counter' counts' clock' log' states' known' s finds k
   found_on states states' ended s finds k h = let last = h.last in record {
     each = λ f i. find_on s f (h.each f i);
     last = record {
@@ -76,24 +76,27 @@ module _ (l : Limits) (clock clock' : ℕ) (log log' : ℕ → ℕ) (known known
 
 -- ---- more finds
 
-module _ (l : Limits) (clock : ℕ) (log : ℕ → ℕ) (known : ℕ → Known) (s : ℕ) where
+not_below : (limit x : ℕ) → nat_lt x limit ≡ false → limit ≤ x
+not_below limit x e = ltb-false x limit e
+
+module _ (l : Limits) (counter : ℕ) (counts : ℕ → ℕ) (clock : ℕ) (log : ℕ → ℕ) (known : ℕ → Known) (s : ℕ) where
   abbrev pub Finds : List Find → Type 0
-  Finds fs = (f : Find) → Contains fs f → IsFind l clock log known s f
+  Finds fs = (f : Find) → Contains fs f → IsFind l counter counts clock log known s f
 
   no_finds : Finds []
   no_finds f h = let low = h.1 in absurd (omega arith)
 
-  one_find : (g : Find) → IsFind l clock log known s g → Finds (g ∷ [])
-  one_find g is f h = subst (IsFind l clock log known s) (contains_one g f h) is
+  one_find : (g : Find) → IsFind l counter counts clock log known s g → Finds (g ∷ [])
+  one_find g is f h = subst (IsFind l counter counts clock log known s) (contains_one g f h) is
 
   more_finds : (fs gs : List Find) → Finds fs → Finds gs → Finds (fs ++ gs)
   more_finds fs gs a b f h = ⊎_elim (λ (i : Contains fs f). a f i) (λ (i : Contains gs f). b f i) (Contains-append_cases fs gs f h)
 
-  if_find : (limit x : ℕ) (g : Find) → IsFind l clock log known s g → Finds (if_full limit x g)
-  if_find limit x g is = either Finds (nat_lt x limit) [] (g ∷ []) (λ _. no_finds) (λ _. one_find g is)
+  if_find : (limit x : ℕ) (g : Find) → (limit ≤ x → IsFind l counter counts clock log known s g) → Finds (if_full limit x g)
+  if_find limit x g is = either Finds (nat_lt x limit) [] (g ∷ []) (λ _. no_finds) (λ e. one_find g (is (not_below limit x e)))
 
   -- finds that say nothing for good, or are so, with the looks as they were
-  add : (states : ℕ → ℕ → ℕ) (finds gs : List Find) (k : Looks) → Found l clock log states known s finds k → Finds gs → Found l clock log states known s (finds ++ gs) k
+  add : (states : ℕ → ℕ → ℕ) (finds gs : List Find) (k : Looks) → Found l counter counts clock log states known s finds k → Finds gs → Found l counter counts clock log states known s (finds ++ gs) k
   add states finds gs k h new = record { each = more_finds finds gs h.each new; last = h.last }
 
 -- the index word that was loaded last says nothing for good
@@ -111,10 +114,10 @@ module _ (c : Core) (sound : Sound c) where
   K = c.known
 
   abbrev Is : ℕ → Find → Type 0
-  Is s f = IsFind L w.clock w.log K s f
+  Is s f = IsFind L w.counter w.counts w.clock w.log K s f
 
   abbrev All : ℕ → List Find → Type 0
-  All s fs = Finds L w.clock w.log K s fs
+  All s fs = Finds L w.counter w.counts w.clock w.log K s fs
 
   -- ---- a start word that names its writer
 
@@ -154,44 +157,44 @@ module _ (c : Core) (sound : Sound c) where
 
     active_is : (j n : ℕ) → j < L.sessions → All s (active_find v j n (w.states j n))
     active_is j n low = either (All s) (eqb (w.states j n) 0) (unfinished v j n ∷ []) []
-        (λ e. one_find L w.clock w.log K s (unfinished v j n) (unfinished_is j n low (λ t p q f. let a = eqb-true (w.states j n) 0 e in let b = logged_state j n t low p q f in omega arith)))
-        (λ _. no_finds L w.clock w.log K s)
+        (λ e. one_find L w.counter w.counts w.clock w.log K s (unfinished v j n) (unfinished_is j n low (λ t p q f. let a = eqb-true (w.states j n) 0 e in let b = logged_state j n t low p q f in omega arith)))
+        (λ _. no_finds L w.counter w.counts w.clock w.log K s)
 
     early_is : All s (early_find v w.clock)
     early_is = let j : ℕ = v.looks.session in let n : ℕ = v.looks.number in either (All s) (nat_lt (w.clock + 1) v.looks.state) (unfinished v j n ∷ []) []
-        (λ e. let late = ltb-true (w.clock + 1) v.looks.state e in one_find L w.clock w.log K s (unfinished v j n) (unfinished_is j n found.last.session (λ t p q f. let a = found.last.state (omega arith) in let b = logged_state j n t found.last.session p q f in omega arith)))
-        (λ _. no_finds L w.clock w.log K s)
+        (λ e. let late = ltb-true (w.clock + 1) v.looks.state e in one_find L w.counter w.counts w.clock w.log K s (unfinished v j n) (unfinished_is j n found.last.session (λ t p q f. let a = found.last.state (omega arith) in let b = logged_state j n t found.last.session p q f in omega arith)))
+        (λ _. no_finds L w.counter w.counts w.clock w.log K s)
 
     -- ---- loads
 
     started : (t : ℕ) → Looked L w.states K (record v.looks { start = w.cells t 0; about = record_in L w.cells t + 1; tail = t })
     started t = let k = found.last in record { session = k.session; state = k.state; start = λ j n low e. start_wrote t j n low e }
 
-    more : (gs : List Find) → All s gs → Found L w.clock w.log w.states K s (v.finds ++ gs) v.looks
-    more gs new = add L w.clock w.log K s w.states v.finds gs v.looks found new
+    more : (gs : List Find) → All s gs → Found L w.counter w.counts w.clock w.log w.states K s (v.finds ++ gs) v.looks
+    more gs new = add L w.counter w.counts w.clock w.log K s w.states v.finds gs v.looks found new
 
-    one : (g : Find) → Is s g → Found L w.clock w.log w.states K s (v.finds ++ g ∷ []) v.looks
-    one g is = more (g ∷ []) (one_find L w.clock w.log K s g is)
+    one : (g : Find) → Is s g → Found L w.counter w.counts w.clock w.log w.states K s (v.finds ++ g ∷ []) v.looks
+    one g is = more (g ∷ []) (one_find L w.counter w.counts w.clock w.log K s g is)
 
-    two : (g : Find) (gs : List Find) → Is s g → All s gs → Found L w.clock w.log w.states K s (v.finds ++ g ∷ gs) v.looks
-    two g gs is new = more (g ∷ gs) (more_finds L w.clock w.log K s (g ∷ []) gs (one_find L w.clock w.log K s g is) new)
+    two : (g : Find) (gs : List Find) → Is s g → All s gs → Found L w.counter w.counts w.clock w.log w.states K s (v.finds ++ g ∷ gs) v.looks
+    two g gs is new = more (g ∷ gs) (more_finds L w.counter w.counts w.clock w.log K s (g ∷ []) gs (one_find L w.counter w.counts w.clock w.log K s g is) new)
 
     cell_found : (t p : ℕ) → FoundOf L w K s (look_at L w v (CellWord t p))
     cell_found t p = record {
       each = (two (TailLoad t) (cond (eqb p 0 && eqb (w.cells t 0) 0) (EmptyStart t ∷ []) []) tt
-          (either (All s) (eqb p 0 && eqb (w.cells t 0) 0) (EmptyStart t ∷ []) [] (λ _. one_find L w.clock w.log K s (EmptyStart t) tt) (λ _. no_finds L w.clock w.log K s))).each;
+          (either (All s) (eqb p 0 && eqb (w.cells t 0) 0) (EmptyStart t ∷ []) [] (λ _. one_find L w.counter w.counts w.clock w.log K s (EmptyStart t) tt) (λ _. no_finds L w.counter w.counts w.clock w.log K s))).each;
       last = either (λ (k : Looks). Looked L w.states K k) (eqb p 0) (record v.looks { start = w.cells t 0; about = record_in L w.cells t + 1; tail = t }) v.looks (λ _. started t) (λ _. found.last);
     }
 
     look_found : (p : Place) → layout.IsWithin L p → FoundOf L w K s (look_at L w v p)
     look_found ClockWord within = two (FreshClock w.clock) (early_find v w.clock) tt early_is
     look_found EpochWord within = one (FreshEpoch w.epoch) tt
-    look_found RecordCounter within = more (if_full (record_count L) w.counter FullRecords) (if_find L w.clock w.log K s (record_count L) w.counter FullRecords tt)
+    look_found RecordCounter within = more (if_full (record_count L) w.counter FullRecords) (if_find L w.counter w.counts w.clock w.log K s (record_count L) w.counter FullRecords (λ full. full))
     look_found (StateWord j n) within = let k = found.last in record { each = (more (active_find v j n (w.states j n)) (active_is j n within.0)).each; last = record { session = within.0; state = λ _. refl; start = k.start } }
     look_found (KeyWord r) within = either (FoundOf L w K s) (gives_up v r (w.keys r)) (given_up v) v (λ _. found) (λ _. found)
     look_found (IndexWord q) within = record { each = found.each; last = index_looked L w.states K v.looks (w.index q) found.last }
     look_found (HeadWord r) within = found
-    look_found (TailCounter range) within = two (CountedTails range (w.counts range)) (if_full L.tails (w.counts range) (FullTails range)) tt (if_find L w.clock w.log K s L.tails (w.counts range) (FullTails range) tt)
+    look_found (TailCounter range) within = two (CountedTails range (w.counts range)) (if_full L.tails (w.counts range) (FullTails range)) tt (if_find L w.counter w.counts w.clock w.log K s L.tails (w.counts range) (FullTails range) (λ full. full))
     look_found (CellWord t p) within = cell_found t p
     look_found CommitWord within = found
     look_found (LogWord i) within = found
@@ -273,20 +276,20 @@ module _ (c : Core) (sound : Sound c) where
   new_found : (e : Event) → session_of e < L.sessions → IsWithin L e → Enabled L (K (session_of e)) e → FoundOf L w K (session_of e) (known_after L w (K (session_of e)) e)
   new_found (Look s a) low within ok = looks_found s (K s) (λ is_on. begin_low c sound s low is_on) (sound.found s low) a within.1
   new_found (Begin s b r) low within ok = sound.found s low
-  new_found (Take s) low within ok = either (FoundOf L w K s) (eqb w.turn 0) (took (K s)) (held_off (K s)) (λ _. sound.found s low) (λ _. add L w.clock w.log K s w.states (K s).finds (HeldTurn ∷ []) (K s).looks (sound.found s low) (one_find L w.clock w.log K s HeldTurn tt))
+  new_found (Take s) low within ok = either (FoundOf L w K s) (eqb w.turn 0) (took (K s)) (held_off (K s)) (λ _. sound.found s low) (λ _. add L w.counter w.counts w.clock w.log K s w.states (K s).finds (HeldTurn ∷ []) (K s).looks (sound.found s low) (one_find L w.counter w.counts w.clock w.log K s HeldTurn tt))
   new_found (Log s) low within ok = sound.found s low
   new_found (State s) low within ok = sound.found s low
   new_found (Clock s) low within ok = sound.found s low
   new_found (Give s) low within ok = sound.found s low
   new_found (Close s) low within ok = sound.found s low
   new_found (DrawRecord s) low within ok = either (FoundOf L w K s) (nat_lt w.counter (record_count L)) (record_drawn w (K s)) (records_full w (K s)) (λ _. sound.found s low)
-      (λ _. add L w.clock w.log K s w.states (K s).finds (FullRecords ∷ []) (K s).looks (sound.found s low) (one_find L w.clock w.log K s FullRecords tt))
+      (λ e. add L w.counter w.counts w.clock w.log K s w.states (K s).finds (FullRecords ∷ []) (K s).looks (sound.found s low) (one_find L w.counter w.counts w.clock w.log K s FullRecords (not_below (record_count L) w.counter e)))
   new_found (StoreKey s k) low within ok = sound.found s low
   new_found (Claim s q) low within ok = let h = sound.found s low in either (FoundOf L w K s) (eqb (w.index q) 0) (claimed (K s) q) (claim_lost w (K s) q) (λ _. h) (λ _. record { each = h.each; last = index_looked L w.states K (K s).looks (w.index q) h.last })
   new_found (Latch s r) low within ok = either (FoundOf L w K s) (eqb (w.heads r % 2) 0) (latched L w (K s) r) (latch_lost L w (K s) r) (λ _. sound.found s low)
-      (λ odd. add L w.clock w.log K s w.states (K s).finds (LatchedRecord r ∷ []) (K s).looks (sound.found s low) (one_find L w.clock w.log K s (LatchedRecord r) (latched_apart s r low within.1 ok.3 odd)))
+      (λ odd. add L w.counter w.counts w.clock w.log K s w.states (K s).finds (LatchedRecord r ∷ []) (K s).looks (sound.found s low) (one_find L w.counter w.counts w.clock w.log K s (LatchedRecord r) (latched_apart s r low within.1 ok.3 odd)))
   new_found (DrawTail s range) low within ok = either (FoundOf L w K s) (nat_lt (w.counts range) L.tails) (tail_drawn L w (K s) range) (tails_full w (K s) range) (λ _. sound.found s low)
-      (λ _. add L w.clock w.log K s w.states (K s).finds (FullTails range ∷ []) (K s).looks (sound.found s low) (one_find L w.clock w.log K s (FullTails range) tt))
+      (λ e. add L w.counter w.counts w.clock w.log K s w.states (K s).finds (FullTails range ∷ []) (K s).looks (sound.found s low) (one_find L w.counter w.counts w.clock w.log K s (FullTails range) (not_below L.tails (w.counts range) e)))
   new_found (StoreCell s p x) low within ok = either (FoundOf L w K s) (eqb p 0) (cell_started L w (K s) p x) (word_stored (K s) p x) (λ _. sound.found s low) (λ _. sound.found s low)
   new_found (Install s) low within ok = sound.found s low
   new_found (Release s) low within ok = sound.found s low
@@ -304,7 +307,7 @@ module _ (c : Core) (sound : Sound c) where
 
     -- after the step
     pub found_after : (s : ℕ) (v : Known) → FoundOf L w K s v → FoundOf L w' K' s v
-    found_after s v = let a = later c sound e low ok in found_on L w.clock w'.clock w.log w'.log K K' a.clock a.log known_keeps w.states w'.states a.states s v.finds v.looks
+    found_after s v = let a = later c sound e low ok in found_on L w.counter w'.counter w.counts w'.counts w.clock w'.clock w.log w'.log K K' a.counter a.counts a.clock a.log known_keeps w.states w'.states a.states s v.finds v.looks
 
   pub found_keeps : (e : Event) → session_of e < L.sessions → IsWithin L e → Enabled L (K (session_of e)) e → (j : ℕ) → j < L.sessions → FoundOf L (words_after L w (K (session_of e)) e) (put K (session_of e) (known_after L w (K (session_of e)) e)) j (put K (session_of e) (known_after L w (K (session_of e)) e) j)
   found_keeps e low within ok = let s : ℕ = session_of e in let v' : Known = known_after L w (K s) e in each_put (λ (j : ℕ) (u : Known). j < L.sessions → FoundOf L (words_after L w (K s) e) (put K s v') j u) K s v'
@@ -312,4 +315,4 @@ module _ (c : Core) (sound : Sound c) where
 
   -- a session that has written and latched what it had
   pub found_same : (s : ℕ) (v' : Known) → KeepsOf (K s) v' → (j : ℕ) (u : Known) → FoundOf L w K j u → FoundOf L w (put K s v') j u
-  found_same s v' keeps j u = found_on L w.clock w.clock w.log w.log K (put K s v') (omega arith) (λ _ _ _. refl) (each_put (λ (i : ℕ) (x : Known). KeepsOf (K i) x) K s v' keeps (λ i other. still (K i))) w.states w.states (λ _ _. inl refl) j u.finds u.looks
+  found_same s v' keeps j u = found_on L w.counter w.counter w.counts w.counts w.clock w.clock w.log w.log K (put K s v') (omega arith) (λ q. omega arith) (omega arith) (λ _ _ _. refl) (each_put (λ (i : ℕ) (x : Known). KeepsOf (K i) x) K s v' keeps (λ i other. still (K i))) w.states w.states (λ _ _. inl refl) j u.finds u.looks

@@ -182,13 +182,10 @@ merger_may_grow c sound seen more may = record {
 -- ---- steps
 
 module _ (c : Core) (sound : Sound c) (e : Event) (within : IsWithin c.limits e) where
-  abbrev Part : Core → Type 0
-  Part d = (session_of e < c.limits.sessions → history_of d.limits d.words ≡ history_of c.limits c.words ++ published c e)
-
   own_step : session_of e < c.limits.sessions → Enabled c.limits (c.known (session_of e)) e → Stands c.limits c.words (c.known (session_of e)) e → Sound (after_own c e) → StepOf c e (after_own c e)
   own_step low ok stands next = record {
     sound = next;
-    history = λ _. decodes c sound e low ok stands ∙ same e;
+    history = decodes c sound e low ok stands ∙ same e;
     settled = settled_stays c sound e low ok stands;
     chains = chains_grow c sound e low ok stands;
     facts = fact_stays c sound e low ok stands;
@@ -213,10 +210,30 @@ module _ (c : Core) (sound : Sound c) (e : Event) (within : IsWithin c.limits e)
       same (Release s) = refl
       same (Stamp s range n) = refl
 
+  -- a load publishes nothing
+  merger_publishes : (e : Event) → IsWithin c.limits e → session_of e ≡ c.limits.sessions → published c e ≡ []
+  merger_publishes (Look s a) inside is = refl
+  merger_publishes (Begin s b r) inside is = refl
+  merger_publishes (Take s) inside is = refl
+  merger_publishes (Log s) inside is = refl
+  merger_publishes (State s) inside is = refl
+  merger_publishes (Clock s) inside is = absurd (let h : s < c.limits.sessions = inside in omega arith)
+  merger_publishes (Give s) inside is = refl
+  merger_publishes (Close s) inside is = refl
+  merger_publishes (DrawRecord s) inside is = refl
+  merger_publishes (StoreKey s k) inside is = refl
+  merger_publishes (Claim s q) inside is = refl
+  merger_publishes (Latch s r) inside is = refl
+  merger_publishes (DrawTail s range) inside is = refl
+  merger_publishes (StoreCell s p x) inside is = refl
+  merger_publishes (Install s) inside is = refl
+  merger_publishes (Release s) inside is = refl
+  merger_publishes (Stamp s range n) inside is = refl
+
   merger_step : session_of e ≡ c.limits.sessions → Sound (after_merger c e) → StepOf c e (after_merger c e)
   merger_step is next = record {
     sound = next;
-    history = λ h. absurd (omega arith);
+    history = sym (append-nil (history_of c.limits c.words)) ∙ ap (λ (cs : List Commit). history_of c.limits c.words ++ cs) (sym (merger_publishes e within is));
     settled = λ t _ _. (refl, refl, refl, refl);
     chains = λ r _. inl refl;
     facts = λ f h. h;

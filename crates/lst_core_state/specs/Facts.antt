@@ -8,7 +8,7 @@ use Rattle.lst_core_state.specs.declared.known.Done.{Done}
 use Rattle.lst_core_state.specs.declared.facts.Fact.{Fact}
 use Rattle.lst_core_state.specs.declared.facts.Fact.TheVariants.{IndexAt, StateAt, CellIs, ChainEnds, CommitAt, RecordsAtLeast, TailsAtLeast, EpochAtLeast, PostAt}
 use Rattle.lst_core_state.specs.declared.facts.Find.{Find}
-use Rattle.lst_core_state.specs.declared.facts.Find.TheVariants.{UnfinishedVersion, LatchedRecord}
+use Rattle.lst_core_state.specs.declared.facts.Find.TheVariants.{UnfinishedVersion, LatchedRecord, FullRecords, FullTails}
 use Rattle.lst_core_state.specs.State.{Words, writer_at, line, name_of}
 use Rattle.lst_core_state.specs.Cells.{listed}
 use Rattle.lst_core_state.specs.Index.{size}
@@ -114,8 +114,10 @@ WroteOf v n r t = Wrote v.done v.hold v.number n r t
 abbrev pub UnloggedUntil : ℕ → (ℕ → ℕ) → ℕ → ℕ → Type 0
 UnloggedUntil clock log b name = (b ≤ clock) × ((t : ℕ) → 0 < t → t ≤ b → log t ≢ name)
 
--- a find of the session s
-abbrev pub IsFind : Limits → ℕ → (ℕ → ℕ) → (ℕ → Known) → ℕ → Find → Type 0
-IsFind l clock log known s (LatchedRecord r) = LatchedApart l.sessions (λ j. (known j).latched) s r
-IsFind l clock log known s (UnfinishedVersion a t j n b) = (j < l.sessions) × (0 < a → WroteOf (known j) n (a - 1) t) × (0 < b → UnloggedUntil clock log (b - 1) (name_of j n))
-IsFind l clock log known s f = Unit {0}
+-- a find of the session s; a counter that was found full stays so
+abbrev pub IsFind : Limits → ℕ → (ℕ → ℕ) → ℕ → (ℕ → ℕ) → (ℕ → Known) → ℕ → Find → Type 0
+IsFind l counter counts clock log known s FullRecords = 256 * l.ranges ≤ counter
+IsFind l counter counts clock log known s (FullTails range) = l.tails ≤ counts range
+IsFind l counter counts clock log known s (LatchedRecord r) = LatchedApart l.sessions (λ j. (known j).latched) s r
+IsFind l counter counts clock log known s (UnfinishedVersion a t j n b) = (j < l.sessions) × (0 < a → WroteOf (known j) n (a - 1) t) × (0 < b → UnloggedUntil clock log (b - 1) (name_of j n))
+IsFind l counter counts clock log known s f = Unit {0}

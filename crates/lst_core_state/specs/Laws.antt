@@ -13,7 +13,7 @@ use Rattle.lst_core_state.specs.declared.facts.Fact.{Fact}
 use Rattle.lst_core_state.specs.Cells.{record_count}
 use Rattle.lst_core_state.specs.Index.{is_placed}
 use Rattle.lst_core_state.specs.State.{Words, Core, entry, writer_at, state_at, name_of, line, record_in, act_in, history_of, sight, is_visible}
-use Rattle.lst_core_state.specs.Step.{session_of, IsWithin, IsEnabled, after}
+use Rattle.lst_core_state.specs.Step.{IsWithin, IsEnabled, after}
 use Rattle.lst_core_state.specs.Facts.{IsFact}
 use Rattle.lst_core_state.specs.Sound.{FactsOf, SeenIsRecorded, Sound}
 
@@ -86,7 +86,7 @@ published c e = []
 
 pub record StepOf (c : Core) (e : Event) (d : Core) : Type 0 where
   pub sound : Sound d
-  pub history : session_of e < c.limits.sessions → history_of d.limits d.words ≡ history_of c.limits c.words ++ published c e
+  pub history : history_of d.limits d.words ≡ history_of c.limits c.words ++ published c e
   -- a settled version keeps its writer, its content and its status
   pub settled : (t : ℕ) → 0 < c.words.cells t 0 → 0 < state_at c.words t
       → (writer_at d.words t ≡ writer_at c.words t) × (record_in c.limits d.words.cells t ≡ record_in c.limits c.words.cells t) × (act_in c.limits d.words.cells t ≡ act_in c.limits c.words.cells t) × (state_at d.words t ≡ state_at c.words t)

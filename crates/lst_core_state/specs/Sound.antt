@@ -283,12 +283,12 @@ pub record Looked (l : Limits) (states : ℕ → ℕ → ℕ) (known : ℕ → K
   pub start : (j n : ℕ) → j < l.sessions → k.start ≡ 1 + 2 * name_of j n → WroteOf (known j) n (k.about - 1) k.tail
 
 -- what the session s found is so
-pub record Found (l : Limits) (clock : ℕ) (log : ℕ → ℕ) (states : ℕ → ℕ → ℕ) (known : ℕ → Known) (s : ℕ) (finds : List Find) (k : Looks) : Type 0 where
-  pub each : (f : Find) → Contains finds f → IsFind l clock log known s f
+pub record Found (l : Limits) (counter : ℕ) (counts : ℕ → ℕ) (clock : ℕ) (log : ℕ → ℕ) (states : ℕ → ℕ → ℕ) (known : ℕ → Known) (s : ℕ) (finds : List Find) (k : Looks) : Type 0 where
+  pub each : (f : Find) → Contains finds f → IsFind l counter counts clock log known s f
   pub last : Looked l states known k
 
 abbrev pub FoundOf : Limits → Words → (ℕ → Known) → ℕ → Known → Type 0
-FoundOf l w known s v = Found l w.clock w.log w.states known s v.finds v.looks
+FoundOf l w known s v = Found l w.counter w.counts w.clock w.log w.states known s v.finds v.looks
 
 -- ---- all parts
 
