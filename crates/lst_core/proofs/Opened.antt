@@ -61,7 +61,7 @@ same_both : {A : Type 0} (b : Bool) (x : A) → cond b x x ≡ x
 same_both true x = refl
 same_both false x = refl
 
-newcomer_is : (l : Limits) → numbers_of (newcomer l) ≡ newcomer_numbers
+pub newcomer_is : (l : Limits) → numbers_of (newcomer l) ≡ newcomer_numbers
 newcomer_is l = λ i. record newcomer_numbers { served = flags_none 64 l.ranges i }
 
 module _ (l : Limits) (sized : IsValid l) (ws : List ℕ) (numbers : List Numbers) (words_are : IsOpening l ws) (numbers_are : numbers ≡ replicate (l.sessions + 1) newcomer_numbers) where

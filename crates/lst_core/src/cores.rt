@@ -67,7 +67,7 @@ const NEWCOMER: Numbers = Numbers {
 };
 
 /// The words of a store that opens.
-fn opening_words(alloc: Global, layout: &Layout) -> Result<Vec<u64>, OutOfMemory>
+pub fn opening_words(alloc: Global, layout: &Layout) -> Result<Vec<u64>, OutOfMemory>
     ensures { IfOk result (λ words. IsOpening layout.now.limits words.items) }
 {
     let mut words = Vec::with_capacity(alloc, layout.words as usize)?;
@@ -93,7 +93,7 @@ fn opening_word(layout: &Layout, address: u64) -> u64
 }
 
 /// The numbers of this many sessions that know nothing.
-fn newcomers(alloc: Global, count: u32) -> Result<Vec<Numbers>, OutOfMemory>
+pub fn newcomers(alloc: Global, count: u32) -> Result<Vec<Numbers>, OutOfMemory>
     ensures { IfOk result (λ numbers. numbers.items ≡ replicate count newcomer_numbers) }
 {
     let mut numbers = Vec::new(alloc);

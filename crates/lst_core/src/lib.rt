@@ -6,7 +6,11 @@ mod allowed;
 mod chains;
 mod cores;
 mod drafts;
+#[cfg(test)]
+mod drawn_tests;
 mod numbers;
+#[cfg(test)]
+mod plain;
 mod probes;
 mod reads;
 mod steps;
@@ -15,7 +19,7 @@ mod tests;
 
 pub use afters::{after, looked};
 pub use allowed::{is_within, session_of};
-pub use cores::{Core, NotEnabled};
+pub use cores::{Core, NotEnabled, newcomers, opening_words};
 pub use lst_core_state::{Event, every_run_is_sound};
 pub use numbers::{Numbers, allows};
-pub use steps::{target, written};
+pub use steps::{cell_address, target, written};
