@@ -1,0 +1,159 @@
+-- A step of an event that is enabled keeps the rule. One lemma for every kind of step.
+use Rattle.std.proofs.Common.{length, ◌≡◌, ◌≢◌, ℕ, ◌<◌, List, true, get_or, set, sym, refl, ap, ◌∙◌, subst, ⊎_elim, arith, length-set, get_or-set_other, get_or-set_same, slice_index}
+use mathlib.Core.Logic.{dite}
+use mathlib.Core.Option.{some}
+use native.Mathlib.Decide.{ℕ_discrete}
+use lib.ListN.{get_elem?}
+use Rattle.atomic_table.specs.Table.{State, Me, keeps, Allows}
+use Rattle.atomic_table.proofs.Lists.{at_set}
+use Rattle.lst_layout.specs.declared.limits.Limits.{Limits}
+use Rattle.lst_layout.specs.Areas.{words_of}
+use Rattle.lst_layout.specs.Words.{shown}
+use Rattle.lst_model.specs.declared.commits.Commit.{Commit}
+use Rattle.lst_model.specs.Histories.{Extends}
+use Rattle.lst_core_state.specs.declared.known.Known.{Known}
+use Rattle.lst_core_state.specs.declared.events.Event.{Event}
+use Rattle.lst_core_state.specs.State.{Words, Core, newcomer, history_of}
+use Rattle.lst_core_state.specs.Step.{session_of, known_of, IsWithin, Enabled, Stands, IsEnabled, words_after, known_after, after}
+use Rattle.lst_core_state.specs.Sound.{Sound}
+use Rattle.lst_core_state.proofs.Keeps as kept
+use Rattle.lst_core.specs.Reading.{state_over}
+use Rattle.lst_rule.specs.declared.view.View.{View}
+use Rattle.lst_rule.specs.Rule.{knows, hosts, Fits, Ruled, view_after, Allowed, Makes, Ready, Told}
+use Rattle.lst_rule.proofs.Afters.{after_limits, after_words, after_here, after_else, after_history}
+
+pub allowed : (words : List ℕ) (known : ℕ → Known) (merger : Known) (owner : ℕ → ℕ) (id : ℕ) (v : View) → length words ≡ words_of v.limits → Sound (state_over v.limits words known merger)
+    → Fits words (state_over v.limits words known merger) owner id v → Allowed v words known merger
+allowed words known merger owner id v wide sound fit = record {
+  wide = wide;
+  sound = sound;
+  sized = fit.sized;
+  low = fit.low;
+  knew = fit.knew;
+  told = fit.told;
+  whole = fit.whole;
+  all = fit.all;
+}
+
+module _ (s : State (Unit {0}) View) (id : ℕ) (v : View) (r : Ruled v.limits s) (at : get_elem? s.views id ≡ some v) (e : Event) (i x : ℕ) (hosted : hosts v (session_of e) ≡ true) (within : IsWithin v.limits e)
+    (enabled : Enabled v.limits (knows v (session_of e)) e) (stands : Stands v.limits (shown v.limits s.words) (knows v (session_of e)) e)
+    (shows : shown v.limits (set s.words i x) ≡ words_after v.limits (shown v.limits s.words) (knows v (session_of e)) e) where
+  abbrev L : Limits
+  L = v.limits
+
+  abbrev W : Words
+  W = shown L s.words
+
+  abbrev c : Core
+  c = state_over L s.words r.known r.merger
+
+  abbrev d : Core
+  d = after c e
+
+  abbrev k : ℕ
+  k = session_of e
+
+  abbrev next : Known
+  next = known_after L W (knows v k) e
+
+  -- the state after, with the words after
+  abbrev c' : Core
+  c' = state_over L (set s.words i x) d.known d.merger
+
+  fit : Fits s.words c r.owner id v
+  fit = r.each id v at
+
+  same : known_of c k ≡ knows v k
+  same = sym (fit.knew k hosted)
+
+  able : IsEnabled c e
+  able = (subst (λ (u : Known). Enabled L u e) (sym same) enabled, subst (λ (u : Known). Stands L W u e) (sym same) stands)
+
+  made : c' ≡ d
+  made = let q : shown L (set s.words i x) ≡ d.words = shows ∙ (ap (λ (u : Known). words_after L W u e) (sym same) ∙ sym (after_words c e within)) in
+      λ i. record { limits = sym (after_limits c e) i; words = q i; known = d.known; merger = d.merger }
+
+  sound_after : Sound c'
+  sound_after = subst Sound (sym made) (kept.keeps c r.sound e within able)
+
+  grown : (front : List Commit) → Extends (history_of L W) front → Extends (history_of L (shown L (set s.words i x))) front
+  grown front h = subst (λ (z : Core). Extends (history_of z.limits z.words) front) (sym made) (after_history c e r.sound within able front h)
+
+  here : next ≡ known_of c' k
+  here = sym (ap (λ (z : Core). known_of z k) made ∙ (after_here c e ∙ ap (λ (u : Known). known_after L W u e) same))
+
+  there : (j : ℕ) → j ≢ k → known_of c j ≡ known_of c' j
+  there j other = sym (ap (λ (z : Core). known_of z j) made ∙ after_else c e j other)
+
+  low : k < length v.known
+  low = let a = fit.low k hosted in let b = fit.sized in omega arith
+
+  mine : Fits (set s.words i x) c' r.owner id (view_after e i x s.words v)
+  mine = record {
+    limits = refl;
+    sized = length-set v.known k next ∙ fit.sized;
+    low = fit.low;
+    owns = fit.owns;
+    knew = λ t h. dite (ℕ_discrete t k)
+        (λ f. subst (λ (z : ℕ). get_or (set v.known k next) z (newcomer L) ≡ known_of c' z) (sym f) (get_or-set_same v.known k next (newcomer L) low ∙ here))
+        (λ other. get_or-set_other v.known k t next (newcomer L) other ∙ (fit.knew t h ∙ there t other));
+    told = grown v.note fit.told;
+    whole = λ h. ap (λ ws. set ws i x) (fit.whole h);
+    all = fit.all;
+  }
+
+  others : (j : ℕ) (u : View) → j ≢ id → Fits s.words c r.owner j u → Fits (set s.words i x) c' r.owner j u
+  others j u other f = let apart : ¬ (hosts u k ≡ true) = λ h. other (sym (f.owns k h) ∙ fit.owns k hosted) in record {
+    limits = f.limits;
+    sized = f.sized;
+    low = f.low;
+    owns = f.owns;
+    knew = λ t h. f.knew t h ∙ there t (λ g. apart (subst (λ (z : ℕ). hosts u z ≡ true) g h));
+    told = grown u.note f.told;
+    whole = λ h. absurd (apart (f.all h k (fit.low k hosted)));
+    all = f.all;
+  }
+
+  -- the view is possible in the new state
+  after_allowed : Allowed (view_after e i x s.words v) (set s.words i x) d.known d.merger
+  after_allowed = allowed (set s.words i x) d.known d.merger r.owner id (view_after e i x s.words v) (length-set s.words i x ∙ r.wide) sound_after mine
+
+  ruled_after : Ruled L record { words = set s.words i x; homes = s.homes; views = set s.views id (view_after e i x s.words v) }
+  ruled_after = record {
+    known = d.known;
+    merger = d.merger;
+    owner = r.owner;
+    wide = length-set s.words i x ∙ r.wide;
+    sound = sound_after;
+    each = λ j u is. ⊎_elim (λ (t : (j ≡ id) × (view_after e i x s.words v ≡ u)). subst (λ (z : ℕ × View). Fits (set s.words i x) c' r.owner z.0 z.1) (λ i. (sym t.0 i, t.1 i)) mine)
+        (λ (t : (j ≢ id) × (get_elem? s.views j ≡ some u)). others j u t.0 (r.each j u t.1)) (at_set s.views id j (view_after e i x s.words v) u is);
+  }
+
+  abbrev tells : Told e i x v (view_after e i x s.words v)
+  tells = record {
+    words = s.words;
+    known = r.known;
+    merger = r.merger;
+    allowed = allowed s.words r.known r.merger r.owner id v r.wide r.sound fit;
+    within = within;
+    enabled = able;
+    shows = shows;
+    now = refl;
+    after = after_allowed;
+  }
+
+-- a step of an event that is enabled keeps the rule
+pub allows : (l : Limits) (slots id : ℕ) (v : View) (c : List (ℕ × Unit {0})) (e : Event) (i : ℕ) (f : ℕ → ℕ) → Ready v e i f
+    → Allows (Ruled l) slots id (v, c) i f (λ x n. (t : Told e i (f x) v n.0) × (slice_index t.words i ≡ x) × (n.1 ≡ c))
+allows l slots id v c e i f ready s r₀ deep at small = let is : v.limits ≡ l = (r₀.each id v at).limits in let r : Ruled v.limits s = subst (λ (z : Limits). Ruled z s) (sym is) r₀ in
+    let q : Makes v e i f s.words = ready.2 s.words r.known r.merger (allowed s.words r.known r.merger r.owner id v r.wide r.sound (r.each id v at)) in let x : ℕ = f (slice_index s.words i) in (
+      view_after e i x s.words v,
+      keeps,
+      tt,
+      subst (λ (z : Limits). Ruled z record { words = set s.words i x; homes = s.homes; views = set s.views id (view_after e i x s.words v) }) is (ruled_after s id v r at e i x ready.0 ready.1 q.0 q.1 q.2),
+      (tells s id v r at e i x ready.0 ready.1 q.0 q.1 q.2, refl, refl),
+    )
+
+pub allows_store : (l : Limits) (slots id : ℕ) (m : Me (Unit {0}) View) (e : Event) (i x : ℕ) → Ready m.0 e i (λ _. x)
+    → Allows (Ruled l) slots id m i (λ _. x) (λ _ n. (t : Told e i x m.0 n.0) × (n.1 ≡ m.1))
+allows_store l slots id m e i x ready s r at deep small = let h = allows l slots id m.0 m.1 e i (λ _. x) ready s r at deep small in (h.0, h.1, h.2, h.3, (h.4.0, h.4.2))

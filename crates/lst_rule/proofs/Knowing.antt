@@ -1,0 +1,54 @@
+-- What a view says of each state that it allows.
+use Rattle.std.proofs.Common.{◌≡◌, ◌≢◌, ℕ, ◌^◌, length, ◌<◌, List, true, sym, subst, ◌∙◌, arith, Contains}
+use mathlib.Core.Logic.{dite}
+use native.Mathlib.Decide.{ℕ_discrete}
+use Rattle.lst_layout.specs.Words.{shown}
+use Rattle.lst_model.specs.Histories.{Extends}
+use Rattle.lst_core_state.specs.declared.known.Known.{Known}
+use Rattle.lst_core_state.specs.declared.facts.Fact.{Fact}
+use Rattle.lst_core_state.specs.Facts.{IsFact}
+use Rattle.lst_core_state.specs.State.{Core, history_of, writes_of}
+use Rattle.lst_core_state.proofs.Histories.{length-history}
+use Rattle.lst_core_state.proofs.Room.{clock_low}
+use Rattle.lst_core.proofs.Stepping.{rows_few}
+use Rattle.lst_core.specs.Reading.{state_over}
+use Rattle.lst_rule.specs.declared.view.View.{View}
+use Rattle.lst_rule.specs.Rule.{knows, hosts, Allowed}
+use Rattle.lst_rule.proofs.Afters.{known_own, known_merger}
+
+module _ (v : View) (words : List ℕ) (known : ℕ → Known) (merger : Known) (a : Allowed v words known merger) (s : ℕ) (hosted : hosts v s ≡ true) where
+  abbrev c : Core
+  c = state_over v.limits words known merger
+
+  -- what a session knows that the view hosts
+  pub knows_own : s ≢ v.limits.sessions → knows v s ≡ known s
+  knows_own ne = a.knew s hosted ∙ known_own c s ne
+
+  pub knows_merger : s ≡ v.limits.sessions → knows v s ≡ merger
+  knows_merger is = a.knew s hosted ∙ known_merger c s is
+
+  pub low_own : s ≢ v.limits.sessions → s < v.limits.sessions
+  low_own ne = let h = a.low s hosted in omega arith
+
+  -- a fact of the view is so
+  pub is_fact : (f : Fact) → Contains (knows v s).facts f → IsFact v.limits (shown v.limits words) f
+  is_fact f h = dite (ℕ_discrete s v.limits.sessions)
+      (λ is. a.sound.merger_facts f (subst (λ (u : Known). Contains u.facts f) (knows_merger is) h))
+      (λ ne. a.sound.facts s (low_own ne) f (subst (λ (u : Known). Contains u.facts f) (knows_own ne) h))
+
+  -- what it has seen is a front of the history
+  pub is_seen : Extends (history_of v.limits (shown v.limits words)) (knows v s).seen
+  is_seen = dite (ℕ_discrete s v.limits.sessions)
+      (λ is. subst (λ (u : Known). Extends (history_of v.limits (shown v.limits words)) u.seen) (sym (knows_merger is)) a.sound.merger_seen)
+      (λ ne. subst (λ (u : Known). Extends (history_of v.limits (shown v.limits words)) u.seen) (sym (knows_own ne)) (a.sound.views s (low_own ne)).prefix)
+
+-- the clock is the length of the history, and fits 32 bits
+pub clock_is : (v : View) (words : List ℕ) (known : ℕ → Known) (merger : Known) → Allowed v words known merger → let w = shown v.limits words in (length (history_of v.limits w) ≡ w.clock) × (w.clock < 2 ^ 32)
+clock_is v words known merger a = let w = shown v.limits words in (
+  length-history w.clock w.log w.begins (writes_of v.limits w),
+  (let top = clock_low (state_over v.limits words known merger) a.sound in let few = rows_few v.limits a.sound.sized in omega arith),
+)
+
+-- a view that knows each word is itself a sound state of the store
+pub whole_words : (v : View) (words : List ℕ) (known : ℕ → Known) (merger : Known) → Allowed v words known merger → v.whole ≡ true → Allowed v v.words known merger
+whole_words v words known merger a whole = subst (λ (ws : List ℕ). Allowed v ws known merger) (sym (a.whole whole)) a

@@ -1,0 +1,66 @@
+-- What a step tells, in the words of its caller.
+use Rattle.std.proofs.Common.{◌≡◌, ℕ, ◌<◌, List, true, set, refl, sym, subst, ap, ◌∙◌, arith, length, slice_index, get_or-set_same, get_or-set_other}
+use Rattle.lst_layout.specs.Addresses as layout
+use Rattle.lst_layout.specs.Addresses.{address}
+use Rattle.lst_layout.specs.Words.{shown}
+use Rattle.lst_layout.specs.declared.place.Place.{Place}
+use Rattle.lst_layout.proofs.Shown as shows
+use Rattle.lst_core_state.specs.declared.known.Known.{Known}
+use Rattle.lst_core_state.specs.declared.events.Event.{Event}
+use Rattle.lst_core_state.specs.State.{newcomer}
+use Rattle.lst_core_state.specs.Step.{session_of, known_after, after}
+use Rattle.lst_core.specs.Reading.{state_over}
+use Rattle.lst_rule.specs.declared.view.View.{View}
+use Rattle.lst_rule.specs.Rule.{knows, hosts, Told}
+use Rattle.lst_rule.specs.Learned.{Possible, Learns, Made, Met}
+
+-- the view, where the session s knows k and the word i is x
+abbrev pub with : View → ℕ → Known → ℕ → ℕ → View
+with v s k i x = record v { known = set v.known s k; words = set v.words i x }
+
+pub learns_with : (v w : View) (s : ℕ) (k : Known) (i x : ℕ) → s < length v.known → w ≡ with v s k i x → Learns v w s k
+learns_with v w s k i x low is = subst (λ (u : View). Learns v u s k) (sym is) record {
+  now = get_or-set_same v.known s k (newcomer v.limits) low;
+  others = λ t other. get_or-set_other v.known s t k (newcomer v.limits) other;
+  hosted = refl;
+  limits = refl;
+  note = refl;
+  whole = refl;
+}
+
+pub learns_on : (u v w : View) (s : ℕ) (k m : Known) → Learns u v s k → Learns v w s m → Learns u w s m
+learns_on u v w s k m a b = record {
+  now = b.now;
+  others = λ t other. b.others t other ∙ a.others t other;
+  hosted = b.hosted ∙ a.hosted;
+  limits = b.limits ∙ a.limits;
+  note = b.note ∙ a.note;
+  whole = b.whole ∙ a.whole;
+}
+
+-- a session that the view hosts stands in its list
+pub listed_low : (v w : View) (e : Event) (i x s : ℕ) → Told e i x v w → hosts v s ≡ true → s < length v.known
+listed_low v w e i x s t hosted = let a = t.allowed.low s hosted in let b = t.allowed.sized in omega arith
+
+abbrev pub made : (v w : View) (e : Event) (p : Place) (x : ℕ) → Told e (address v.limits p) x v w → hosts v (session_of e) ≡ true → Made v w e p x
+made v w e p x t hosted = record {
+  told = t;
+  view = learns_with v w (session_of e) (known_after v.limits (shown v.limits t.words) (knows v (session_of e)) e) (address v.limits p) x (listed_low v w e (address v.limits p) x (session_of e) t hosted) t.now;
+  words = ap (λ (u : View). u.words) t.now;
+}
+
+abbrev pub met : (v w : View) (e : Event) (p : Place) (x y : ℕ) → layout.IsWithin v.limits p → (h : (t : Told e (address v.limits p) x v w) × (slice_index t.words (address v.limits p) ≡ y)) → hosts v (session_of e) ≡ true → Met v w e p x y
+met v w e p x y within h hosted = record {
+  made = made v w e p x h.0 hosted;
+  found = shows.found v.limits h.0.words h.0.allowed.wide p within ∙ h.1;
+  own = λ whole. sym h.1 ∙ ap (λ (ws : List ℕ). slice_index ws (address v.limits p)) (sym (h.0.allowed.whole whole));
+}
+
+-- the view after a step is possible
+pub possible_after : (v w : View) (e : Event) (i x : ℕ) → Told e i x v w → Possible w
+possible_after v w e i x t = record {
+  words = set t.words i x;
+  known = (after (state_over v.limits t.words t.known t.merger) e).known;
+  merger = (after (state_over v.limits t.words t.known t.merger) e).merger;
+  allowed = t.after;
+}

@@ -1,0 +1,72 @@
+//! The rule of the table, and what each operation on a word tells.
+ghost use Rattle.lst_core_state.specs.declared.events.Event.{Event};
+ghost use Rattle.lst_core_state.specs.declared.events.Event.TheVariants.{Look};
+ghost use Rattle.lst_rule.specs.Rule.{Ruled, crew, loaded, stored, exchanged, added, joined};
+
+use crate::view::View;
+use atomic_table::{Play, TableRule};
+use lst_layout::Limits;
+use std::marker::{Brand, PhantomData};
+
+/// The words and the views of all seats show a sound state of the core.
+pub struct StoreRule;
+
+impl TableRule<(), View, Limits> for StoreRule {
+    ghost holds = { Ruled };
+
+    ghost first = { crew };
+}
+
+/// The event that a step is.
+pub trait Means {
+    ghost event: { Event };
+}
+
+impl Means for Brand {
+    ghost event = { Look 0 0 };
+}
+
+/// A load.
+pub struct Loads<E> {
+    marker: PhantomData<E>,
+}
+
+impl<E: Means> Play<(), View> for Loads<E> {
+    ghost then = { loaded E.event };
+}
+
+/// A store.
+pub struct Stores<E> {
+    marker: PhantomData<E>,
+}
+
+impl<E: Means> Play<(), View> for Stores<E> {
+    ghost then = { stored E.event };
+}
+
+/// An exchange of one number for another.
+pub struct Exchanges<E> {
+    marker: PhantomData<E>,
+}
+
+impl<E: Means> Play<(), View> for Exchanges<E> {
+    ghost then = { exchanged E.event };
+}
+
+/// An addition.
+pub struct Adds<E> {
+    marker: PhantomData<E>,
+}
+
+impl<E: Means> Play<(), View> for Adds<E> {
+    ghost then = { added E.event };
+}
+
+/// Bits that are set.
+pub struct Joins<E> {
+    marker: PhantomData<E>,
+}
+
+impl<E: Means> Play<(), View> for Joins<E> {
+    ghost then = { joined E.event };
+}

@@ -1,0 +1,21 @@
+//! What a seat at the table knows.
+use lst_core_state::Known;
+use lst_layout::Limits;
+use lst_model::Commit;
+use std::collections::LinkedList;
+
+/// What a seat knows. No value of it is made at run time. Sessions are named by their numbers, and the merger by the number
+/// of the sessions.
+pub struct View {
+    pub limits: Limits,
+    /// Whether it hosts each session, and last the merger.
+    pub hosts: LinkedList<bool>,
+    /// What each session knows that it hosts, and last the merger.
+    pub known: LinkedList<Known>,
+    /// A history that it was told.
+    pub note: LinkedList<Commit>,
+    /// It has hosted every session and the merger since the store opened, and so knows each word.
+    pub whole: bool,
+    /// The words, where it knows each.
+    pub words: LinkedList<u64>,
+}

@@ -1,0 +1,6 @@
+pub mod Doing
+pub mod Telling
+pub mod Acting
+pub mod Looking
+pub mod Clocks
+pub mod Opens
