@@ -4,6 +4,7 @@
 mod acts;
 mod loads;
 mod open;
+mod records;
 mod seat;
 mod steps;
 mod store;
@@ -14,6 +15,7 @@ pub use loads::{
     load_tail_counter,
 };
 pub use open::open_store;
+pub use records::RecordId;
 pub use seat::Seat;
 pub use steps::{step_begin, step_clock, step_close, step_give, step_log, step_state, step_take};
 pub use store::Store;

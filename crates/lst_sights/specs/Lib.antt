@@ -1,0 +1,5 @@
+pub mod Copies
+pub mod Seen
+pub mod Judging
+pub mod Loads
+pub mod Laws
