@@ -1,0 +1,14 @@
+pub mod Ages
+pub mod Keeping
+pub mod Entering
+pub mod Numbering
+pub mod Fits
+pub mod Apart
+pub mod Following
+pub mod Seeing
+pub mod Totals
+pub mod Measuring
+pub mod Rising
+pub mod Telling
+pub mod Sounding
+pub mod Writing

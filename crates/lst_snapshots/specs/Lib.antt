@@ -1,0 +1,10 @@
+pub mod Versions
+pub mod Indexes
+pub mod Floors
+pub mod Fitting
+pub mod Kept
+pub mod Measures
+pub mod Sights
+pub mod Told
+pub mod Ordered
+pub mod Written

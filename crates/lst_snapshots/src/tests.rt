@@ -1,0 +1,167 @@
+//! Worked snapshots, and random ones beside tables that are replayed.
+
+use crate::{Sight, Snapshots, snapshots_of};
+use arrayvec::ArrayVec;
+use lst_model::{Act, Commit, History, OutOfMemory, Patch, Row, Table, Write, Writes, apply};
+use std::alloc::Global;
+use std::test::Fail;
+
+fn row(first: u64, second: u64) -> Row {
+    let mut cells = ArrayVec::new();
+    cells.push(first);
+    cells.push(second);
+    Row::new(cells)
+}
+
+fn patch(first: Option<u64>, second: Option<u64>) -> Patch {
+    let mut cells = ArrayVec::new();
+    cells.push(first);
+    cells.push(second);
+    Patch::new(cells)
+}
+
+fn write(key: u64, act: Act) -> Write {
+    Write { key, act }
+}
+
+fn commit(
+    alloc: Global,
+    session: u32,
+    number: u32,
+    begin: u64,
+    only: Write,
+) -> Result<Commit, OutOfMemory> {
+    let mut writes = Writes::new(alloc);
+    writes.push(only)?;
+    Ok(Commit {
+        session,
+        number,
+        begin,
+        writes,
+    })
+}
+
+#[test]
+fn a_sight_shows_its_time_and_its_own_writes(rt: HostRuntime) -> Result<(), Fail> {
+    let alloc = rt.alloc();
+    let mut snapshots = Snapshots::new(alloc);
+    snapshots.push(commit(alloc, 0, 1, 0, write(7, Act::Put(row(10, 20))))?)?;
+    snapshots.push(commit(alloc, 1, 1, 1, write(7, Act::Set(patch(None, Some(21)))))?)?;
+    let mut before = Sight::new(alloc, 0);
+    assert_eq!(rt; before.row(&snapshots, 7), None);
+    assert_eq!(rt; before.count(&snapshots), 0);
+    before.write(&snapshots, &write(9, Act::Put(row(1, 2))))?;
+    assert_eq!(rt; before.row(&snapshots, 9), Some(row(1, 2)));
+    assert_eq!(rt; before.count(&snapshots), 1);
+    let mut first = Sight::new(alloc, 1);
+    assert_eq!(rt; first.row(&snapshots, 7), Some(row(10, 20)));
+    first.write(&snapshots, &write(9, Act::Put(row(5, 20))))?;
+    first.write(&snapshots, &write(9, Act::Set(patch(Some(6), None))))?;
+    assert_eq!(rt; first.sum(&snapshots, 0), 16);
+    assert!(rt; first.tells_rows(&snapshots, &[(7, row(10, 20)), (9, row(6, 20))]));
+    assert!(rt; !first.tells_rows(&snapshots, &[(9, row(6, 20)), (7, row(10, 20))]));
+    assert!(rt; first.tells_keys(&snapshots, &[7, 9], 1, 20));
+    assert!(rt; !first.tells_keys(&snapshots, &[7], 1, 20));
+    first.write(&snapshots, &write(7, Act::Del))?;
+    assert_eq!(rt; first.row(&snapshots, 7), None);
+    assert!(rt; first.tells_rows(&snapshots, &[(9, row(6, 20))]));
+    assert!(rt; !snapshots.is_written(7, 0));
+    assert!(rt; snapshots.is_written(7, 1));
+    assert!(rt; snapshots.wrote(2, 7));
+    assert!(rt; !snapshots.wrote(3, 7));
+    assert!(rt; !snapshots.wrote(1, 9));
+    let second = Sight::new(alloc, 2);
+    assert_eq!(rt; second.row(&snapshots, 7), Some(row(10, 21)));
+    assert!(rt; second.tells_keys(&snapshots, &[], 1, 20));
+    Ok(())
+}
+
+fn answer(alloc: Global, first: Commit, second: Commit) -> Result<Option<Snapshots>, OutOfMemory> {
+    let mut history = History::new(alloc);
+    history.push(first)?;
+    history.push(second)?;
+    snapshots_of(alloc, history)
+}
+
+#[test]
+fn a_history_is_sound_or_not(rt: HostRuntime) -> Result<(), Fail> {
+    let alloc = rt.alloc();
+    let put = commit(alloc, 0, 1, 0, write(7, Act::Put(row(10, 20))))?;
+    let set = commit(alloc, 1, 1, 1, write(7, Act::Set(patch(None, Some(21)))))?;
+    assert!(rt; answer(alloc, put, set)?.is_some());
+    let put = commit(alloc, 0, 1, 0, write(7, Act::Put(row(10, 20))))?;
+    let overlapping = commit(alloc, 1, 1, 0, write(7, Act::Put(row(1, 2))))?;
+    assert!(rt; answer(alloc, put, overlapping)?.is_none());
+    let put = commit(alloc, 0, 1, 0, write(7, Act::Put(row(10, 20))))?;
+    let again = commit(alloc, 0, 1, 1, write(8, Act::Put(row(1, 2))))?;
+    assert!(rt; answer(alloc, put, again)?.is_none());
+    let put = commit(alloc, 0, 1, 0, write(7, Act::Put(row(10, 20))))?;
+    let absent = commit(alloc, 1, 1, 1, write(8, Act::Del))?;
+    assert!(rt; answer(alloc, put, absent)?.is_none());
+    let put = commit(alloc, 0, 1, 0, write(7, Act::Put(row(10, 20))))?;
+    let later = commit(alloc, 1, 1, 2, write(8, Act::Put(row(1, 2))))?;
+    assert!(rt; answer(alloc, put, later)?.is_none());
+    Ok(())
+}
+
+fn drawn(state: &mut u64) -> u64 {
+    let next = state
+        .wrapping_mul(6364136223846793005)
+        .wrapping_add(1442695040888963407);
+    *state = next;
+    next >> 33
+}
+
+fn random_write(state: &mut u64) -> Write {
+    let key = drawn(state) % 6;
+    let cell = drawn(state) % 4;
+    let act = match drawn(state) % 4 {
+        0 => Act::Del,
+        1 => Act::Put(row(cell, 1)),
+        2 => Act::Set(patch(Some(cell), None)),
+        _ => Act::Set(patch(None, Some(cell))),
+    };
+    write(key, act)
+}
+
+#[test]
+fn each_time_shows_the_table_replayed(rt: HostRuntime) -> Result<(), Fail> {
+    let alloc = rt.alloc();
+    let mut state = 7u64;
+    let mut snapshots = Snapshots::new(alloc);
+    for _ in 0..40u32 {
+        let mut writes = Writes::new(alloc);
+        for _ in 0..3u32 {
+            writes.push(random_write(&mut state))?;
+        }
+        snapshots.push(Commit {
+            session: 0,
+            number: 1,
+            begin: 0,
+            writes,
+        })?;
+    }
+    for time in 0..41u64 {
+        let mut table = Table::new(alloc);
+        for commit in snapshots.commits().iter().take(time as usize) {
+            for write in commit.writes.items() {
+                apply(&mut table, write)?;
+            }
+        }
+        let mut sight = Sight::new(alloc, time);
+        for key in 0..6u64 {
+            assert_eq!(rt; snapshots.row(key, time), table.row(key));
+        }
+        for _ in 0..5u32 {
+            let own = random_write(&mut state);
+            apply(&mut table, &own)?;
+            sight.write(&snapshots, &own)?;
+        }
+        for key in 0..6u64 {
+            assert_eq!(rt; sight.row(&snapshots, key), table.row(key));
+        }
+        let present = (0..6u64).filter(|key| table.row(*key).is_some()).count();
+        assert_eq!(rt; sight.count(&snapshots), present as u64);
+    }
+    Ok(())
+}
