@@ -64,3 +64,7 @@ possible_after v w e i x t = record {
   merger = (after (state_over v.limits t.words t.known t.merger) e).merger;
   allowed = t.after;
 }
+
+-- the same, where the second step is told by what the session knew before it
+pub learns_then : (u v w : View) (s : ℕ) (k : Known) (f : Known → Known) → Learns u v s k → Learns v w s (f (knows v s)) → Learns u w s (f k)
+learns_then u v w s k f a b = subst (λ (m : Known). Learns u w s (f m)) a.now (learns_on u v w s k (f (knows v s)) a b)

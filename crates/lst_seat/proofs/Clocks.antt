@@ -1,5 +1,5 @@
 -- What a load of the clock and a try for the turn tell.
-use Rattle.std.proofs.Common.{◌≡◌, ℕ, ◌+◌, List, ◌++◌, ◌∷◌, true, cond, eqb, refl, subst, ◌∙◌, arith}
+use Rattle.std.proofs.Common.{sym, ◌≡◌, ℕ, ◌+◌, List, ◌++◌, ◌∷◌, true, cond, eqb, refl, subst, ◌∙◌, arith}
 use Rattle.lst_layout.specs.declared.place.Place.TheVariants.{ClockWord, CommitWord}
 use Rattle.lst_layout.specs.Words.{Words, shown}
 use Rattle.lst_model.specs.declared.commits.Commit.{Commit}
@@ -21,7 +21,7 @@ clocked v w s x hosted k = let t = k.met.made.told in let W : Words = shown v.li
   grows = is_seen v t.words t.known t.merger t.allowed s hosted;
   clock = c.0 ∙ found;
   few = (let few = c.1 in omega arith);
-  view = subst (λ (y : ℕ). Learns v w s (record (knows v s) { seen = all; turn = refreshed (knows v s).turn; facts = (knows v s).facts ++ index_facts v.limits W; finds = (knows v s).finds ++ FreshClock y ∷ early_find (knows v s) y })) found k.view;
+  view = subst (λ (y : ℕ). Learns v w s (record (knows v s) { seen = all; turn = refreshed (knows v s).turn; facts = (knows v s).facts ++ index_facts v.limits W; finds = (knows v s).finds ++ FreshClock y ∷ early_find (knows v s) y })) (sym c.0) k.view;
   looked = k;
   history = refl;
   records = refl;

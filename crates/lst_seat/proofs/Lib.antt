@@ -4,3 +4,5 @@ pub mod Acting
 pub mod Looking
 pub mod Clocks
 pub mod Opens
+pub mod Quiets
+pub mod Stating

@@ -1,5 +1,5 @@
 -- The numbers of a seat are its view's, after a step too.
-use Rattle.std.proofs.Common.{◌≡◌, ◌≢◌, ℕ, ◌<◌, List, true, get_or, set, sym, subst, ap, ◌∙◌, arith, length-set, get_or-set_other, get_or-set_same, length}
+use Rattle.std.proofs.Common.{◌≤◌, ◌≡◌, ◌≢◌, ℕ, ◌<◌, List, true, get_or, set, sym, subst, ap, ◌∙◌, arith, length-set, get_or-set_other, get_or-set_same, length}
 use mathlib.Core.Logic.{dite}
 use native.Mathlib.Decide.{ℕ_discrete}
 use Rattle.std.proofs.lemmas.List.{get_or_default}
@@ -20,7 +20,7 @@ use Rattle.lst_rule.specs.Learned.{Possible}
 use Rattle.lst_rule.proofs.Enabling.{allowed_steps}
 use Rattle.lst_rule.proofs.Knowing.{knows_own}
 use Rattle.lst_rule.proofs.Learning.{possible_after}
-use Rattle.lst_rule.proofs.Bounded.{writable}
+use Rattle.lst_rule.proofs.Bounded.{writable, numbers_few}
 use Rattle.lst_seat.specs.Seats.{Tells, told}
 
 -- the numbers after a step
@@ -95,3 +95,8 @@ reads v u numbers s n same tells read hosted = let t : Tells u numbers = subst (
 pub reads_step : (v u : View) (numbers : List Numbers) (s : ℕ) (n : Numbers) (e : Event) → v ≡ u → Tells v numbers → n ≡ get_or numbers s n → hosts u s ≡ true → s < u.limits.sessions → session_of e ≡ s → IsWithin u.limits e → Enabled u.limits (knows u s) e
     → MayStep u n e
 reads_step v u numbers s n e same tells read hosted low session within ok = subst (λ (m : Numbers). MayStep u m e) (sym (reads v u numbers s n same tells read hosted)) (may_step u s e (subst Possible same tells.possible) hosted low session within ok)
+
+-- a session's number is within the limit
+pub number_few : (v u : View) (numbers : List Numbers) (s : ℕ) (n : Numbers) → v ≡ u → Tells v numbers → n ≡ get_or numbers s n → hosts u s ≡ true → s < u.limits.sessions → n.number ≤ u.limits.txns
+number_few v u numbers s n same tells read hosted low = let p : Possible u = subst Possible same tells.possible in let is = knows_own u p.words p.known p.merger p.allowed s hosted (λ f. omega arith) in
+    let h = (numbers_few (state_over u.limits p.words p.known p.merger) p.allowed.sound s low).0 in let a = ap (λ (m : Numbers). m.number) (reads v u numbers s n same tells read hosted) in let b = ap (λ (k : Known). k.number) is in omega arith

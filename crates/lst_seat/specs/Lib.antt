@@ -1,3 +1,4 @@
 pub mod Seats
 pub mod Stores
 pub mod Operations
+pub mod Statuses

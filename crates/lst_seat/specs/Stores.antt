@@ -9,6 +9,7 @@ use Rattle.lst_model.specs.Histories.{Extends}
 use Rattle.lst_core_state.specs.declared.events.Event.TheVariants.{Look, Take}
 use Rattle.lst_core_state.specs.declared.facts.Find.TheVariants.{FreshClock}
 use Rattle.lst_core_state.specs.declared.facts.Fact.{Fact}
+use Rattle.lst_core_state.specs.declared.known.Known.{Known}
 use Rattle.lst_core_state.specs.Facts.{early_find, index_facts}
 use Rattle.lst_core_state.specs.State.{history_of}
 use Rattle.lst_core_state.specs.Step.{look_at, refreshed, took, held_off}
@@ -29,6 +30,10 @@ pub record Looked (v w : View) (s : ℕ) (p : Place) (x : ℕ) : Type 0 where
   pub met : Met v w (Look s (address v.limits p)) p x x
   pub view : Learns v w s (look_at v.limits (shown v.limits met.made.told.words) (knows v s) p)
 
+-- what is known once the clock was loaded, with this history and these facts of the index
+abbrev pub clocked : Known → List Commit → List Fact → Known
+clocked k all index = record k { seen = all; turn = refreshed k.turn; facts = k.facts ++ index; finds = k.finds ++ FreshClock (length all) ∷ early_find k (length all) }
+
 -- a load of the clock, which found x: all that is committed then is seen, and the facts have the whole index
 pub record Clocked (v w : View) (s x : ℕ) : Type 0 where
   pub all : List Commit
@@ -36,7 +41,7 @@ pub record Clocked (v w : View) (s x : ℕ) : Type 0 where
   pub grows : Extends all (knows v s).seen
   pub clock : length all ≡ x
   pub few : x < 2 ^ 32
-  pub view : Learns v w s (record (knows v s) { seen = all; turn = refreshed (knows v s).turn; facts = (knows v s).facts ++ index; finds = (knows v s).finds ++ FreshClock x ∷ early_find (knows v s) x })
+  pub view : Learns v w s (clocked (knows v s) all index)
   pub looked : Looked v w s ClockWord x
   pub history : all ≡ history_of v.limits (shown v.limits looked.met.made.told.words)
   pub records : index ≡ index_facts v.limits (shown v.limits looked.met.made.told.words)

@@ -2,14 +2,17 @@
 #![tactic(auto)]
 
 mod acts;
+mod any;
 mod loads;
 mod open;
 mod records;
 mod seat;
+mod status;
 mod steps;
 mod store;
 mod writes;
 
+pub use any::load;
 pub use loads::{
     load_cell, load_clock, load_head, load_index, load_key, load_record_counter, load_state,
     load_tail_counter,
@@ -17,6 +20,7 @@ pub use loads::{
 pub use open::open_store;
 pub use records::RecordId;
 pub use seat::Seat;
+pub use status::{Status, status_of};
 pub use steps::{step_begin, step_clock, step_close, step_give, step_log, step_state, step_take};
 pub use store::Store;
 pub use writes::{

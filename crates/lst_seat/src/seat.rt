@@ -70,7 +70,8 @@ impl Seat {
     /// The number of the transaction that a session began last, or 0.
     pub fn number(&self, s: u32) -> u32
         requires { hosts self.now.view s ≡ true }
-        ensures { result ≡ (knows self.now.view s).number }
+        ensures is { result ≡ (knows self.now.view s).number }
+        ensures few { s < self.now.view.limits.sessions → result ≤ self.now.view.limits.txns }
     {
         self.numbers[s as usize].number
     }

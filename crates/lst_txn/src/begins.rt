@@ -1,0 +1,70 @@
+//! A transaction begins.
+ghost use Rattle.std.specs.Prelude.{◌≡◌, ◌⊎◌, ℕ, ◌↔◌, ◌<◌, ◌≤◌, true, false, IfOk, OnErr, Err, length};
+ghost use Rattle.lst_rule.specs.Rule.{knows, hosts};
+ghost use Rattle.lst_seat.specs.Stores.{IsSeatOf};
+ghost use Rattle.lst_txn.specs.Transactions.{Sees, Opens};
+
+use lst_model::Time;
+use lst_seat::{Seat, Store, load_clock, step_begin};
+
+/// Why no transaction begins.
+#[derive(Clone, Copy, PartialEq, Eq, Debug)]
+pub enum BeginFault {
+    /// A transaction is open.
+    Active,
+    /// The session has begun as many transactions as it may.
+    Spent,
+    /// The clock was found below the time that was asked for.
+    Future { clock: Time },
+}
+
+/// Begins the session's next transaction, and answers its begin: a clock that is loaded in this call.
+pub fn begin(store: &Store, seat: &mut Seat, s: u32) -> Result<Time, BeginFault>
+    requires seat { IsSeatOf store.now seat.old }
+    requires host { hosts seat.old.view s ≡ true }
+    requires own { s < seat.old.view.limits.sessions }
+    ensures seat { IsSeatOf store.now seat.new }
+    ensures ok { IfOk result (λ b. Opens seat.old.view seat.new.view s b b false) }
+    ensures active { (result ≡ Err BeginFault.Active) ↔ ((knows seat.old.view s).is_open ≡ true) }
+    ensures spent { (result ≡ Err BeginFault.Spent) ↔ (((knows seat.old.view s).is_open ≡ false) × ((knows seat.old.view s).number ≡ seat.old.view.limits.txns)) }
+    ensures future { (clock : ℕ) → ¬ (result ≡ Err (BeginFault.Future clock)) }
+    ensures err { OnErr result (seat.new ≡ seat.old) }
+{
+    if seat.is_open(s) {
+        return Err(BeginFault::Active);
+    }
+    if seat.number(s) == seat.limits().txns {
+        return Err(BeginFault::Spent);
+    }
+    let begin = load_clock(store, seat, s);
+    step_begin(store, seat, s, begin, false);
+    Ok(begin)
+}
+
+/// Opens a read-only transaction as of a time, which is its begin. It is refused where the clock that is loaded in this call is below
+/// the time.
+pub fn as_of(store: &Store, seat: &mut Seat, s: u32, time: Time) -> Result<Time, BeginFault>
+    requires seat { IsSeatOf store.now seat.old }
+    requires host { hosts seat.old.view s ≡ true }
+    requires own { s < seat.old.view.limits.sessions }
+    ensures seat { IsSeatOf store.now seat.new }
+    ensures ok { IfOk result (λ b. (b ≡ time) × ((clock : ℕ) × Opens seat.old.view seat.new.view s clock time true)) }
+    ensures active { (result ≡ Err BeginFault.Active) ↔ ((knows seat.old.view s).is_open ≡ true) }
+    ensures spent { (result ≡ Err BeginFault.Spent) ↔ (((knows seat.old.view s).is_open ≡ false) × ((knows seat.old.view s).number ≡ seat.old.view.limits.txns)) }
+    ensures future { (clock : ℕ) → result ≡ Err (BeginFault.Future clock) → (clock < time) × Sees seat.old.view seat.new.view s clock }
+    ensures never { time ≤ length (knows seat.old.view s).seen → (clock : ℕ) → ¬ (result ≡ Err (BeginFault.Future clock)) }
+    ensures still { (result ≡ Err BeginFault.Active) ⊎ (result ≡ Err BeginFault.Spent) → seat.new ≡ seat.old }
+{
+    if seat.is_open(s) {
+        return Err(BeginFault::Active);
+    }
+    if seat.number(s) == seat.limits().txns {
+        return Err(BeginFault::Spent);
+    }
+    let clock = load_clock(store, seat, s);
+    if clock < time {
+        return Err(BeginFault::Future { clock });
+    }
+    step_begin(store, seat, s, time, true);
+    Ok(time)
+}
