@@ -222,7 +222,7 @@ fn is_write_cause(cause: &Cause) -> bool
 }
 
 /// Each line with its reply, in order, as far as there are replies.
-pub(crate) fn paired<'a>(
+pub fn paired<'a>(
     alloc: Global,
     lines: &'a [Line],
     replies: &'a [(Option<u32>, Reply)],

@@ -15,7 +15,7 @@ mod states;
 mod tests;
 mod words;
 
-pub use answers::{Answer, has_reply_shape};
+pub use answers::{Answer, has_reply_shape, paired};
 pub use laws::printed_report_is_read;
 pub use lines::{print_line, push_line};
 pub use parse::{ReportFault, parse_report};
