@@ -24,6 +24,7 @@ pub fn begin(store: &Store, seat: &mut Seat, s: u32) -> Result<Time, BeginFault>
     requires host { hosts seat.old.view s ≡ true }
     requires own { s < seat.old.view.limits.sessions }
     ensures seat { IsSeatOf store.now seat.new }
+    ensures hosted { seat.new.view.hosts ≡ seat.old.view.hosts }
     ensures ok { IfOk result (λ b. Opens seat.old.view seat.new.view s b b false) }
     ensures active { (result ≡ Err BeginFault.Active) ↔ ((knows seat.old.view s).is_open ≡ true) }
     ensures spent { (result ≡ Err BeginFault.Spent) ↔ (((knows seat.old.view s).is_open ≡ false) × ((knows seat.old.view s).number ≡ seat.old.view.limits.txns)) }
@@ -48,6 +49,7 @@ pub fn as_of(store: &Store, seat: &mut Seat, s: u32, time: Time) -> Result<Time,
     requires host { hosts seat.old.view s ≡ true }
     requires own { s < seat.old.view.limits.sessions }
     ensures seat { IsSeatOf store.now seat.new }
+    ensures hosted { seat.new.view.hosts ≡ seat.old.view.hosts }
     ensures ok { IfOk result (λ b. (b ≡ time) × ((clock : ℕ) × Opens seat.old.view seat.new.view s clock time true)) }
     ensures active { (result ≡ Err BeginFault.Active) ↔ ((knows seat.old.view s).is_open ≡ true) }
     ensures spent { (result ≡ Err BeginFault.Spent) ↔ (((knows seat.old.view s).is_open ≡ false) × ((knows seat.old.view s).number ≡ seat.old.view.limits.txns)) }

@@ -39,6 +39,7 @@ pub fn take_turn(store: &Store, seat: &mut Seat, s: u32) -> Result<Turn, TurnFau
     requires writes { (knows seat.old.view s).is_open ≡ true → 0 < length (knows seat.old.view s).own }
     requires free { IsFree (knows seat.old.view s) }
     ensures seat { IsSeatOf store.now seat.new }
+    ensures hosted { seat.new.view.hosts ≡ seat.old.view.hosts }
     ensures ok { IfOk result (λ turn. (turn.session ≡ s) × Learns seat.old.view seat.new.view s (took (knows seat.old.view s))) }
     ensures idle { (result ≡ Err TurnFault.Idle) ↔ ((knows seat.old.view s).is_open ≡ false) }
     ensures still { result ≡ Err TurnFault.Idle → seat.new ≡ seat.old }
@@ -97,6 +98,7 @@ pub fn close(store: &Store, seat: &mut Seat, s: u32) -> Result<(), Idle>
     requires own { s < seat.old.view.limits.sessions }
     requires free { IsFree (knows seat.old.view s) }
     ensures seat { IsSeatOf store.now seat.new }
+    ensures hosted { seat.new.view.hosts ≡ seat.old.view.hosts }
     ensures ok { IfOk result (λ _. Learns seat.old.view seat.new.view s (record (knows seat.old.view s) { is_open = false; own = [] })) }
     ensures idle { IsOk result ↔ ((knows seat.old.view s).is_open ≡ true) }
     ensures err { OnErr result (seat.new ≡ seat.old) }

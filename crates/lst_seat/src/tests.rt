@@ -1,0 +1,26 @@
+//! The greatest store.
+
+use crate::open_store;
+use lst_layout::Limits;
+use std::test::Fail;
+
+const GREATEST: Limits = Limits {
+    columns: 8,
+    ranges: 64,
+    tails: 16_384,
+    sessions: 16,
+    txns: 65_535,
+    spare: 64,
+    indexed: 255,
+};
+
+#[test]
+fn a_store_of_254_550_816_bytes_opens_and_closes(rt: HostRuntime) -> Result<(), Fail> {
+    let Ok(layout) = GREATEST.check() else {
+        return Err(Fail::from("the greatest limits are in range"));
+    };
+    let (store, seat) = open_store(rt.alloc(), &layout)?;
+    assert_eq!(rt; 8 * store.layout().words, 254_550_816);
+    assert!(rt; seat.hosts(16));
+    Ok(())
+}
