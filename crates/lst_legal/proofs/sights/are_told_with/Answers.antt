@@ -1,0 +1,43 @@
+use Rattle.std.proofs.Common.{◌≡◌, ◌↔◌, IsTrue, IfSome, ℕ, ◌<◌, ◌++◌, ◌∷◌, [], take, length, List, sym, ap, ◌∙◌, subst}
+use Rattle.lst_report.specs.Runs.{Answered, speaker_of}
+use Rattle.lst_legal_runs.specs.Places.{seen_at, run_at}
+use Rattle.lst_legal_runs.proofs.Deciding.{is_true, is_false, passes, refuses}
+use Rattle.lst_legal_runs.proofs.Splits.{so_far_none, so_far_step, so_far_wrong, so_far_all}
+use Rattle.lst_legal_runs.proofs.Placing.{run_more, traced_read}
+use Rattle.lst_legal_runs.proofs.Stepping.{speaker_within}
+use Rattle.lst_legal.specs.Sights.{AreSights, TellsSeen}
+use Rattle.lst_legal.proofs.Sighting.{Watched, both_of, of_both}
+use Rattle.lst_legal.proofs.sights.are_told_with.Goals as goal
+
+pub tells_seen-requires : goal.tells_seen-requires
+tells_seen-requires c =
+    subst (λ (n : ℕ). IfSome (speaker_of (seen_at c.place-item.result).line) (λ session. session < n)) (sym c.loop-place.invariant.1.all)
+    (speaker_within c.args.places.now (length c.args.sights.now) c.loop-place.place-index c.place-item.result c.loop-place-test.true c.place-item.is c.requires.within)
+
+pub pass-requires : goal.pass-requires
+pass-requires c =
+    subst (λ (n : ℕ). IfSome (speaker_of (seen_at c.place-item.result).line) (λ session. session < n)) (sym c.loop-place.invariant.1.all)
+    (speaker_within c.args.places.now (length c.args.sights.now) c.loop-place.place-index c.place-item.result c.loop-place-test.true c.place-item.is c.requires.within)
+
+pub returns-then-not-tells_seen : goal.returns-then-not-tells_seen
+returns-then-not-tells_seen c =
+    let places = c.args.places.now in
+    let i = c.loop-place.place-index in
+    let place = c.place-item.result in
+    is_false (λ both.
+    so_far_wrong seen_at (TellsSeen c.args.limits.now c.args.snapshots.now) places i place c.loop-place-test.true c.place-item.is
+    (refuses c.tells_seen.result c.if-not-tells_seen.true (c.tells_seen.ensures (run_at (take i places)) c.loop-place.invariant.1.are (traced_read places i place c.loop-place-test.true c.place-item.is c.requires.traced)))
+    (of_both c.args.limits.now c.args.snapshots.now (run_at places) both))
+
+pub loop-place-preserved : goal.loop-place-preserved
+loop-place-preserved c =
+    let places = c.args.places.now in
+    let i = c.loop-place.place-index in
+    let place = c.place-item.result in (
+      so_far_step seen_at (TellsSeen c.args.limits.now c.args.snapshots.now) places i place c.loop-place-test.true c.place-item.is c.loop-place.invariant.0
+          (passes c.tells_seen.result c.if-not-tells_seen.false (c.tells_seen.ensures (run_at (take i places)) c.loop-place.invariant.1.are (traced_read places i place c.loop-place-test.true c.place-item.is c.requires.traced))),
+      record {
+        all = c.pass.auto.sights ∙ c.loop-place.invariant.1.all;
+        are = subst (AreSights c.args.snapshots.now c.pass.new.sights) (sym (run_more places i place c.loop-place-test.true c.place-item.is)) (c.in_ok-pass.ensures (run_at (take i places)) c.loop-place.invariant.1.are);
+      },
+    )

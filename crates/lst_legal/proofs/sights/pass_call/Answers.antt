@@ -1,0 +1,21 @@
+use Rattle.std.proofs.Common.{◌≡◌, Some, sym, ap, ◌∙◌, subst}
+use Rattle.lst_model.specs.declared.replies.Reply.{Reply}
+use Rattle.lst_model.specs.declared.acts.Write.{Write}
+use Rattle.lst_report.specs.declared.states.SessionState.{SessionState}
+use Rattle.lst_report.specs.declared.states.Transaction.{Transaction}
+use Rattle.lst_report.specs.States.{after_call, with_write}
+use Rattle.lst_report.specs.Runs.{write_of}
+use Rattle.lst_legal.proofs.Sighting.{write_unseen, write_seen}
+use Rattle.lst_legal.proofs.sights.pass_call.Goals as goal
+
+pub returns-in_default-sight : goal.returns-in_default-sight
+returns-in_default-sight c = λ state is transaction e.
+    let now : (after_call c.args.call.now c.args.reply.now state).current ≡ with_write (write_of c.args.call.now) state.current = ap (λ (r : Reply). (after_call c.args.call.now r state).current) c.in-Done.is in
+    write_unseen c.args.snapshots.now c.args.sight.now c.in-Some.write state.current is c.in_default-sight.is transaction
+    (ap (λ w. with_write w state.current) (sym c.in-Some.is ∙ c.write_of.ensures) ∙ sym now ∙ e)
+
+pub returns-in_ok-write-in-Done : goal.returns-in_ok-write-in-Done
+returns-in_ok-write-in-Done c = λ state is transaction e.
+    let now : (after_call c.args.call.now c.args.reply.now state).current ≡ with_write (write_of c.args.call.now) state.current = ap (λ (r : Reply). (after_call c.args.call.now r state).current) c.in-Done.is in
+    write_seen c.args.snapshots.now c.args.sight.now c.in-Some-sight.sight c.write.new.self c.in-Some.write state.current is c.in-Some-sight.is c.in_ok-write-in-Done.ensures.ok transaction
+    (ap (λ w. with_write w state.current) (sym c.in-Some.is ∙ c.write_of.ensures) ∙ sym now ∙ e)

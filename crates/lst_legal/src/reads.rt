@@ -1,0 +1,82 @@
+//! Replies that tell what a transaction sees.
+ghost use Rattle.std.specs.Prelude.{◌≡◌, ◌↔◌, IsTrue};
+ghost use Rattle.lst_machine.specs.Calls.{is_indexed};
+ghost use Rattle.lst_model.specs.Tables.{row_of, sum_of, count_of};
+ghost use Rattle.lst_report.specs.Explained.{TellsSight, is_not_indexed_reply, lacks_index};
+ghost use Rattle.lst_snapshots.specs.Sights.{seen};
+
+use lst_layout::Limits;
+use lst_model::{Call, Cause, Key, Reply};
+use lst_snapshots::{Sight, Snapshots};
+
+/// Whether a reply with rows, keys or numbers tells what a transaction sees.
+pub(crate) fn tells_sight(snapshots: &Snapshots, sight: &Sight, call: &Call, reply: &Reply) -> bool
+    ensures { IsTrue result ↔ TellsSight (seen snapshots.now sight.now) call.now reply.now }
+{
+    match call {
+        Call::Get { key } => tells_row(snapshots, sight, *key, reply),
+        Call::Sum { column } => match reply {
+            Reply::Sum { total } => *total == sight.sum(snapshots, *column),
+            _ => true,
+        },
+        Call::Count => match reply {
+            Reply::Count { rows } => *rows == sight.count(snapshots),
+            _ => true,
+        },
+        Call::Scan => match reply {
+            Reply::Rows { list } => sight.tells_rows(snapshots, list.items()),
+            _ => true,
+        },
+        Call::Find { column, value } => match reply {
+            Reply::Keys { list } => sight.tells_keys(snapshots, list.items(), *column, *value),
+            _ => true,
+        },
+        _ => true,
+    }
+}
+
+fn tells_row(snapshots: &Snapshots, sight: &Sight, key: Key, reply: &Reply) -> bool
+    ensures { IsTrue result ↔ TellsSight (seen snapshots.now sight.now) (Call.Get key) reply.now }
+{
+    match reply {
+        Reply::Row { row } => match sight.row(snapshots, key) {
+            Some(found) => found.cells() == row.cells(),
+            None => false,
+        },
+        Reply::Absent => sight.row(snapshots, key).is_none(),
+        _ => true,
+    }
+}
+
+/// Whether a column has an index.
+fn is_indexed(limits: &Limits, column: u32) -> bool
+    ensures { result ≡ is_indexed limits.now column }
+{
+    let indexed = u32::from(limits.indexed);
+    if column >= 32 {
+        return false;
+    }
+    indexed >> column & 1 == 1
+}
+
+/// Whether a call is a find on a column without an index.
+pub(crate) fn lacks_index(limits: &Limits, call: &Call) -> bool
+    ensures { result ≡ lacks_index limits.now call.now }
+{
+    match call {
+        Call::Find { column, .. } => !is_indexed(limits, *column),
+        _ => false,
+    }
+}
+
+pub(crate) fn is_not_indexed_reply(reply: &Reply) -> bool
+    ensures { result ≡ is_not_indexed_reply reply.now }
+{
+    match reply {
+        Reply::Refused { cause } => match cause {
+            Cause::NotIndexed => true,
+            _ => false,
+        },
+        _ => false,
+    }
+}

@@ -1,0 +1,195 @@
+//! Reads answer their snapshot, and write replies fit it.
+ghost use Rattle.std.specs.Prelude.{◌≡◌, ◌↔◌, ℕ, ◌<◌, List, [], ◌∷◌, ◌++◌, Option, Some, None, length, replicate, slice_index_or, IsTrue, IfSome, IfOk, OnOk};
+ghost use Rattle.lst_report.specs.declared.states.SessionState.{SessionState};
+ghost use Rattle.lst_report.specs.declared.states.Transaction.{Transaction};
+ghost use Rattle.lst_report.specs.Runs.{Answered, AtEachCall, speaker_of, write_of};
+ghost use Rattle.lst_report.specs.States.{state_of, after_call, sight_of};
+ghost use Rattle.lst_report.specs.Explained.{ReadIsAnswered, WriteIsAnswered};
+ghost use Rattle.lst_report.specs.Legal.{AtEachWrite};
+ghost use Rattle.lst_legal_runs.specs.Outlines.{outline_of, outline_of_open};
+ghost use Rattle.lst_legal_runs.specs.Places.{AreTraced, AreWithin, outline_at, run_at, seen_at};
+ghost use Rattle.lst_report.specs.Seen.{seen as seen_answer};
+ghost use Rattle.lst_snapshots.specs.Sights.{seen};
+ghost use Rattle.lst_legal.specs.Sights.{IsSightOf, AreSights, TellsSeen};
+
+use crate::reads::{is_not_indexed_reply, lacks_index, tells_sight};
+use crate::writes::is_write_answered;
+use lst_layout::Limits;
+use lst_legal_runs::{OpenOutline, Place, write_of};
+use lst_model::{Call, OutOfMemory, Reply, Time};
+use lst_report::Answer;
+use lst_snapshots::{Sight, Snapshots};
+use std::alloc::Global;
+
+/// Whether the replies of a run tell what its transactions see, under a history, and those to writes fit it. The run's
+/// sessions are below this number.
+pub fn are_sights_told(
+    alloc: Global,
+    limits: &Limits,
+    sessions: u32,
+    snapshots: &Snapshots,
+    places: &[Place],
+) -> Result<bool, OutOfMemory>
+    requires within { AreWithin sessions (run_at places.now) }
+    requires traced { AreTraced places.now }
+    ensures { IfOk result (λ b. IsTrue b ↔ (AtEachCall (λ before session call reply. ReadIsAnswered limits.now snapshots.now (state_of session before).current call reply) (run_at places.now) × AtEachWrite (λ before session transaction write reply. WriteIsAnswered snapshots.now transaction write reply) (run_at places.now))) }
+{
+    let mut sights = no_sights(alloc, sessions)?;
+    are_told_with(alloc, limits, snapshots, &mut sights, places)
+}
+
+fn are_told_with(
+    alloc: Global,
+    limits: &Limits,
+    snapshots: &Snapshots,
+    sights: &mut [Option<Sight>],
+    places: &[Place],
+) -> Result<bool, OutOfMemory>
+    requires within { AreWithin (length sights.old) (run_at places.now) }
+    requires traced { AreTraced places.now }
+    requires opening { AreSights snapshots.now sights.old [] }
+    ensures { IfOk result (λ b. IsTrue b ↔ (AtEachCall (λ before session call reply. ReadIsAnswered limits.now snapshots.now (state_of session before).current call reply) (run_at places.now) × AtEachWrite (λ before session transaction write reply. WriteIsAnswered snapshots.now transaction write reply) (run_at places.now))) }
+{
+    for place in places {
+        if !tells_seen(limits, snapshots, sights, place) {
+            return Ok(false);
+        }
+        pass(alloc, snapshots, sights, &place.answer)?;
+    }
+    Ok(true)
+}
+
+fn no_sights(alloc: Global, sessions: u32) -> Result<Vec<Option<Sight>>, OutOfMemory>
+    ensures { IfOk result (λ sights. sights.items ≡ replicate sessions None) }
+{
+    let mut sights = Vec::new(alloc);
+    for _ in 0..sessions {
+        sights.push(None)?;
+    }
+    Ok(sights)
+}
+
+fn tells_seen(
+    limits: &Limits,
+    snapshots: &Snapshots,
+    sights: &[Option<Sight>],
+    place: &Place,
+) -> bool
+    requires { IfSome (speaker_of (seen_at place.now).line) (λ session. session < length sights.now) }
+    ensures { (before : List Answered) → AreSights snapshots.now sights.now before → place.now.outline ≡ outline_at before (speaker_of (seen_at place.now).line) → (IsTrue result ↔ TellsSeen limits.now snapshots.now before (seen_at place.now)) }
+{
+    match place.answer {
+        Answer::Phase => true,
+        Answer::Merge { .. } => true,
+        Answer::Call {
+            session,
+            call,
+            reply,
+        } => tells_call(
+            limits,
+            snapshots,
+            &sights[session as usize],
+            &place.outline.current,
+            call,
+            reply,
+        ),
+    }
+}
+
+fn tells_call(
+    limits: &Limits,
+    snapshots: &Snapshots,
+    sight: &Option<Sight>,
+    current: &Option<OpenOutline>,
+    call: &Call,
+    reply: &Reply,
+) -> bool
+    ensures { (state : SessionState) → IsSightOf snapshots.now sight.now state → current.now ≡ (outline_of state).current → (IsTrue result ↔ (ReadIsAnswered limits.now snapshots.now state.current call.now reply.now × IfSome state.current (λ transaction. IfSome (write_of call.now) (λ write. WriteIsAnswered snapshots.now transaction write reply.now)))) }
+{
+    let Some(current) = current else {
+        return !is_not_indexed_reply(reply);
+    };
+    let Some(sight) = sight else {
+        return false;
+    };
+    is_open_answered(limits, snapshots, sight, current.begin, call, reply)
+}
+
+/// Whether a reply to a call in an open transaction tells what it sees.
+fn is_open_answered(
+    limits: &Limits,
+    snapshots: &Snapshots,
+    sight: &Sight,
+    begin: Time,
+    call: &Call,
+    reply: &Reply,
+) -> bool
+    ensures { (transaction : Transaction) → seen snapshots.now sight.now ≡ sight_of snapshots.now transaction → begin ≡ transaction.begin → (IsTrue result ↔ (ReadIsAnswered limits.now snapshots.now (Some transaction) call.now reply.now × IfSome (write_of call.now) (λ write. WriteIsAnswered snapshots.now transaction write reply.now))) }
+{
+    if is_not_indexed_reply(reply) != lacks_index(limits, call) {
+        return false;
+    }
+    if !tells_sight(snapshots, sight, call, reply) {
+        return false;
+    }
+    is_write_answered(snapshots, sight, begin, call, reply)
+}
+
+/// Passes a line by.
+fn pass(
+    alloc: Global,
+    snapshots: &Snapshots,
+    sights: &mut [Option<Sight>],
+    answer: &Answer,
+) -> Result<(), OutOfMemory>
+    requires { IfSome (speaker_of (seen_answer answer.now).line) (λ session. session < length sights.old) }
+    ensures { OnOk result ((front : List Answered) → AreSights snapshots.now sights.old front → AreSights snapshots.now sights.new (front ++ seen_answer answer.now ∷ [])) }
+{
+    match answer {
+        Answer::Phase => Ok(()),
+        Answer::Merge { .. } => Ok(()),
+        Answer::Call {
+            session,
+            call,
+            reply,
+        } => {
+            pass_call(
+                alloc,
+                snapshots,
+                &mut sights[*session as usize],
+                call,
+                reply,
+            )?;
+            Ok(())
+        }
+    }
+}
+
+/// What a session's open transaction sees behind a call.
+fn pass_call(
+    alloc: Global,
+    snapshots: &Snapshots,
+    sight: &mut Option<Sight>,
+    call: &Call,
+    reply: &Reply,
+) -> Result<(), OutOfMemory>
+    ensures { OnOk result ((state : SessionState) → IsSightOf snapshots.now sight.old state → IsSightOf snapshots.now sight.new (after_call call.now reply.now state)) }
+{
+    match reply {
+        Reply::Begun { time } => {
+            *sight = Some(Sight::new(alloc, *time));
+            Ok(())
+        }
+        Reply::Done => {
+            let Some(write) = write_of(call) else {
+                return Ok(());
+            };
+            let Some(sight) = sight else {
+                return Ok(());
+            };
+            sight.write(snapshots, &write)?;
+            Ok(())
+        }
+        _ => Ok(()),
+    }
+}

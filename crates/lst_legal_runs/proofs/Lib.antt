@@ -1,0 +1,13 @@
+pub mod Deciding
+pub mod Splits
+pub mod Behind
+pub mod Placing
+pub mod Marking
+pub mod Flooring
+pub mod Sorting
+pub mod Pending
+pub mod Gathered
+pub mod Stepping
+pub mod Firsting
+pub mod Writing
+pub mod Accepting

@@ -1,0 +1,9 @@
+use Rattle.std.proofs.Common.{◌≡◌}
+use Rattle.lst_report.specs.Explained.{ConflictIsExplained}
+use Rattle.lst_legal_runs.proofs.Writing.{at_write}
+use Rattle.lst_legal_runs.proofs.conflicts.Conflicts.explains_write.Goals as goal
+
+pub returns : goal.returns
+returns c = λ history run transaction write conflicts current key.
+    at_write c.explains.result (λ t w. ConflictIsExplained history run c.args.session t w c.args.reply.now) transaction write c.args.current.now c.args.key c.in-Some.current c.in-Some-key.key
+    current c.in-Some.is key c.in-Some-key.is (λ t w same same_key. c.explains.ensures history run t w conflicts same same_key)

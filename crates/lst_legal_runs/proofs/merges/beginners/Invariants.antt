@@ -1,0 +1,7 @@
+use Rattle.std.proofs.Common.{take}
+use Rattle.lst_legal_runs.specs.Places.{run_at}
+use Rattle.lst_legal_runs.specs.Merges.{AreBeginners}
+use Rattle.lst_legal_runs.proofs.merges.beginners.Given as goal
+
+abbrev pub invariant-loop-place : goal.invariant-loop-place
+invariant-loop-place l = AreBeginners l.marks (run_at (take l.place-index l.places))

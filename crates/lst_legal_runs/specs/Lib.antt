@@ -1,0 +1,10 @@
+pub mod Outlines
+pub mod Places
+pub mod Rules
+pub mod Marks
+pub mod Floors
+pub mod Merges
+pub mod Gathering
+pub mod Firsts
+pub mod Fullness
+pub mod Conflicts
