@@ -1,0 +1,28 @@
+-- The positions of a key's run, as the program computes them.
+use Rattle.std.proofs.Common.{◌≡◌, ℕ, ◌+◌, ◌%◌, ◌^◌, ◌<◌, ◌≤◌, sym, subst, ap, refl, arith}
+use mathlib.Core.Logic.{dite}
+use native.Mathlib.Decide.{ℕ_discrete}
+use Rattle.lst_layout.specs.declared.limits.Limits.{Limits}
+use Rattle.lst_layout.specs.Limits.{IsValid}
+use Rattle.lst_layout.specs.Areas.{index_bits, index_positions}
+use Rattle.lst_probe.specs.Run.{start_of, run_position}
+use Rattle.lst_core_state.specs.Index.{size, first_of, position_of}
+use Rattle.lst_core_state.proofs.Positions.{size_enough, position_low}
+
+pub size_is : (l : Limits) → size l ≡ index_positions l
+unfolding size
+size_is l = refl
+
+module _ (l : Limits) (sized : IsValid l) where
+  pub bits_some : 1 ≤ index_bits l
+  unfolding size
+  bits_some = dite (ℕ_discrete (index_bits l) 0)
+      (λ e. let h = (size_enough l sized).0 in let some = sized.ranges.0 in let one : size l ≡ 2 ^ 0 = ap (λ (b : ℕ). 2 ^ b) e in absurd (omega arith))
+      (λ ne. omega arith)
+
+  pub position_is : (key turn first : ℕ) → first ≡ start_of key (index_bits l) → (positions : ℕ) → positions ≡ index_positions l → (first + turn) % positions ≡ position_of l key turn
+  unfolding size first_of run_position
+  position_is key turn first e positions f = λ i. (e i + turn) % f i
+
+  pub position_below : (key turn first : ℕ) → first ≡ start_of key (index_bits l) → (positions : ℕ) → positions ≡ index_positions l → (first + turn) % positions < size l
+  position_below key turn first e positions f = subst (λ (q : ℕ). q < size l) (sym (position_is key turn first e positions f)) (position_low l sized key turn)

@@ -1,0 +1,9 @@
+pub mod Lists
+pub mod Hashing
+pub mod Views
+pub mod Ending
+pub mod Looks
+pub mod Searching
+pub mod Draws
+pub mod Claims
+pub mod Visiting

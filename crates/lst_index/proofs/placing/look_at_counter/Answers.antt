@@ -1,0 +1,26 @@
+use Rattle.std.proofs.Common.{◌<◌, ◌≤◌, ℕ, subst, ap}
+use Rattle.lst_layout.specs.declared.layout.Layout.{Layout}
+use Rattle.lst_index.proofs.Draws.{load_works, load_works_full, load_placing, load_serves, load_full, limit_is}
+use Rattle.lst_index.proofs.placing.look_at_counter.Goals as goal
+
+pub returns-then-load_record_counter-record_count-clause-works : goal.returns-then-load_record_counter-record_count-clause-works
+returns-then-load_record_counter-record_count-clause-works c = load_works_full _ _ _ _ c.load_record_counter.ensures.looked
+    (subst (λ (n : ℕ). n ≤ c.load_record_counter.result) (limit_is c.args.seat.now.view c.layout.result.now.limits c.args.store.now.layout.limits c.record_count.result c.record_count.ensures.count (ap (λ (y : Layout). y.limits) c.layout.ensures) c.requires.seat.limits) c.if-load_record_counter-record_count.true)
+
+pub returns-then-load_record_counter-record_count-clause-placing : goal.returns-then-load_record_counter-record_count-clause-placing
+returns-then-load_record_counter-record_count-clause-placing c = load_placing _ _ _ _ c.load_record_counter.ensures.looked
+
+pub returns-then-load_record_counter-record_count-clause-full : goal.returns-then-load_record_counter-record_count-clause-full
+returns-then-load_record_counter-record_count-clause-full c = load_full _ _ _ _ c.load_record_counter.ensures.looked
+    (subst (λ (n : ℕ). n ≤ c.load_record_counter.result) (limit_is c.args.seat.now.view c.layout.result.now.limits c.args.store.now.layout.limits c.record_count.result c.record_count.ensures.count (ap (λ (y : Layout). y.limits) c.layout.ensures) c.requires.seat.limits) c.if-load_record_counter-record_count.true)
+
+pub returns-clause-works : goal.returns-clause-works
+returns-clause-works c = load_works _ _ _ _ c.load_record_counter.ensures.looked
+    (subst (λ (n : ℕ). c.load_record_counter.result < n) (limit_is c.args.seat.now.view c.layout.result.now.limits c.args.store.now.layout.limits c.record_count.result c.record_count.ensures.count (ap (λ (y : Layout). y.limits) c.layout.ensures) c.requires.seat.limits) c.if-load_record_counter-record_count.false)
+
+pub returns-clause-placing : goal.returns-clause-placing
+returns-clause-placing c = load_placing _ _ _ _ c.load_record_counter.ensures.looked
+
+pub returns-clause-serves : goal.returns-clause-serves
+returns-clause-serves c = load_serves _ _ _ _ c.load_record_counter.ensures.looked
+    (subst (λ (n : ℕ). c.load_record_counter.result < n) (limit_is c.args.seat.now.view c.layout.result.now.limits c.args.store.now.layout.limits c.record_count.result c.record_count.ensures.count (ap (λ (y : Layout). y.limits) c.layout.ensures) c.requires.seat.limits) c.if-load_record_counter-record_count.false)

@@ -1,0 +1,40 @@
+use Rattle.std.proofs.Common.{List, subst, ap}
+use Rattle.lst_layout.specs.declared.layout.Layout.{Layout}
+use Rattle.lst_core_state.specs.declared.facts.Find.{Find}
+use Rattle.lst_index.specs.Searches.{Works}
+use Rattle.lst_index.proofs.Views.{works_on}
+use Rattle.lst_index.proofs.Ending.{endless}
+use Rattle.lst_index.proofs.Searching.{turn_short, turns_over}
+use Rattle.lst_index.proofs.Visiting.{none_is, on_err, finds_of_err, place_on, place_first, place_drew, full_on}
+use Rattle.lst_index.proofs.placing.place.Goals as goal
+
+pub loop-turn-init : goal.loop-turn-init
+loop-turn-init c = place_first _ _ _ _ c.requires.seat c.requires.host c.requires.own c.requires.free c.consider.ensures
+
+pub visit-requires-clause-turn : goal.visit-requires-clause-turn
+visit-requires-clause-turn c = turn_short c.layout.result.now.limits c.args.store.now.layout.limits c.index_positions-all.result c.loop-turn.turn c.loop-turn-test.true c.index_positions-all.ensures.count (ap (λ (y : Layout). y.limits) c.layout.ensures)
+
+pub returns-in_err-placed-clause-works : goal.returns-in_err-placed-clause-works
+returns-in_err-placed-clause-works c = subst (λ (fs : List Find). Works c.args.seat.now.view c.visit.new.seat.view c.args.s fs) (finds_of_err c.from_residual.result c.from_residual.ensures.0) (works_on _ _ _ _ _ c.loop-turn.invariant.works c.in_err-placed.ensures.works)
+
+pub returns-in_err-placed-clause-drew : goal.returns-in_err-placed-clause-drew
+returns-in_err-placed-clause-drew c = place_drew _ _ c.loop-turn.seat c.visit.new.seat.view _ _ _ 1 c.loop-turn.invariant c.in_err-placed.ensures.uses
+
+pub returns-in_err-placed-clause-full : goal.returns-in_err-placed-clause-full
+returns-in_err-placed-clause-full c = on_err c.from_residual.result (full_on _ _ _ _ _ c.loop-turn.invariant.works c.in_err-placed.ensures.full)
+
+pub returns-in_err-placed-clause-none : goal.returns-in_err-placed-clause-none
+returns-in_err-placed-clause-none c = on_err c.from_residual.result (place_drew _ _ c.loop-turn.seat c.visit.new.seat.view _ _ _ 0 c.loop-turn.invariant c.in_err-placed.ensures.none.1)
+
+pub returns-in-Some-clause-works : goal.returns-in-Some-clause-works
+returns-in-Some-clause-works c = works_on _ _ _ _ _ c.loop-turn.invariant.works c.in_ok-placed.ensures.works
+
+pub returns-in-Some-clause-drew : goal.returns-in-Some-clause-drew
+returns-in-Some-clause-drew c = place_drew _ _ c.loop-turn.seat c.visit.new.seat.view _ _ _ 1 c.loop-turn.invariant c.in_ok-placed.ensures.uses
+
+pub loop-turn-preserved : goal.loop-turn-preserved
+loop-turn-preserved c = place_on _ _ c.loop-turn.seat c.visit.new.seat _ _ _ c.loop-turn.invariant c.in_ok-placed.ensures.works c.visit.ensures.seat (none_is c.in_ok-placed.field-0 c.in_default.is c.in_ok-placed.ensures.passed)
+
+pub unreachable-requires : goal.unreachable-requires
+unreachable-requires c = endless c.args.store.now.layout.limits c.loop-turn.seat.view c.args.s c.args.key c.loop-turn.turn c.loop-turn.invariant.seat_of.limits c.loop-turn.invariant.host c.consider-2.ensures c.loop-turn.invariant.passed
+    (turns_over c.layout.result.now.limits c.args.store.now.layout.limits c.index_positions-all.result c.loop-turn.turn c.loop-turn-test.false c.index_positions-all.ensures.count (ap (λ (y : Layout). y.limits) c.layout.ensures))

@@ -1,0 +1,42 @@
+use Rattle.std.proofs.Common.{List, subst, ap, ◌∙◌}
+use Rattle.lst_layout.specs.declared.layout.Layout.{Layout}
+use Rattle.lst_core_state.specs.Index.{position_of}
+use Rattle.lst_index.proofs.Views.{works_on}
+use Rattle.lst_index.proofs.Searching.{passed_on}
+use Rattle.lst_core_state.specs.declared.facts.Find.{Find}
+use Rattle.lst_rule.specs.Rule.{knows}
+use Rattle.lst_index.specs.Searches.{Works}
+use Rattle.lst_index.proofs.Visiting.{found_full, finds_of_err, on_err, look_passed, look_drawn, lost_passed}
+use Rattle.lst_index.proofs.placing.visit.Goals as goal
+
+pub returns-in-Some-clause-works : goal.returns-in-Some-clause-works
+returns-in-Some-clause-works c = works_on _ _ _ _ _ c.look.ensures.works c.compare.ensures.works
+
+pub returns-in-Some-clause-passed : goal.returns-in-Some-clause-passed
+returns-in-Some-clause-passed c = look_passed c.args.store.now.layout.limits c.args.seat.now.view c.look.new.seat.view c.compare.new.seat.view c.args.s c.args.key c.args.turn c.position-at.result c.in-Some.number
+    (c.position-at.ensures.position ∙ ap (λ (y : Layout). position_of y.limits c.args.key c.args.turn) c.layout.ensures) c.compare.result c.compare.ensures.other
+    c.look.ensures.works c.look.ensures.placing c.compare.ensures.works c.requires.holds c.requires.passed
+
+pub returns-in_err-take_record-clause-works : goal.returns-in_err-take_record-clause-works
+returns-in_err-take_record-clause-works c = subst (λ (fs : List Find). Works c.args.seat.now.view c.take_record.new.seat.view c.args.s fs) (finds_of_err c.from_residual.result c.from_residual.ensures.0) (works_on _ _ _ _ _ c.look.ensures.works c.in_err-take_record.ensures.works)
+
+pub returns-in_err-take_record-clause-full : goal.returns-in_err-take_record-clause-full
+returns-in_err-take_record-clause-full c = on_err c.from_residual.result (found_full c.args.seat.now.view c.look.new.seat.view c.take_record.new.seat.view c.args.s c.args.key c.requires.host c.requires.own c.look.ensures.works
+    (c.in_default.ensures.none c.args.key c.args.turn c.requires.turn (c.position-at.ensures.position ∙ ap (λ (y : Layout). position_of y.limits c.args.key c.args.turn) c.layout.ensures) c.requires.passed)
+    c.in_err-take_record.ensures.works c.in_err-take_record.ensures.full)
+
+pub claim-requires-clause-passed : goal.claim-requires-clause-passed
+claim-requires-clause-passed c = passed_on c.args.store.now.layout.limits c.look.new.seat.view c.take_record.new.seat.view c.args.s c.args.key c.args.turn c.in_ok-take_record.ensures.works (passed_on c.args.store.now.layout.limits c.args.seat.now.view c.look.new.seat.view c.args.s c.args.key c.args.turn c.look.ensures.works c.requires.passed)
+
+pub returns-in-Ok-clause-works : goal.returns-in-Ok-clause-works
+returns-in-Ok-clause-works c = works_on _ _ _ _ _ (works_on _ _ _ _ _ c.look.ensures.works c.in_ok-take_record.ensures.works) c.claim.ensures.works
+
+pub returns-in-Err-clause-works : goal.returns-in-Err-clause-works
+returns-in-Err-clause-works c = works_on _ _ _ _ _ (works_on _ _ _ _ _ (works_on _ _ _ _ _ c.look.ensures.works c.in_ok-take_record.ensures.works) c.claim.ensures.works) c.compare-in-Err.ensures.works
+
+pub returns-in-Err-clause-passed : goal.returns-in-Err-clause-passed
+returns-in-Err-clause-passed c = lost_passed c.args.store.now.layout.limits c.args.seat.now.view c.claim.new.seat.view c.compare-in-Err.new.seat.view c.args.s c.args.key c.args.turn c.position-at.result c.in-Err.lost.number
+    (c.position-at.ensures.position ∙ ap (λ (y : Layout). position_of y.limits c.args.key c.args.turn) c.layout.ensures) c.compare-in-Err.result c.compare-in-Err.ensures.other
+    (works_on _ _ _ _ _ (works_on _ _ _ _ _ c.look.ensures.works c.in_ok-take_record.ensures.works) c.claim.ensures.works) (knows c.take_record.new.seat.view c.args.s).placing
+    (look_drawn (knows c.args.seat.now.view c.args.s).placing (knows c.look.new.seat.view c.args.s).placing (knows c.take_record.new.seat.view c.args.s).placing c.look.ensures.placing 1 c.in_ok-take_record.ensures.has.1)
+    c.in_ok-take_record.ensures.has.0 c.in-Err.ensures.lost.2 c.compare-in-Err.ensures.works c.requires.passed

@@ -1,0 +1,11 @@
+//! The primary index: which record a key has, and how a key comes to one.
+#![tactic(auto)]
+
+mod finding;
+mod placing;
+mod positions;
+mod visits;
+
+pub use finding::find;
+pub use lst_seat::RecordId;
+pub use placing::{TableFull, place};

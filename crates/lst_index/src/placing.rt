@@ -1,0 +1,182 @@
+//! A record for a key.
+ghost use Rattle.std.specs.Prelude.{◌≡◌, ◌≢◌, ℕ, ◌+◌, ◌-◌, ◌<◌, ◌≤◌, [], ◌∷◌, true, false, IfSome, IfNone, IfOk, IfErr, OnOk, OnErr};
+ghost use Rattle.lst_core_state.specs.declared.facts.Find.TheVariants.{FullRecords};
+ghost use Rattle.lst_core_state.specs.Cells.{record_count};
+ghost use Rattle.lst_core_state.specs.Index.{size, position_of};
+ghost use Rattle.lst_rule.specs.Rule.{knows, hosts};
+ghost use Rattle.lst_seat.specs.Stores.{IsSeatOf};
+ghost use Rattle.lst_index.specs.Searches.{IsPlaced, Passed, Works};
+ghost use Rattle.lst_index.specs.Placings.{Drew, IsFull, FoundFull, full_finds};
+ghost use Rattle.lst_index.specs.Visits.{one, Holds, HasOne, Uses, Shows};
+
+use crate::positions::position;
+use crate::visits::{compare, look};
+use lst_model::Key;
+use lst_seat::{
+    RecordId, Seat, Store, load_record_counter, step_claim, step_draw_record, step_store_key,
+};
+
+/// Every record of the store is drawn.
+#[derive(Clone, Copy, PartialEq, Eq, Debug)]
+pub struct TableFull;
+
+/// Another session has filled the position, with this record.
+#[derive(Clone, Copy, PartialEq, Eq, Debug)]
+struct Lost {
+    number: u32,
+}
+
+/// Looks whether a record is left to be drawn.
+fn look_at_counter(store: &Store, seat: &mut Seat, s: u32) -> Result<(), TableFull>
+    requires seat { IsSeatOf store.now seat.old }
+    requires host { hosts seat.old.view s ≡ true }
+    ensures seat { IsSeatOf store.now seat.new }
+    ensures works { Works seat.old.view seat.new.view s (full_finds result) }
+    ensures placing { let before = (knows seat.old.view s).placing in (knows seat.new.view s).placing ≡ record before { counter = (knows seat.new.view s).placing.counter } }
+    ensures serves { OnOk result ((knows seat.new.view s).placing.counter.is_serving ≡ true) }
+    ensures full { OnErr result (IsFull seat.new.view s) }
+{
+    if load_record_counter(store, seat, s) >= store.layout().limits.record_count() {
+        return Err(TableFull);
+    }
+    Ok(())
+}
+
+/// Draws a record, and stores its key.
+fn draw(store: &Store, seat: &mut Seat, s: u32, key: Key) -> Result<(), TableFull>
+    requires seat { IsSeatOf store.now seat.old }
+    requires host { hosts seat.old.view s ≡ true }
+    requires own { s < seat.old.view.limits.sessions }
+    requires free { (knows seat.old.view s).placing.hand ≡ 0 }
+    requires keyless { (knows seat.old.view s).placing.has_key ≡ false }
+    requires serves { (knows seat.old.view s).placing.counter.is_serving ≡ true }
+    ensures seat { IsSeatOf store.now seat.new }
+    ensures works { Works seat.old.view seat.new.view s (full_finds result) }
+    ensures drawn { OnOk result (HasOne (knows seat.new.view s).placing key × Uses (knows seat.old.view s).placing (knows seat.new.view s).placing 1) }
+    ensures full { OnErr result (IsFull seat.new.view s) }
+    ensures none { OnErr result (let before = (knows seat.old.view s).placing in (knows seat.new.view s).placing ≡ record before { counter = (knows seat.new.view s).placing.counter }) }
+{
+    if step_draw_record(store, seat, s) >= store.layout().limits.record_count() {
+        return Err(TableFull);
+    }
+    step_store_key(store, seat, s, key);
+    Ok(())
+}
+
+/// Has a record in hand for the key, which it draws if there is none.
+fn take_record(store: &Store, seat: &mut Seat, s: u32, key: Key) -> Result<(), TableFull>
+    requires seat { IsSeatOf store.now seat.old }
+    requires host { hosts seat.old.view s ≡ true }
+    requires own { s < seat.old.view.limits.sessions }
+    requires holds { Holds (knows seat.old.view s).placing key }
+    ensures seat { IsSeatOf store.now seat.new }
+    ensures works { Works seat.old.view seat.new.view s (full_finds result) }
+    ensures has { OnOk result (HasOne (knows seat.new.view s).placing key × Uses (knows seat.old.view s).placing (knows seat.new.view s).placing 1) }
+    ensures full { OnErr result (IsFull seat.new.view s) }
+    ensures none { OnErr result (((knows seat.new.view s).placing.hand ≡ 0) × Uses (knows seat.old.view s).placing (knows seat.new.view s).placing 0) }
+{
+    if seat.rec(s).is_some() {
+        return Ok(());
+    }
+    look_at_counter(store, seat, s)?;
+    draw(store, seat, s, key)
+}
+
+/// Tries to claim the position for the record in hand.
+fn claim(
+    store: &Store,
+    seat: &mut Seat,
+    s: u32,
+    key: Key,
+    turn: u32,
+    position: u32,
+) -> Result<RecordId, Lost>
+    requires seat { IsSeatOf store.now seat.old }
+    requires host { hosts seat.old.view s ≡ true }
+    requires own { s < seat.old.view.limits.sessions }
+    requires turn { turn < size store.now.layout.limits }
+    requires position { position < size store.now.layout.limits }
+    requires is { position ≡ position_of store.now.layout.limits key turn }
+    requires has { HasOne (knows seat.old.view s).placing key }
+    requires passed { Passed store.now.layout.limits (knows seat.old.view s).facts key turn }
+    ensures seat { IsSeatOf store.now seat.new }
+    ensures works { Works seat.old.view seat.new.view s [] }
+    ensures won { IfOk result (λ r. (r.number < record_count store.now.layout.limits) × IsPlaced (knows seat.new.view s) r.number key × ((knows seat.new.view s).placing ≡ (let before = (knows seat.old.view s).placing in record before { hand = 0; has_key = false }))) }
+    ensures lost { IfErr result (λ other. (other.number < record_count store.now.layout.limits) × Shows (knows seat.new.view s) position other.number × ((knows seat.new.view s).placing ≡ (knows seat.old.view s).placing)) }
+{
+    let Some(number) = seat.rec(s) else {
+        unreachable!()
+    };
+    seat.consider();
+    let word = step_claim(store, seat, s, position);
+    if word == 0 {
+        return Ok(RecordId { number });
+    }
+    Err(Lost {
+        number: (word - 1) as u32,
+    })
+}
+
+/// Looks at one position for the key, and claims it if it is free.
+fn visit(
+    store: &Store,
+    seat: &mut Seat,
+    s: u32,
+    key: Key,
+    turn: u32,
+) -> Result<Option<RecordId>, TableFull>
+    requires seat { IsSeatOf store.now seat.old }
+    requires host { hosts seat.old.view s ≡ true }
+    requires own { s < seat.old.view.limits.sessions }
+    requires turn { turn < size store.now.layout.limits }
+    requires holds { Holds (knows seat.old.view s).placing key }
+    requires passed { Passed store.now.layout.limits (knows seat.old.view s).facts key turn }
+    ensures seat { IsSeatOf store.now seat.new }
+    ensures works { Works seat.old.view seat.new.view s (full_finds result) }
+    ensures uses { Uses (knows seat.old.view s).placing (knows seat.new.view s).placing 1 }
+    ensures placed { IfOk result (λ o. IfSome o (λ r. (r.number < record_count store.now.layout.limits) × IsPlaced (knows seat.new.view s) r.number key × ((knows seat.new.view s).placing.hand ≡ 0))) }
+    ensures passed { IfOk result (λ o. IfNone o (Uses (knows seat.old.view s).placing (knows seat.new.view s).placing (one (knows seat.new.view s).placing.has_key) × Holds (knows seat.new.view s).placing key × Passed store.now.layout.limits (knows seat.new.view s).facts key (turn + 1))) }
+    ensures full { OnErr result (FoundFull seat.old.view seat.new.view s key) }
+    ensures none { OnErr result (((knows seat.new.view s).placing.hand ≡ 0) × Uses (knows seat.old.view s).placing (knows seat.new.view s).placing 0) }
+{
+    let at = position(store.layout(), key, turn);
+    if let Some(number) = look(store, seat, s, at) {
+        return Ok(compare(store, seat, s, key, at, number));
+    }
+    take_record(store, seat, s, key)?;
+    match claim(store, seat, s, key, turn, at) {
+        Ok(placed) => Ok(Some(placed)),
+        Err(lost) => Ok(compare(store, seat, s, key, at, lost.number)),
+    }
+}
+
+/// The record of a key, which is drawn and placed if the key has none. At most one record is drawn, and none is in hand afterwards. A
+/// record that was drawn while another session placed the key stays drawn in vain.
+///
+/// TableFull comes exactly where the key was found without a record and then the record counter at its limit; no record is drawn
+/// then.
+pub fn place(store: &Store, seat: &mut Seat, s: u32, key: Key) -> Result<RecordId, TableFull>
+    requires seat { IsSeatOf store.now seat.old }
+    requires host { hosts seat.old.view s ≡ true }
+    requires own { s < seat.old.view.limits.sessions }
+    requires free { (knows seat.old.view s).placing.hand ≡ 0 }
+    ensures seat { IsSeatOf store.now seat.new }
+    ensures works { Works seat.old.view seat.new.view s (full_finds result) }
+    ensures drew { Drew (knows seat.old.view s).placing (knows seat.new.view s).placing 1 }
+    ensures free { (knows seat.new.view s).placing.hand ≡ 0 }
+    ensures ok { IfOk result (λ r. (r.number < record_count store.now.layout.limits) × IsPlaced (knows seat.new.view s) r.number key) }
+    ensures full { OnErr result (FoundFull seat.old.view seat.new.view s key) }
+    ensures none { OnErr result (Drew (knows seat.old.view s).placing (knows seat.new.view s).placing 0) }
+{
+    seat.consider();
+    let all = store.layout().index_positions() as u32;
+    let mut turn = 0;
+    while turn < all {
+        if let Some(placed) = visit(store, seat, s, key, turn)? {
+            return Ok(placed);
+        }
+        turn += 1;
+    }
+    seat.consider();
+    unreachable!()
+}
