@@ -86,8 +86,8 @@ impl Turn {
         ensures seat { IsSeatOf store.now seat.new }
         ensures view { Learns seat.old.view seat.new.view self.session (record (knows seat.old.view self.session) { turn = Away }) }
     {
-        let Turn { session: s } = self;
-        step_give(store, seat, s);
+        let Turn { session } = self;
+        step_give(store, seat, session);
     }
 }
 
