@@ -1,9 +1,14 @@
-//! The exact checker of reports: whether a report is legal for a script.
+//! The exact checker of reports: `legal` answers true exactly where a report is legal for a script.
+//!
+//! Beside the whole it has the two rules that ask for rows: reads answer their snapshot, and write replies fit it. Both are
+//! judged in one walk, in which each open transaction has its sight.
 #![tactic(auto)]
 
 mod judging;
 mod reads;
 mod sights;
+#[cfg(test)]
+mod tests;
 mod writes;
 
 pub use judging::{are_sessions_below, legal};

@@ -26,7 +26,7 @@ use std::alloc::Global;
 /// By key: a session that may have taken its latch, plus one, and whether another has; by session, number and key:
 /// whether there is an accepted write; by session and number: the time of the commit.
 #[derive(Drop)]
-pub struct Conflicts {
+pub(crate) struct Conflicts {
     takers: Marks,
     accepted: Marks,
     firsts: Marks,

@@ -17,7 +17,7 @@ use std::alloc::Global;
 /// By session: the greatest time that was told to it; and the greatest time of a commit in the phases that have ended,
 /// and in all.
 #[derive(Drop)]
-pub struct Floors {
+pub(crate) struct Floors {
     told: Marks,
     ended: Time,
     latest: Time,

@@ -26,7 +26,7 @@ use std::alloc::Global;
 /// How many inserts may have taken a record, and how many writes were accepted; by key, the time of the first commit with
 /// a write on it.
 #[derive(Drop)]
-pub struct Fullness {
+pub(crate) struct Fullness {
     takers: u64,
     accepted: u64,
     firsts: Marks,

@@ -1,4 +1,8 @@
-//! The exact checker of reports: whether a report is legal for a script, rule by rule.
+//! The rules of a legal report that ask for no rows of the table.
+//!
+//! `trace` gives the places of a run: each line with its reply, and an outline of the state in which its session comes to
+//! it. Each rule is a function over the places, with a contract that says exactly when it holds. `gather` finds the one
+//! history that the committed replies tell.
 #![tactic(auto)]
 
 mod conflicts;
@@ -12,12 +16,11 @@ mod outlines;
 mod places;
 mod refusals;
 
-pub use conflicts::{Conflicts, are_conflicts_explained};
-pub use floors::{Floors, are_times_bounded};
-pub use fullness::{Fullness, is_fullness_explained};
+pub use conflicts::are_conflicts_explained;
+pub use floors::are_times_bounded;
+pub use fullness::is_fullness_explained;
 pub use gathering::{gather, write_of};
-pub use marks::Marks;
-pub use merges::{Merges, are_merges_consistent};
+pub use merges::are_merges_consistent;
 pub use outlines::{OpenOutline, StateOutline};
 pub use places::{Place, trace};
 pub use refusals::are_refusals_exact;

@@ -18,7 +18,7 @@ use std::alloc::Global;
 
 /// By range and column: the number last merged; and how many merges there were.
 #[derive(Drop)]
-pub struct Merges {
+pub(crate) struct Merges {
     last: Marks,
     count: u64,
 }

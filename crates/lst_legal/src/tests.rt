@@ -1,0 +1,466 @@
+//! Legal reports, and for each rule a report that breaks it.
+
+use crate::{are_sessions_below, legal};
+use lst_layout::Limits;
+use lst_model::{Call, Line};
+use lst_report::parse_report;
+use lst_script::parse;
+use std::alloc::Global;
+use std::process::Abort;
+use std::test::Fail;
+
+/// The limits of all rows but those that name their own.
+const USUAL: Limits = Limits {
+    columns: 2,
+    ranges: 4,
+    tails: 4096,
+    sessions: 4,
+    txns: 4096,
+    spare: 8,
+    indexed: 0,
+};
+
+/// The lines of a text. The words that no script has yet are read here.
+fn read_lines(alloc: Global, limits: &Limits, text: &str) -> Result<Vec<Line>, Fail> {
+    let mut lines = Vec::new(alloc);
+    for line in text.lines() {
+        if line == "phase" {
+            lines.push(Line::Phase)?;
+        } else if line == "merge 0 1" {
+            lines.push(Line::Merge {
+                range: 0,
+                column: 1,
+            })?;
+        } else if line == "merge 3 0" {
+            lines.push(Line::Merge {
+                range: 3,
+                column: 0,
+            })?;
+        } else if line == "1 sum 0" {
+            lines.push(Line::Call {
+                session: 1,
+                call: Call::Sum { column: 0 },
+            })?;
+        } else if line == "0 count" {
+            lines.push(Line::Call {
+                session: 0,
+                call: Call::Count,
+            })?;
+        } else {
+            lines.push(read_line(alloc, limits, line)?)?;
+        }
+    }
+    Ok(lines)
+}
+
+fn read_line(alloc: Global, limits: &Limits, text: &str) -> Result<Line, Fail> {
+    if limits.check().is_err() {
+        return Err(Fail::from("the limits are out of range"));
+    }
+    let script = match parse(alloc, text.as_bytes(), limits) {
+        Ok(script) => script,
+        Err(_) => return Err(Fail::from("the line was not read")),
+    };
+    match script.into_items().pop() {
+        Some(line) => Ok(line),
+        None => Err(Fail::from("there is no line")),
+    }
+}
+
+fn is_judged(
+    rt: &impl Abort,
+    alloc: Global,
+    limits: &Limits,
+    script: &str,
+    report: &str,
+    wanted: bool,
+) -> Result<(), Fail> {
+    let lines = read_lines(alloc, limits, script)?;
+    let report = match parse_report(alloc, report.as_bytes(), 2) {
+        Ok(report) => report,
+        Err(_) => return Err(Fail::from("the report was not read")),
+    };
+    if !are_sessions_below(limits.sessions, lines.as_slice()) {
+        return Err(Fail::from("the script has another session"));
+    }
+    let judged = legal(alloc, limits, lines.as_slice(), &report)?;
+    assert_eq!(rt; judged, wanted);
+    Ok(())
+}
+
+const SUMMED: &str = "0 begin\n0 insert 7 10 20\n0 commit\n1 begin\n1 sum 0\n1 commit\n";
+
+#[test]
+fn a_sum_is_that_of_the_snapshot(rt: HostRuntime) -> Result<(), Fail> {
+    let alloc = rt.alloc();
+    is_judged(
+        &rt,
+        alloc,
+        &USUAL,
+        SUMMED,
+        "0 begun 0\n0 ok\n0 committed 1\n1 begun 1\n1 sum 10\n1 ended 1\nhistory 1\n1 0 1 0\n",
+        true,
+    )?;
+    is_judged(
+        &rt,
+        alloc,
+        &USUAL,
+        SUMMED,
+        "0 begun 0\n0 ok\n0 committed 1\n1 begun 1\n1 sum 11\n1 ended 1\nhistory 1\n1 0 1 0\n",
+        false,
+    )?;
+    is_judged(
+        &rt,
+        alloc,
+        &USUAL,
+        SUMMED,
+        "0 begun 0\n0 ok\n0 committed 1\n1 begun 0\n1 sum 0\n1 ended 0\nhistory 1\n1 0 1 0\n",
+        true,
+    )
+}
+
+#[test]
+fn a_begin_is_at_least_the_floor_behind_a_phase(rt: HostRuntime) -> Result<(), Fail> {
+    let alloc = rt.alloc();
+    is_judged(
+        &rt,
+        alloc,
+        &USUAL,
+        "0 begin\n0 insert 7 10 20\n0 commit\nphase\n1 begin\n1 sum 0\n1 commit\n",
+        "0 begun 0\n0 ok\n0 committed 1\n1 begun 0\n1 sum 0\n1 ended 0\nhistory 1\n1 0 1 0\n",
+        false,
+    )
+}
+
+#[test]
+fn a_reply_has_the_session_of_its_line(rt: HostRuntime) -> Result<(), Fail> {
+    let alloc = rt.alloc();
+    is_judged(
+        &rt,
+        alloc,
+        &USUAL,
+        SUMMED,
+        "0 begun 0\n0 ok\n0 committed 1\n1 begun 1\n0 sum 10\n1 ended 1\nhistory 1\n1 0 1 0\n",
+        false,
+    )
+}
+
+#[test]
+fn the_history_names_the_commits_that_were_told(rt: HostRuntime) -> Result<(), Fail> {
+    let alloc = rt.alloc();
+    is_judged(
+        &rt,
+        alloc,
+        &USUAL,
+        SUMMED,
+        "0 begun 0\n0 ok\n0 committed 1\n1 begun 1\n1 sum 10\n1 ended 1\nhistory 1\n1 0 2 0\n",
+        false,
+    )?;
+    is_judged(
+        &rt,
+        alloc,
+        &USUAL,
+        "0 begin\n1 begin\n0 insert 7 1 1\n1 insert 7 2 2\n0 commit\n1 commit\n",
+        "0 begun 0\n1 begun 0\n0 ok\n1 ok\n0 committed 1\n1 committed 2\nhistory 2\n1 0 1 0\n2 1 1 0\n",
+        false,
+    )
+}
+
+#[test]
+fn the_state_of_a_session_is_told(rt: HostRuntime) -> Result<(), Fail> {
+    let alloc = rt.alloc();
+    is_judged(
+        &rt,
+        alloc,
+        &USUAL,
+        "0 count\n",
+        "0 refused idle\nhistory 0\n",
+        true,
+    )?;
+    is_judged(
+        &rt,
+        alloc,
+        &USUAL,
+        "0 count\n",
+        "0 count 0\nhistory 0\n",
+        false,
+    )
+}
+
+#[test]
+fn a_write_fits_what_is_seen(rt: HostRuntime) -> Result<(), Fail> {
+    let alloc = rt.alloc();
+    let script = "0 begin\n0 insert 7 1 1\n0 insert 7 1 1\n";
+    is_judged(
+        &rt,
+        alloc,
+        &USUAL,
+        script,
+        "0 begun 0\n0 ok\n0 refused exists\nhistory 0\n",
+        true,
+    )?;
+    is_judged(
+        &rt,
+        alloc,
+        &USUAL,
+        script,
+        "0 begun 0\n0 ok\n0 ok\nhistory 0\n",
+        false,
+    )
+}
+
+#[test]
+fn a_conflict_is_with_another_session(rt: HostRuntime) -> Result<(), Fail> {
+    let alloc = rt.alloc();
+    let script = "0 begin\n1 begin\n0 insert 7 1 1\n1 insert 7 2 2\n";
+    let front = "0 begun 0\n1 begun 0\n0 ok\n";
+    is_judged_behind(
+        &rt,
+        alloc,
+        script,
+        front,
+        "1 conflict latched\nhistory 0\n",
+        true,
+    )?;
+    is_judged_behind(
+        &rt,
+        alloc,
+        script,
+        front,
+        "1 conflict open 0 1\nhistory 0\n",
+        true,
+    )?;
+    is_judged_behind(
+        &rt,
+        alloc,
+        script,
+        front,
+        "1 conflict open 0 2\nhistory 0\n",
+        false,
+    )?;
+    is_judged(
+        &rt,
+        alloc,
+        &USUAL,
+        "0 begin\n0 insert 7 1 1\n",
+        "0 begun 0\n0 conflict latched\nhistory 0\n",
+        false,
+    )
+}
+
+fn is_judged_behind(
+    rt: &impl Abort,
+    alloc: Global,
+    script: &str,
+    front: &str,
+    rest: &str,
+    wanted: bool,
+) -> Result<(), Fail> {
+    let mut report = String::new(alloc);
+    report.push_str(front)?;
+    report.push_str(rest)?;
+    is_judged(rt, alloc, &USUAL, script, report.as_str(), wanted)
+}
+
+#[test]
+fn a_range_is_full_by_its_limit(rt: HostRuntime) -> Result<(), Fail> {
+    let alloc = rt.alloc();
+    let script = "0 begin\n0 insert 1 1 1\n0 insert 2 2 2\n0 commit\n";
+    let report = "0 begun 0\n0 ok\n0 full tail\n0 committed 1\nhistory 1\n1 0 1 0\n";
+    let one_tail = Limits { tails: 1, ..USUAL };
+    is_judged(&rt, alloc, &one_tail, script, report, true)?;
+    is_judged(&rt, alloc, &USUAL, script, report, false)
+}
+
+#[test]
+fn no_more_is_merged_than_was_accepted(rt: HostRuntime) -> Result<(), Fail> {
+    let alloc = rt.alloc();
+    let script = "0 begin\n0 insert 7 10 20\nmerge 0 1\nmerge 0 1\n";
+    let front = "0 begun 0\n0 ok\n";
+    is_judged_behind(
+        &rt,
+        alloc,
+        script,
+        front,
+        "merged 1\nidle 1\nhistory 0\n",
+        true,
+    )?;
+    is_judged_behind(
+        &rt,
+        alloc,
+        script,
+        front,
+        "merged 2\nidle 2\nhistory 0\n",
+        false,
+    )?;
+    is_judged_behind(
+        &rt,
+        alloc,
+        script,
+        front,
+        "merged 1\nidle 0\nhistory 0\n",
+        false,
+    )
+}
+
+#[test]
+fn each_of_two_sessions_may_read_what_the_other_writes(rt: HostRuntime) -> Result<(), Fail> {
+    let alloc = rt.alloc();
+    is_judged(
+        &rt,
+        alloc,
+        &USUAL,
+        "2 begin\n2 insert 1 1 0\n2 insert 2 1 0\n2 commit\nphase\n0 begin\n0 get 1\n0 update 2 0 _\n0 commit\n1 begin\n1 get 2\n1 update 1 0 _\n1 commit\n",
+        "2 begun 0\n2 ok\n2 ok\n2 committed 1\n0 begun 1\n0 row 1 0\n0 ok\n0 committed 2\n1 begun 1\n1 row 1 0\n1 ok\n1 committed 3\nhistory 3\n1 2 1 0\n2 0 1 1\n3 1 1 1\n",
+        true,
+    )
+}
+
+fn is_usual(
+    rt: &impl Abort,
+    alloc: Global,
+    script: &str,
+    report: &str,
+    wanted: bool,
+) -> Result<(), Fail> {
+    is_judged(rt, alloc, &USUAL, script, report, wanted)
+}
+
+#[test]
+fn what_explains_a_reply_may_stand_later(rt: HostRuntime) -> Result<(), Fail> {
+    let alloc = rt.alloc();
+    is_usual(
+        &rt,
+        alloc,
+        "0 begin\nphase\n1 begin\n1 insert 7 1 1\n1 commit\n",
+        "0 begun 1\n1 begun 0\n1 ok\n1 committed 1\nhistory 1\n1 1 1 0\n",
+        true,
+    )?;
+    is_usual(
+        &rt,
+        alloc,
+        "0 begin\n0 insert 7 1 1\nphase\n1 begin\n1 insert 7 2 2\n1 abort\n",
+        "0 begun 0\n0 conflict open 1 1\n1 begun 0\n1 ok\n1 aborted\nhistory 0\n",
+        true,
+    )?;
+    is_usual(
+        &rt,
+        alloc,
+        "0 begin\n0 insert 7 1 1\nphase\n1 begin\n1 delete 7\n",
+        "0 begun 0\n0 conflict latched\n1 begun 0\n1 refused missing\nhistory 0\n",
+        true,
+    )?;
+    is_usual(
+        &rt,
+        alloc,
+        "merge 3 0\n0 begin\n0 insert 7 1 1\n",
+        "merged 1\n0 begun 0\n0 ok\nhistory 0\n",
+        true,
+    )?;
+    let one_spare = Limits { spare: 1, ..USUAL };
+    is_judged(
+        &rt,
+        alloc,
+        &one_spare,
+        "merge 3 0\nmerge 3 0\nphase\n0 begin\n0 insert 7 1 1\n3 asof 0\n",
+        "merged 1\nnoframe 3\n0 begun 0\n0 ok\n3 begun 0\nhistory 0\n",
+        true,
+    )
+}
+
+#[test]
+fn an_as_of_may_begin_below_the_floor(rt: HostRuntime) -> Result<(), Fail> {
+    let alloc = rt.alloc();
+    let script = "0 begin\n0 insert 7 1 1\n0 commit\n0 asof 0\n";
+    let front = "0 begun 0\n0 ok\n0 committed 1\n";
+    is_judged_behind(
+        &rt,
+        alloc,
+        script,
+        front,
+        "0 begun 0\nhistory 1\n1 0 1 0\n",
+        true,
+    )?;
+    is_judged_behind(
+        &rt,
+        alloc,
+        script,
+        front,
+        "0 refused future 1\nhistory 1\n1 0 1 0\n",
+        false,
+    )
+}
+
+#[test]
+fn a_number_off_by_one_is_illegal(rt: HostRuntime) -> Result<(), Fail> {
+    let alloc = rt.alloc();
+    is_usual(
+        &rt,
+        alloc,
+        "0 asof 0\n",
+        "0 refused future 0\nhistory 0\n",
+        false,
+    )?;
+    is_usual(&rt, alloc, "merge 0 1\n", "merged 0\nhistory 0\n", false)?;
+    is_usual(
+        &rt,
+        alloc,
+        "0 begin\n0 insert 7 1 1\n0 commit\n",
+        "0 begun 0\n0 ok\n0 committed 0\nhistory 0\n",
+        false,
+    )?;
+    is_usual(
+        &rt,
+        alloc,
+        "0 begin\n0 insert 7 1 1\n0 commit\n1 begin\n1 update 7 2 _\n",
+        "0 begun 0\n0 ok\n0 committed 1\n1 begun 1\n1 conflict newer 1\nhistory 1\n1 0 1 0\n",
+        false,
+    )?;
+    is_usual(
+        &rt,
+        alloc,
+        "0 asof 0\n0 delete 7\n",
+        "0 begun 0\n0 refused missing\nhistory 0\n",
+        false,
+    )
+}
+
+#[test]
+fn absurd_numbers_are_judged(rt: HostRuntime) -> Result<(), Fail> {
+    let alloc = rt.alloc();
+    is_usual(
+        &rt,
+        alloc,
+        "0 begin\n",
+        "0 begun 18446744073709551615\nhistory 0\n",
+        false,
+    )?;
+    is_usual(
+        &rt,
+        alloc,
+        "0 begin\n0 insert 7 1 1\n0 commit\n",
+        "0 begun 0\n0 ok\n0 committed 18446744073709551615\nhistory 1\n1 0 1 0\n",
+        false,
+    )?;
+    is_usual(
+        &rt,
+        alloc,
+        "0 begin\n0 insert 7 1 1\n",
+        "0 begun 0\n0 conflict open 4000000000 1\nhistory 0\n",
+        false,
+    )?;
+    is_usual(
+        &rt,
+        alloc,
+        "0 begin\n0 insert 7 1 1\n0 commit\n",
+        "0 begun 0\n0 ok\n0 committed 1\nhistory 1\n1 4000000000 1 0\n",
+        false,
+    )?;
+    is_usual(
+        &rt,
+        alloc,
+        "merge 0 1\n",
+        "noframe 4000000000\nhistory 0\n",
+        false,
+    )
+}
