@@ -1,4 +1,4 @@
-//! The numbers of a session after its step.
+//! The numbers of a session after its step. They are changed in place, since a step changes few of them.
 ghost use Rattle.std.specs.Prelude.{◌≡◌, ◌+◌, ◌-◌, ◌*◌, ◌/◌, ◌%◌, ◌<◌, ◌≤◌, ◌^◌, cond, nat_lt, eqb, false, true, slice_index_or, slice_set, bit_or};
 ghost use Rattle.lst_layout.specs.Addresses as addresses;
 ghost use Rattle.lst_layout.specs.Areas.{words_of};
@@ -42,40 +42,30 @@ fn gives_up(now: &Numbers, rec: u32, found: u64) -> bool
     }
 }
 
-/// The numbers after a load of the word at a place.
-pub fn looked(limits: &Limits, now: Numbers, place: Place, found: u64) -> Numbers
+/// Changes the numbers as a load of the word at a place does, which found this.
+pub fn look(limits: &Limits, now: &mut Numbers, place: Place, found: u64)
     requires sized { IsValid limits.now }
     requires place { addresses.IsWithin limits.now place }
-    ensures { result ≡ spec.numbers_look limits.now found now place }
+    ensures { now.new ≡ spec.numbers_look limits.now found now.old place }
 {
     match place {
-        Place::ClockWord => Numbers {
-            seen: found,
-            turn: refreshed(now.turn),
-            ..now
-        },
-        Place::RecordCounter => Numbers {
-            is_serving: now.is_serving || found < 256 * limits.ranges as u64,
-            ..now
-        },
+        Place::ClockWord => {
+            now.seen = found;
+            now.turn = refreshed(now.turn);
+        }
+        Place::RecordCounter => {
+            now.is_serving = now.is_serving || found < 256 * limits.ranges as u64;
+        }
         Place::KeyWord { rec } => {
-            if gives_up(&now, rec, found) {
-                Numbers {
-                    hand: 0,
-                    has_key: false,
-                    ..now
-                }
-            } else {
-                now
+            if gives_up(now, rec, found) {
+                now.hand = 0;
+                now.has_key = false;
             }
         }
-        Place::IndexWord { position: _ } => Numbers {
-            index: found,
-            ..now
-        },
+        Place::IndexWord { position: _ } => now.index = found,
         Place::TailCounter { range } => {
             let is_served = now.served[range as usize] || found < limits.tails as u64;
-            with_served(now, range, is_served)
+            now.served[range as usize] = is_served;
         }
         Place::CommitWord
         | Place::EpochWord
@@ -99,99 +89,136 @@ pub fn looked(limits: &Limits, now: Numbers, place: Place, found: u64) -> Number
         | Place::PostingWord {
             column: _,
             position: _,
-        } => now,
+        } => {}
     }
 }
 
-/// The numbers with another flag for the tail counter of a range.
-fn with_served(now: Numbers, range: u32, is_served: bool) -> Numbers
-    requires { range < 64 }
-    ensures { result ≡ record now { served = slice_set now.served range is_served } }
-{
-    let mut served = now.served;
-    served[range as usize] = is_served;
-    Numbers { served, ..now }
-}
-
-/// The numbers after a draw of a record that found this number.
-fn drew_record(limits: &Limits, now: Numbers, found: u64) -> Numbers
+/// A draw of a record that found this number.
+fn draw_record(limits: &Limits, now: &mut Numbers, found: u64)
     requires sized { IsValid limits.now }
-    ensures { result ≡ cond (nat_lt found (record_count limits.now)) (record now { hand = found + 1; has_key = false; is_serving = false }) (record now { is_serving = false }) }
+    ensures { now.new ≡ cond (nat_lt found (record_count limits.now)) (record now.old { hand = found + 1; has_key = false; is_serving = false }) (record now.old { is_serving = false }) }
 {
+    now.is_serving = false;
     if found < 256 * limits.ranges as u64 {
-        Numbers {
-            hand: found as u32 + 1,
-            has_key: false,
-            is_serving: false,
-            ..now
-        }
-    } else {
-        Numbers {
-            is_serving: false,
-            ..now
-        }
+        now.hand = found as u32 + 1;
+        now.has_key = false;
     }
 }
 
-/// The numbers after a draw of a tail that found this number.
+/// A draw of a tail that found this number.
 #[tactic(auto, using(crate::proofs::Masks::tail_few))]
-fn drew_tail(limits: &Limits, now: Numbers, range: u32, found: u64) -> Numbers
+fn draw_tail(limits: &Limits, now: &mut Numbers, range: u32, found: u64)
     requires sized { IsValid limits.now }
     requires range { range < limits.now.ranges }
-    ensures { result ≡ cond (nat_lt found limits.now.tails) (record now { hold = record now.hold { tail = range * limits.now.tails + found + 1 }; stored = 0; served = slice_set now.served range false }) (record now { served = slice_set now.served range false }) }
+    ensures { now.new ≡ cond (nat_lt found limits.now.tails) (record now.old { hold = record now.old.hold { tail = range * limits.now.tails + found + 1 }; stored = 0; served = slice_set now.old.served range false }) (record now.old { served = slice_set now.old.served range false }) }
 {
-    let drawn = with_served(now, range, false);
+    now.served[range as usize] = false;
     if found < limits.tails as u64 {
-        Numbers {
-            hold: Hold {
-                tail: range * limits.tails + found as u32 + 1,
-                ..now.hold
-            },
-            stored: 0,
-            ..drawn
-        }
-    } else {
-        drawn
+        now.hold.tail = range * limits.tails + found as u32 + 1;
+        now.stored = 0;
     }
 }
 
-/// The numbers after a latch that found this indirection word.
-fn latched(now: Numbers, rec: u32, found: u64) -> Numbers
+/// A latch that found this indirection word.
+fn latch(now: &mut Numbers, rec: u32, found: u64)
     requires { rec < 2 ^ 31 }
-    ensures { result ≡ cond (eqb (found % 2) 0) (record now { hold = record state.no_hold { latch = rec + 1; head = found / 2 } }) now }
+    ensures { now.new ≡ cond (eqb (found % 2) 0) (record now.old { hold = record state.no_hold { latch = rec + 1; head = found / 2 } }) now.old }
 {
     if found % 2 == 0 {
-        Numbers {
-            hold: Hold {
-                latch: rec + 1,
-                head: found / 2,
-                ..NO_HOLD
-            },
-            ..now
-        }
-    } else {
-        now
+        now.hold = Hold {
+            latch: rec + 1,
+            head: found / 2,
+            ..NO_HOLD
+        };
     }
 }
 
-/// The numbers after a store of a word of the tail in hand.
-fn stored(now: Numbers, place: u32) -> Numbers
+/// A store of a word of the tail in hand.
+fn store_word(now: &mut Numbers, place: u32)
     requires { place < 11 }
-    ensures { result ≡ cond (eqb place 0) (record now { hold = record now.hold { is_whole = true } }) (record now { stored = bit_or now.stored (2 ^ place) }) }
+    ensures { now.new ≡ cond (eqb place 0) (record now.old { hold = record now.old.hold { is_whole = true } }) (record now.old { stored = bit_or now.old.stored (2 ^ place) }) }
 {
     if place == 0 {
-        Numbers {
-            hold: Hold {
-                is_whole: true,
-                ..now.hold
-            },
-            ..now
-        }
+        now.hold.is_whole = true;
     } else {
-        Numbers {
-            stored: now.stored | (1u32 << place),
-            ..now
+        now.stored |= 1u32 << place;
+    }
+}
+
+/// Changes the numbers of a session as its step on a word does, which found this.
+pub fn advance(layout: &Layout, now: &mut Numbers, event: Event, found: u64)
+    requires within { step.IsWithin layout.now.limits event }
+    requires writable { IsWritable layout.now.limits now.old event }
+    ensures { now.new ≡ spec.numbers_after layout.now.limits event found now.old }
+{
+    let limits = &layout.limits;
+    match event {
+        Event::Look {
+            session: _,
+            address,
+        } => look(limits, now, layout.place(address), found),
+        Event::Begin {
+            session: _,
+            begin,
+            read_only,
+        } => {
+            now.number += 1;
+            now.begin = begin;
+            now.read_only = read_only;
+            now.is_open = true;
+            now.has_writes = false;
         }
+        Event::Take { session: _ } => {
+            if found == 0 {
+                now.turn = Stage::Taken;
+            }
+        }
+        Event::Log { session: _ } => now.turn = Stage::Logged,
+        Event::State { session: _ } => now.turn = Stage::Stated,
+        Event::Clock { session: _ } => {
+            now.is_open = false;
+            now.turn = Stage::Done;
+            now.has_writes = false;
+            now.seen += 1;
+        }
+        Event::Give { session: _ } => now.turn = Stage::Away,
+        Event::Close { session: _ } => {
+            now.is_open = false;
+            now.has_writes = false;
+        }
+        Event::DrawRecord { session: _ } => draw_record(limits, now, found),
+        Event::StoreKey { session: _, key } => {
+            now.key = key;
+            now.has_key = true;
+        }
+        Event::Claim {
+            session: _,
+            position: _,
+        } => {
+            if found == 0 {
+                now.hand = 0;
+                now.has_key = false;
+            } else {
+                now.index = found;
+            }
+        }
+        Event::Latch { session: _, rec } => latch(now, rec, found),
+        Event::DrawTail { session: _, range } => draw_tail(limits, now, range, found),
+        Event::StoreCell {
+            session: _,
+            place,
+            value: _,
+        } => store_word(now, place),
+        Event::Install { session: _ } => {
+            now.hold = NO_HOLD;
+            now.has_writes = true;
+        }
+        Event::Release { session: _ } => now.hold = NO_HOLD,
+        Event::Stamp {
+            session: _,
+            range: _,
+            tail: _,
+        } => {}
     }
 }
 
@@ -201,104 +228,7 @@ pub fn after(layout: &Layout, now: Numbers, event: Event, found: u64) -> Numbers
     requires writable { IsWritable layout.now.limits now event }
     ensures { result ≡ spec.numbers_after layout.now.limits event found now }
 {
-    let limits = &layout.limits;
-    match event {
-        Event::Look {
-            session: _,
-            address,
-        } => {
-            let place = layout.place(address);
-            looked(limits, now, place, found)
-        }
-        Event::Begin {
-            session: _,
-            begin,
-            read_only,
-        } => Numbers {
-            number: now.number + 1,
-            begin,
-            read_only,
-            is_open: true,
-            has_writes: false,
-            ..now
-        },
-        Event::Take { session: _ } => {
-            if found == 0 {
-                Numbers {
-                    turn: Stage::Taken,
-                    ..now
-                }
-            } else {
-                now
-            }
-        }
-        Event::Log { session: _ } => Numbers {
-            turn: Stage::Logged,
-            ..now
-        },
-        Event::State { session: _ } => Numbers {
-            turn: Stage::Stated,
-            ..now
-        },
-        Event::Clock { session: _ } => Numbers {
-            is_open: false,
-            turn: Stage::Done,
-            has_writes: false,
-            seen: now.seen + 1,
-            ..now
-        },
-        Event::Give { session: _ } => Numbers {
-            turn: Stage::Away,
-            ..now
-        },
-        Event::Close { session: _ } => Numbers {
-            is_open: false,
-            has_writes: false,
-            ..now
-        },
-        Event::DrawRecord { session: _ } => drew_record(limits, now, found),
-        Event::StoreKey { session: _, key } => Numbers {
-            key,
-            has_key: true,
-            ..now
-        },
-        Event::Claim {
-            session: _,
-            position: _,
-        } => {
-            if found == 0 {
-                Numbers {
-                    hand: 0,
-                    has_key: false,
-                    ..now
-                }
-            } else {
-                Numbers {
-                    index: found,
-                    ..now
-                }
-            }
-        }
-        Event::Latch { session: _, rec } => latched(now, rec, found),
-        Event::DrawTail { session: _, range } => drew_tail(limits, now, range, found),
-        Event::StoreCell {
-            session: _,
-            place,
-            value: _,
-        } => stored(now, place),
-        Event::Install { session: _ } => Numbers {
-            hold: NO_HOLD,
-            has_writes: true,
-            ..now
-        },
-        Event::Release { session: _ } => Numbers {
-            hold: NO_HOLD,
-            ..now
-        },
-        Event::Stamp {
-            session: _,
-            range: _,
-            tail: _,
-        } => now,
-    }
+    let mut next = now;
+    advance(layout, &mut next, event, found);
+    next
 }

@@ -17,7 +17,7 @@ mod steps;
 #[cfg(test)]
 mod tests;
 
-pub use afters::{after, looked};
+pub use afters::{advance, after, look};
 pub use allowed::{is_within, session_of};
 pub use cores::{Core, NotEnabled, newcomers, opening_words};
 pub use lst_core_state::{Event, every_run_is_sound};

@@ -1,5 +1,5 @@
 -- A seat's step on one word, from what its caller knows.
-use Rattle.std.proofs.Common.{◌≡◌, ℕ, List, true, set, sym, subst, ap, ◌∙◌, slice_index, length, length-set}
+use Rattle.std.proofs.Common.{get_or, ◌≡◌, ℕ, List, true, set, sym, subst, ap, ◌∙◌, slice_index, length, length-set}
 use Rattle.lst_layout.specs.declared.limits.Limits.{Limits}
 use Rattle.lst_layout.specs.declared.place.Place.{Place}
 use Rattle.lst_layout.specs.Addresses as layout
@@ -19,7 +19,7 @@ use Rattle.lst_rule.proofs.Learning.{made, met}
 use Rattle.lst_seat.specs.declared.store.Store.{Store}
 use Rattle.lst_seat.specs.Seats.{Sitting, told, Tells}
 use Rattle.lst_seat.specs.Stores.{IsSeatOf}
-use Rattle.lst_seat.proofs.Telling.{tells_after}
+use Rattle.lst_seat.proofs.Telling.{tells_after, reads}
 
 -- what the caller of a step knows: u is the seat's view, and n the numbers of s
 pub record Asks (l : Limits) (n : Numbers) (e : Event) (s i : ℕ) (u v : View) : Type 0 where
@@ -78,6 +78,10 @@ module _ (l : Limits) (n : Numbers) (e : Event) (s i : ℕ) (u v : View) (asks :
     acts_tells t y found a is = tells_after v w numbers e (address v.limits P) x s a here asks.session asks.hosted t
         (becomes v e t.words t.known t.merger t.allowed own.0 asks.within own.1
         ∙ ((λ j. numbers_after (asks.limits j) e (slice_index t.words (address v.limits (place_for v.limits (told v (asks.session j)) e))) ((ap (told v) asks.session ∙ sym asks.numbers) j)) ∙ (ap (λ (z : ℕ). numbers_after l e z n) found ∙ sym is)))
+
+-- numbers that are read at its place in the seat's list are the session's
+pub acts_same : (l : Limits) (n : Numbers) (e : Event) (s i : ℕ) (u v : View) → Asks l n e s i u v → (numbers : List Numbers) → Tells u numbers → (m : Numbers) → m ≡ get_or numbers s m → m ≡ n
+acts_same l n e s i u v asks numbers tells m read = reads u v numbers s m asks.same tells read asks.hosted ∙ sym asks.numbers
 
 -- the seat is still one of the store
 pub still_seat : (store : Store) (a b : Sitting) (e : Event) (i x : ℕ) → IsSeatOf store a → b.table ≡ a.table → Told e i x a.view b.view → IsSeatOf store b

@@ -10,7 +10,7 @@ ghost use Rattle.lst_seat.specs.Stores.{IsSeatOf};
 
 use crate::seat::Seat;
 use crate::store::Store;
-use lst_core::{Event, after, target, written};
+use lst_core::{Event, advance, target, written};
 use lst_rule::{add_one, compare_exchange, set_lowest_bit, store_word};
 
 /// A step that stores a word. A stamp stores the time.
@@ -29,10 +29,10 @@ pub(crate) fn store_event(store: &Store, seat: &mut Seat, s: u32, event: Event, 
     ensures made { Made seat.old.view seat.new.view event (place_for seat.old.view.limits (told seat.old.view s) event) (written_of seat.old.view.limits (told seat.old.view s) time event 0) }
 {
     let now = seat.numbers(s, event);
-    let word = target(&store.layout, &now, event) as usize;
-    let new = written(&store.layout.limits, &now, time, event, 0);
+    let word = target(&store.layout, now, event) as usize;
+    let new = written(&store.layout.limits, now, time, event, 0);
     store_word(&store.table.shared, &mut seat.place, event, word, new);
-    seat.numbers[s as usize] = after(&store.layout, now, event, 0);
+    advance(&store.layout, &mut seat.numbers[s as usize], event, 0);
 }
 
 /// A step that exchanges 0 for another number, and answers what it found.
@@ -49,10 +49,10 @@ pub(crate) fn exchange_event(store: &Store, seat: &mut Seat, s: u32, event: Even
     ensures met { Met seat.old.view seat.new.view event (place_for seat.old.view.limits (told seat.old.view s) event) (written_of seat.old.view.limits (told seat.old.view s) 0 event result) result }
 {
     let now = seat.numbers(s, event);
-    let word = target(&store.layout, &now, event) as usize;
-    let new = written(&store.layout.limits, &now, 0, event, 0);
+    let word = target(&store.layout, now, event) as usize;
+    let new = written(&store.layout.limits, now, 0, event, 0);
     let found = compare_exchange(&store.table.shared, &mut seat.place, event, word, 0, new);
-    seat.numbers[s as usize] = after(&store.layout, now, event, found);
+    advance(&store.layout, &mut seat.numbers[s as usize], event, found);
     found
 }
 
@@ -70,9 +70,9 @@ pub(crate) fn draw_event(store: &Store, seat: &mut Seat, s: u32, event: Event) -
     ensures met { Met seat.old.view seat.new.view event (place_for seat.old.view.limits (told seat.old.view s) event) (written_of seat.old.view.limits (told seat.old.view s) 0 event result) result }
 {
     let now = seat.numbers(s, event);
-    let word = target(&store.layout, &now, event) as usize;
+    let word = target(&store.layout, now, event) as usize;
     let found = add_one(&store.table.shared, &mut seat.place, event, word);
-    seat.numbers[s as usize] = after(&store.layout, now, event, found);
+    advance(&store.layout, &mut seat.numbers[s as usize], event, found);
     found
 }
 
@@ -90,8 +90,8 @@ pub(crate) fn latch_event(store: &Store, seat: &mut Seat, s: u32, event: Event) 
     ensures met { Met seat.old.view seat.new.view event (place_for seat.old.view.limits (told seat.old.view s) event) (written_of seat.old.view.limits (told seat.old.view s) 0 event result) result }
 {
     let now = seat.numbers(s, event);
-    let word = target(&store.layout, &now, event) as usize;
+    let word = target(&store.layout, now, event) as usize;
     let found = set_lowest_bit(&store.table.shared, &mut seat.place, event, word);
-    seat.numbers[s as usize] = after(&store.layout, now, event, found);
+    advance(&store.layout, &mut seat.numbers[s as usize], event, found);
     found
 }

@@ -8,7 +8,7 @@ ghost use Rattle.lst_seat.specs.Stores.{IsSeatOf, Looked, Clocked};
 
 use crate::seat::Seat;
 use crate::store::Store;
-use lst_core::{Event, cell_address, looked};
+use lst_core::{Event, cell_address, look};
 use lst_layout::Place;
 use lst_rule::load_word;
 
@@ -60,8 +60,12 @@ pub(crate) fn load_noted(store: &Store, seat: &mut Seat, s: u32, place: Place, a
         event,
         address as usize,
     );
-    let now = seat.numbers[s as usize];
-    seat.numbers[s as usize] = looked(&store.layout.limits, now, place, found);
+    look(
+        &store.layout.limits,
+        &mut seat.numbers[s as usize],
+        place,
+        found,
+    );
     found
 }
 

@@ -37,18 +37,18 @@ impl Seat {
     ghost use Rattle.lst_rule.specs.Learned.{Possible};
 
     /// The numbers of a session that is to make a step.
-    pub(crate) fn numbers(&self, s: u32, event: Event) -> Numbers
+    pub(crate) fn numbers(&self, s: u32, event: Event) -> &Numbers
         requires host { hosts self.now.view s ≡ true }
         requires own { s < self.now.view.limits.sessions }
         requires session { session_of event ≡ s }
         requires within { IsWithin self.now.view.limits event }
         requires enabled { Enabled self.now.view.limits (knows self.now.view s) event }
-        ensures is { result ≡ numbers_of (knows self.now.view s) }
+        ensures is { result.now ≡ numbers_of (knows self.now.view s) }
         ensures valid { IsValid self.now.view.limits }
-        ensures place { layout.IsWithin self.now.view.limits (place_for self.now.view.limits result event) }
-        ensures writable { IsWritable self.now.view.limits result event }
+        ensures place { layout.IsWithin self.now.view.limits (place_for self.now.view.limits result.now event) }
+        ensures writable { IsWritable self.now.view.limits result.now event }
     {
-        self.numbers[s as usize]
+        &self.numbers[s as usize]
     }
 
     /// The limits of the store.

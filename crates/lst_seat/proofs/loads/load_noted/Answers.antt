@@ -28,8 +28,8 @@ load_word-found-requires-clause-ready c = let loads : Loads c.args.s c.args.addr
   tells = c.seat.invariant.3;
 } in loads_ready _ _ _ _ _ _ loads
 
-pub index-now-requires : goal.index-now-requires
-index-now-requires c = let loads : Loads c.args.s c.args.address c.args.place c.seat.inside.place.me.0 c.args.seat.now.view c.seat.inside.numbers.items = record {
+pub index_mut-requires : goal.index_mut-requires
+index_mut-requires c = let loads : Loads c.args.s c.args.address c.args.place c.seat.inside.place.me.0 c.args.seat.now.view c.seat.inside.numbers.items = record {
   same = ap (λ z. z.view) c.seat.view_is;
   hosted = c.requires.host;
   low = (let h = c.requires.seat.low c.args.s c.requires.host in let e = ap (λ (l : Limits). l.sessions) c.requires.seat.limits in omega arith);
@@ -51,7 +51,7 @@ invariant_of-seat c = let t = c.load_word-found.ensures.told.0 in
       c.load_word-found.ensures.table.2 ∙ c.seat.invariant.0,
       c.seat.invariant.1 ∙ sym (ap (λ (v : View). v.limits) t.now),
       c.seat.invariant.2 ∙ sym (ap (λ (v : View). v.hosts) t.now),
-      loads_tell _ _ _ _ _ _ loads c.load_word-found.new.seat.me.0 c.load_word-found.result c.load_word-found.ensures.told c.looked.result (c.looked.ensures ∙ (λ j. numbers_look (sym c.requires.seat.limits j) c.load_word-found.result (loads_read _ _ _ _ _ _ loads c.index-now.result.now c.index-now.ensures j) c.args.place)),
+      loads_tell _ _ _ _ _ _ loads c.load_word-found.new.seat.me.0 c.load_word-found.result c.load_word-found.ensures.told c.look.new.now (c.look.ensures ∙ (λ j. numbers_look (sym c.requires.seat.limits j) c.load_word-found.result (loads_read _ _ _ _ _ _ loads c.index_mut.result.now c.index_mut.ensures.value j) c.args.place)),
     )
 
 pub returns-clause-seat : goal.returns-clause-seat
