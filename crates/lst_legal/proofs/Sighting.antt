@@ -1,5 +1,5 @@
 -- What open transactions see, one more line at a time.
-use Rattle.std.proofs.Common.{◌≡◌, ◌↔◌, ℕ, ◌+◌, ◌<◌, ◌≤◌, Bool, true, false, cond, eqb, IsTrue, List, [], ◌∷◌, ◌++◌, length, get_or, set, map, take, Option, Some, None, IfSome, option_map, refl, sym, ap, ◌∙◌, subst, arith}
+use Rattle.std.proofs.Common.{◌≡◌, ◌↔◌, ℕ, ◌<◌, Bool, true, false, cond, eqb, IsTrue, List, [], ◌∷◌, ◌++◌, length, get_or, set, Option, Some, None, IfSome, option_map, refl, sym, ap, ◌∙◌, subst}
 use Rattle.std.proofs.lemmas.Bool.{eqb-true, eqb-false}
 use Rattle.std.proofs.lemmas.List.{get_or-set_same, get_or-set_other, length-set}
 use Rattle.std.proofs.lemmas.Option.{same_Some, none-some}
@@ -10,7 +10,7 @@ use Rattle.lst_model.specs.declared.lines.Line.TheVariants.{Phase, Merge, Call}
 use Rattle.lst_model.specs.declared.lines.Call.{Call as CallKind}
 use Rattle.lst_model.specs.declared.replies.Reply.{Reply}
 use Rattle.lst_model.specs.Tables.{Rows, applied}
-use Rattle.lst_model.specs.Histories.{joined, snapshot, StandByKey}
+use Rattle.lst_model.specs.Histories.{joined, snapshot}
 use Rattle.lst_model.proofs.Joining.{joins}
 use Rattle.lst_report.specs.declared.states.Transaction.{Transaction}
 use Rattle.lst_report.specs.declared.states.SessionState.{SessionState}
@@ -20,11 +20,11 @@ use Rattle.lst_report.specs.Explained.{ReadIsAnswered, WriteIsAnswered}
 use Rattle.lst_report.specs.Legal.{AtEachWrite}
 use Rattle.lst_legal_runs.specs.declared.outlines.OpenOutline.{OpenOutline}
 use Rattle.lst_legal_runs.specs.Outlines.{outline_of_open}
-use Rattle.lst_legal_runs.specs.Places.{AtEach, IfCall}
+use Rattle.lst_legal_runs.specs.Places.{AtEach}
 use Rattle.lst_legal_runs.proofs.Behind.{state_of-push}
 use Rattle.lst_legal_runs.proofs.Splits.{of_calls, calls_of}
 use Rattle.lst_snapshots.specs.declared.sight.Sight.{Sight}
-use Rattle.lst_snapshots.specs.Sights.{seen, IsSight}
+use Rattle.lst_snapshots.specs.Sights.{seen}
 use Rattle.lst_legal.specs.Sights.{Shows, IsSightOf, AreSights, TellsSeen}
 
 -- ---- one session's

@@ -1,7 +1,7 @@
 -- The state of a session behind a line, and its outline.
-use Rattle.std.proofs.Common.{◌≡◌, ℕ, ◌+◌, ◌<◌, ◌≤◌, Bool, true, false, cond, ◌||◌, List, [], ◌∷◌, ◌++◌, length, get_or, set, Option, Some, None, option_map, is_some, eqb, nat_lt, refl, sym, ap, ◌∙◌, subst, arith, ⊎_elim}
-use Rattle.std.proofs.lemmas.Bool.{eqb-true, eqb-false, ne_eqb}
-use Rattle.std.proofs.lemmas.List.{get_or-set_same, get_or-set_other, length_push, length-set}
+use Rattle.std.proofs.Common.{◌≡◌, ℕ, ◌+◌, ◌<◌, ◌≤◌, Bool, true, false, cond, ◌||◌, List, [], ◌∷◌, ◌++◌, length, get_or, set, Option, Some, None, option_map, is_some, eqb, nat_lt, refl, sym, ap, ◌∙◌, subst, arith}
+use Rattle.std.proofs.lemmas.Bool.{eqb-true, eqb-false}
+use Rattle.std.proofs.lemmas.List.{get_or-set_same, get_or-set_other, length-set}
 use Rattle.lst_model.specs.declared.acts.Write.{Write}
 use Rattle.lst_model.specs.declared.lines.Line.{Line}
 use Rattle.lst_model.specs.declared.lines.Line.TheVariants.{Phase, Merge, Call}
@@ -11,12 +11,11 @@ use Rattle.lst_model.specs.declared.replies.Reply.TheVariants.{Begun, Done, Row,
 use Rattle.lst_model.specs.Histories.{joined}
 use Rattle.lst_report.specs.declared.states.Transaction.{Transaction}
 use Rattle.lst_report.specs.declared.states.SessionState.{SessionState}
-use Rattle.lst_report.specs.Runs.{Answered, answered, write_of, speaker_of, is_by}
+use Rattle.lst_report.specs.Runs.{Answered, answered, write_of}
 use Rattle.lst_report.specs.States.{after_call, after_line, with_write, state_from, state_of, unbegun}
-use Rattle.lst_legal_runs.specs.declared.outlines.OpenOutline.{OpenOutline}
 use Rattle.lst_legal_runs.specs.declared.outlines.StateOutline.{StateOutline}
 use Rattle.lst_legal_runs.specs.Outlines.{has_items, outline_of_open, outline_of, outline_after}
-use Rattle.lst_legal_runs.specs.Places.{AreOutlines, outline_at}
+use Rattle.lst_legal_runs.specs.Places.{AreOutlines}
 
 -- ---- one more line
 

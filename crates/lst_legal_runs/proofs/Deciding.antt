@@ -1,5 +1,5 @@
 -- Tests that decide facts.
-use Rattle.std.proofs.Common.{◌≡◌, ◌↔◌, IsTrue, Bool, true, false, subst}
+use Rattle.std.proofs.Common.{◌≡◌, ◌↔◌, IsTrue, Bool, true, false}
 
 module _ {A : Type 0} where
   pub is_true : A → IsTrue true ↔ A

@@ -1,11 +1,11 @@
 -- The floors, one more line at a time.
-use Rattle.std.proofs.Common.{◌≡◌, ℕ, ◌+◌, ◌<◌, ◌≤◌, max, Bool, true, false, cond, ◌||◌, eqb, List, [], ◌∷◌, ◌++◌, Option, Some, None, refl, sym, ap, ◌∙◌, subst, arith}
+use Rattle.std.proofs.Common.{◌≡◌, ℕ, max, Bool, true, false, cond, ◌||◌, List, [], ◌∷◌, ◌++◌, Option, Some, None, refl, sym, ap, ◌∙◌, arith}
 use Rattle.std.specs.List.{filter, filter_map, list_any}
 use Rattle.std.proofs.lemmas.List.{append-nil}
 use Rattle.std.proofs.lemmas.List.Elements.{filter-append, filter_map-append}
 use Rattle.std.proofs.lemmas.List.Folds.{list_any-append}
 use Rattle.lst_report.specs.Runs.{Answered, is_by, is_phase, commit_time, commit_times}
-use Rattle.lst_report.specs.States.{greatest, time_told, times_told, ended_phases, floor_of}
+use Rattle.lst_report.specs.States.{greatest, time_told, times_told, ended_phases}
 use Rattle.lst_legal_runs.specs.declared.floors.Floors.{Floors}
 use Rattle.lst_legal_runs.specs.Marks.{number_at}
 use Rattle.lst_legal_runs.specs.Floors.{AreFloors, max_with}

@@ -1,12 +1,12 @@
 -- The commits that a run tells, one more line at a time.
 use Rattle.std.proofs.Common.{◌≡◌, ◌≢◌, ℕ, zero, suc, ◌+◌, ◌-◌, ◌<◌, ◌≤◌, Bool, true, false, cond, eqb, List, [], ◌∷◌, ◌++◌, length, get_or, set, map, replicate, Option, Some, None, IfSome, refl, sym, ap, ◌∙◌, subst, arith, ◌⊎◌, inl, inr, ⊎_elim}
 use Rattle.std.specs.Prelude.{slice_get, IsSomeAnd}
-use Rattle.std.specs.List.{Contains, AllPairs, filter_map, cons_option, All}
-use Rattle.std.proofs.lemmas.Bool.{eqb-true, eqb-false, eq-eqb, ne_eqb}
-use Rattle.std.proofs.lemmas.List.{append-nil, get_or-set_same, get_or-set_other, length-set, length-map, length-append, length-replicate, get_or-replicate, get_or_past, get_or-map, same_lists, get_or_default, get_or_append_left, get_or_at, append_assoc}
+use Rattle.std.specs.List.{Contains, AllPairs, cons_option}
+use Rattle.std.proofs.lemmas.Bool.{eqb-true, eqb-false, ne_eqb}
+use Rattle.std.proofs.lemmas.List.{append-nil, get_or-set_same, get_or-set_other, length-set, length-map, length-append, length-replicate, get_or_past, get_or-map, same_lists, get_or_default, get_or_append_left, get_or_at}
 use Rattle.std.proofs.lemmas.List.Elements.{filter_map-append, Contains-append_left, Contains-push, Contains-push_cases, Contains-get_or, All-from_get_or}
 use Rattle.std.proofs.lemmas.List.Quantifiers.{all_pairs_push}
-use Rattle.std.proofs.lemmas.Option.{same_Some, none-some, slice_get_within, slice_get-get_or, get_or_from_slice_get, slice_get_cases}
+use Rattle.std.proofs.lemmas.Option.{same_Some, none-some, slice_get_within, get_or_from_slice_get, slice_get_cases}
 use Rattle.lst_model.specs.declared.commits.Commit.{Commit}
 use Rattle.lst_model.specs.declared.lines.Line.{Line}
 use Rattle.lst_model.specs.declared.lines.Line.TheVariants.{Phase, Merge, Call}
@@ -21,7 +21,7 @@ use Rattle.lst_report.specs.Explained.{commit_at}
 use Rattle.lst_report.specs.Legal.{stamp_of, IsEntered}
 use Rattle.lst_legal_runs.specs.Places.{AtEach, IfCall}
 use Rattle.lst_legal_runs.specs.Gathering.{IsTold, HasSlot, IsEnteredIn, AreGathered, CanEnter}
-use Rattle.lst_legal_runs.proofs.Splits.{at_each_push, calls_of, of_calls}
+use Rattle.lst_legal_runs.proofs.Splits.{at_each_push, calls_of}
 
 -- ---- the commit at a time
 

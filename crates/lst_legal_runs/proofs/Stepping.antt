@@ -14,7 +14,7 @@ use Rattle.lst_report.specs.Runs.{Answered, answered, commit_time, speaker_of}
 use Rattle.lst_report.specs.States.{state_of, commit_of}
 use Rattle.lst_legal_runs.specs.declared.outlines.OpenOutline.{OpenOutline}
 use Rattle.lst_legal_runs.specs.Outlines.{outline_of_open}
-use Rattle.lst_legal_runs.specs.Gathering.{by_key, ArePending, AreGathered, CanEnter, IsTold, IsStep, IsNext, CommitsNothing}
+use Rattle.lst_legal_runs.specs.Gathering.{ArePending, AreGathered, CanEnter, IsTold, IsStep, IsNext, CommitsNothing}
 use Rattle.lst_legal_runs.specs.declared.places.Place.{Place}
 use Rattle.lst_legal_runs.specs.Places.{AreTraced, AreWithin, run_at, seen_at}
 use Rattle.lst_legal_runs.proofs.Placing.{traced_read}
@@ -22,7 +22,6 @@ use Rattle.lst_legal_runs.proofs.Splits.{split_map}
 use Rattle.std.specs.List.{All}
 use Rattle.std.proofs.lemmas.List.{get_or-map, length-map}
 use Rattle.std.proofs.lemmas.List.Elements.{All-get_or}
-use Rattle.lst_legal_runs.proofs.Sorting.{by_key-stands}
 use Rattle.lst_legal_runs.proofs.Gathered.{gathered_more, can_enter, no_open}
 
 pub ended_none : (time : Option ℕ) (writes : List Write) → ◌≡◌ {A = Option (ℕ × List Write)} None (option_map (λ (t : ℕ). (t, writes)) time) → time ≡ None

@@ -1,5 +1,5 @@
 -- What a test of an open transaction and a written key decides of the transaction and the write themselves.
-use Rattle.std.proofs.Common.{◌≡◌, ◌↔◌, ℕ, ◌∙◌, Bool, IsTrue, Option, Some, None, IfSome, option_map, sym, ap}
+use Rattle.std.proofs.Common.{◌≡◌, ◌↔◌, ℕ, ◌∙◌, Bool, IsTrue, Option, Some, None, IfSome, option_map, sym}
 use Rattle.std.proofs.lemmas.Option.{same_Some, none-some}
 use Rattle.lst_model.specs.declared.acts.Write.{Write}
 use Rattle.lst_report.specs.declared.states.Transaction.{Transaction}

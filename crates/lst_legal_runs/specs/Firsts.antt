@@ -1,7 +1,6 @@
 -- The first commits of a history that pass a test.
-use Rattle.std.specs.Prelude.{◌≡◌, ◌↔◌, ℕ, ◌+◌, ◌<◌, ◌≤◌, ◌==◌, ◌&&◌, Bool, cond, List, IsTrue, length, take}
+use Rattle.std.specs.Prelude.{◌↔◌, ℕ, ◌<◌, ◌≤◌, ◌==◌, ◌&&◌, Bool, cond, List, IsTrue, length, take}
 use Rattle.std.specs.List.{list_any}
-use Rattle.lst_model.specs.declared.acts.Write.{Write}
 use Rattle.lst_model.specs.declared.commits.Commit.{Commit}
 use Rattle.lst_report.specs.Explained.{has_write_on, is_numbered}
 use Rattle.lst_legal_runs.specs.declared.marks.Marks.{Marks}

@@ -1,6 +1,5 @@
 -- What is kept along a run to know the floor of each session.
-use Rattle.std.specs.Prelude.{◌≡◌, ℕ, ◌==◌, cond, max, List, [], ◌∷◌, Option, Some, None}
-use Rattle.lst_layout.specs.declared.limits.Limits.{Limits}
+use Rattle.std.specs.Prelude.{◌≡◌, ℕ, ◌==◌, cond, max, List, Option, Some, None}
 use Rattle.lst_model.specs.declared.commits.Commit.{Commit}
 use Rattle.lst_report.specs.Runs.{Answered, commit_times}
 use Rattle.lst_report.specs.States.{greatest, times_told, ended_phases, floor_of}

@@ -11,7 +11,6 @@ use Rattle.lst_report.specs.declared.reports.Stamp.{Stamp}
 use Rattle.lst_report.specs.declared.states.Transaction.{Transaction}
 use Rattle.lst_report.specs.Runs.{Answered, AtEachCall, commit_time, commit_times, write_of, speaker_of}
 use Rattle.lst_report.specs.States.{state_of, commit_of}
-use Rattle.lst_report.specs.Explained.{commit_at}
 use Rattle.lst_report.specs.Legal.{stamp_of, IsEntered}
 use Rattle.lst_legal_runs.specs.Places.{AtEach, IfCall, IfMerge, outline_at, seen_at}
 use Rattle.lst_legal_runs.specs.declared.places.Place.{Place}

@@ -1,8 +1,8 @@
 -- What is kept along a run to judge the replies to merges.
-use Rattle.std.specs.Prelude.{◌≡◌, ◌↔◌, ℕ, ◌<◌, List, [], ◌∷◌, ◌&&◌, IsTrue}
+use Rattle.std.specs.Prelude.{◌≡◌, ◌↔◌, ℕ, ◌<◌, List, ◌&&◌, IsTrue}
 use Rattle.std.specs.List.{count_by, list_any}
 use Rattle.lst_layout.specs.declared.limits.Limits.{Limits}
-use Rattle.lst_report.specs.Runs.{Answered, is_by, is_begun, is_merged, is_accepted}
+use Rattle.lst_report.specs.Runs.{Answered, is_by, is_begun, is_merged}
 use Rattle.lst_report.specs.Explained.{last_merged, MergeIsAnswered}
 use Rattle.lst_legal_runs.specs.declared.merges.Merges.{Merges}
 use Rattle.lst_legal_runs.specs.declared.marks.Marks.{Marks}

@@ -1,5 +1,5 @@
 -- A session's state without the writes of its open transaction: only whether there are any.
-use Rattle.std.specs.Prelude.{ℕ, ◌+◌, Bool, true, false, ◌||◌, Option, Some, None, option_map, is_some, List, [], ◌∷◌}
+use Rattle.std.specs.Prelude.{◌+◌, Bool, true, false, ◌||◌, Some, None, option_map, is_some, List, [], ◌∷◌}
 use Rattle.lst_model.specs.declared.acts.Write.{Write}
 use Rattle.lst_model.specs.declared.lines.Call.{Call as CallKind}
 use Rattle.lst_model.specs.declared.replies.Reply.{Reply}

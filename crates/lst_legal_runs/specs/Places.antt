@@ -1,11 +1,11 @@
 -- The places of a run: each line with its reply, and an outline of the state in which its session comes to it.
-use Rattle.std.specs.Prelude.{◌≡◌, ℕ, ◌<◌, List, [], ◌∷◌, ◌++◌, map, length, slice_index_or, Option, Some, None, IfSome}
+use Rattle.std.specs.Prelude.{◌≡◌, ℕ, ◌<◌, List, ◌∷◌, ◌++◌, map, length, slice_index_or, Option, Some, None, IfSome}
 use Rattle.std.specs.List.{All}
 use Rattle.lst_model.specs.declared.lines.Line.{Line}
 use Rattle.lst_model.specs.declared.lines.Line.TheVariants.{Phase, Merge, Call}
 use Rattle.lst_model.specs.declared.lines.Call.{Call as CallKind}
 use Rattle.lst_model.specs.declared.replies.Reply.{Reply}
-use Rattle.lst_report.specs.Runs.{Answered, answered, speaker_of}
+use Rattle.lst_report.specs.Runs.{Answered, speaker_of}
 use Rattle.lst_report.specs.Seen.{seen}
 use Rattle.lst_report.specs.States.{state_of, unbegun}
 use Rattle.lst_legal_runs.specs.declared.outlines.StateOutline.{StateOutline}

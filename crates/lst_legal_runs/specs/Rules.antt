@@ -1,5 +1,5 @@
 -- The rules of a legal report, each as what it asks at one line behind the front of a run.
-use Rattle.std.specs.Prelude.{ℕ, List}
+use Rattle.std.specs.Prelude.{List}
 use Rattle.lst_layout.specs.declared.limits.Limits.{Limits}
 use Rattle.lst_report.specs.Runs.{Answered}
 use Rattle.lst_report.specs.States.{state_of}

@@ -1,12 +1,11 @@
-use Rattle.std.proofs.Common.{◌≡◌, ◌↔◌, IsTrue, List, ap, sym, subst}
+use Rattle.std.proofs.Common.{◌↔◌, IsTrue, List, subst}
 use Rattle.lst_model.specs.declared.commits.Commit.{Commit}
 use Rattle.lst_report.specs.Runs.{AtEachCall}
-use Rattle.lst_report.specs.States.{state_of, floor_of}
+use Rattle.lst_report.specs.States.{floor_of}
 use Rattle.lst_report.specs.Explained.{TimeIsBounded, ConflictIsExplained, FullnessIsExplained}
 use Rattle.lst_report.specs.Legal.{AtEachWrite}
 use Rattle.lst_legal_runs.specs.Places.{run_at}
-use Rattle.lst_legal_runs.proofs.Deciding.{is_true, is_false, passes, refuses}
-use Rattle.lst_legal.specs.Judged.{FollowsRules}
+use Rattle.lst_legal_runs.proofs.Deciding.{is_false, passes, refuses}
 use Rattle.lst_legal.proofs.judging.follows_rules.Goals as goal
 
 pub returns-then-not-branch-3 : goal.returns-then-not-branch-3

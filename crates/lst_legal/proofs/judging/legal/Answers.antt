@@ -1,7 +1,6 @@
-use Rattle.std.proofs.Common.{◌≡◌, ◌↔◌, ◌∙◌, ℕ, IsTrue, List, Option, sym, ap, subst}
+use Rattle.std.proofs.Common.{◌≡◌, ◌↔◌, ◌∙◌, IsTrue, List, sym, ap, subst}
 use Rattle.std.specs.List.{All}
-use Rattle.lst_model.specs.declared.replies.Reply.{Reply}
-use Rattle.lst_report.specs.Runs.{Answered, run_of}
+use Rattle.lst_report.specs.Runs.{run_of}
 use Rattle.lst_report.specs.ReplyKinds.{HaveReplyShape}
 use Rattle.lst_report.specs.Seen.{seen_all}
 use Rattle.lst_report.specs.declared.reports.Stamp.{Stamp}

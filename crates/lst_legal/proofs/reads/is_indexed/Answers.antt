@@ -1,4 +1,4 @@
-use Rattle.std.proofs.Common.{◌≡◌, ℕ, ◌<◌, ◌*◌, ◌/◌, ◌^◌, not, eqb, bit_and, sym, ap, ◌∙◌, subst, arith}
+use Rattle.std.proofs.Common.{ℕ, ◌^◌, not, eqb, bit_and, ap, ◌∙◌}
 use Rattle.lst_legal.proofs.Indexing.{indexed_within, indexed_past}
 use Rattle.lst_legal.proofs.reads.is_indexed.Goals as goal
 

@@ -1,12 +1,12 @@
-use Rattle.std.proofs.Common.{◌≡◌, ◌↔◌, IsTrue, IfSome, ℕ, ◌<◌, ◌++◌, ◌∷◌, [], take, length, List, sym, ap, ◌∙◌, subst}
-use Rattle.lst_report.specs.Runs.{Answered, speaker_of}
+use Rattle.std.proofs.Common.{IfSome, ℕ, ◌<◌, take, length, sym, ◌∙◌, subst}
+use Rattle.lst_report.specs.Runs.{speaker_of}
 use Rattle.lst_legal_runs.specs.Places.{seen_at, run_at}
-use Rattle.lst_legal_runs.proofs.Deciding.{is_true, is_false, passes, refuses}
-use Rattle.lst_legal_runs.proofs.Splits.{so_far_none, so_far_step, so_far_wrong, so_far_all}
+use Rattle.lst_legal_runs.proofs.Deciding.{is_false, passes, refuses}
+use Rattle.lst_legal_runs.proofs.Splits.{so_far_step, so_far_wrong}
 use Rattle.lst_legal_runs.proofs.Placing.{run_more, traced_read}
 use Rattle.lst_legal_runs.proofs.Stepping.{speaker_within}
 use Rattle.lst_legal.specs.Sights.{AreSights, TellsSeen}
-use Rattle.lst_legal.proofs.Sighting.{Watched, both_of, of_both}
+use Rattle.lst_legal.proofs.Sighting.{of_both}
 use Rattle.lst_legal.proofs.sights.are_told_with.Goals as goal
 
 pub tells_seen-requires : goal.tells_seen-requires

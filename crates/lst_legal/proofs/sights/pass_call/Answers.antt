@@ -1,8 +1,5 @@
-use Rattle.std.proofs.Common.{◌≡◌, Some, sym, ap, ◌∙◌, subst}
+use Rattle.std.proofs.Common.{◌≡◌, sym, ap, ◌∙◌}
 use Rattle.lst_model.specs.declared.replies.Reply.{Reply}
-use Rattle.lst_model.specs.declared.acts.Write.{Write}
-use Rattle.lst_report.specs.declared.states.SessionState.{SessionState}
-use Rattle.lst_report.specs.declared.states.Transaction.{Transaction}
 use Rattle.lst_report.specs.States.{after_call, with_write}
 use Rattle.lst_report.specs.Runs.{write_of}
 use Rattle.lst_legal.proofs.Sighting.{write_unseen, write_seen}

@@ -1,4 +1,4 @@
-use Rattle.std.proofs.Common.{◌≡◌, sym, ◌∙◌}
+use Rattle.std.proofs.Common.{sym, ◌∙◌}
 use Rattle.lst_legal.proofs.Sighting.{shown, tells_open}
 use Rattle.lst_legal.proofs.sights.tells_call.Goals as goal
 

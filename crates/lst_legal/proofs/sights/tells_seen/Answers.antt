@@ -1,4 +1,4 @@
-use Rattle.std.proofs.Common.{◌≡◌, ◌↔◌, ℕ, ◌<◌, IsTrue, IfSome, length, get_or, Option, None, sym, ap, ◌∙◌, subst}
+use Rattle.std.proofs.Common.{◌≡◌, ◌↔◌, ◌<◌, IsTrue, IfSome, length, Option, None, sym, ap, ◌∙◌, subst}
 use Rattle.std.proofs.lemmas.List.{get_or_default}
 use Rattle.lst_model.specs.declared.lines.Line.TheVariants.{Call}
 use Rattle.lst_report.specs.Seen.{seen}

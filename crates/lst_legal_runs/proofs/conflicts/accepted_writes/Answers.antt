@@ -1,4 +1,4 @@
-use Rattle.std.proofs.Common.{◌≡◌, ◌∙◌, ℕ, List, take, refl, sym, ap, subst}
+use Rattle.std.proofs.Common.{take, sym, subst}
 use Rattle.lst_legal_runs.specs.Places.{run_at}
 use Rattle.lst_legal_runs.specs.Conflicts.{AreAccepted}
 use Rattle.lst_legal_runs.proofs.Accepting.{accepted_none}

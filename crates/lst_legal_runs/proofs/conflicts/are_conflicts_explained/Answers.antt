@@ -1,11 +1,11 @@
-use Rattle.std.proofs.Common.{◌≡◌, ◌↔◌, IsTrue, IfSome, ℕ, ◌<◌, take, length, List, sym, ap, ◌∙◌, subst}
-use Rattle.lst_report.specs.Runs.{Answered, AtEachCall, write_of}
+use Rattle.std.proofs.Common.{IfSome, take}
+use Rattle.lst_report.specs.Runs.{write_of}
 use Rattle.lst_report.specs.States.{state_of}
 use Rattle.lst_report.specs.Explained.{ConflictIsExplained}
 use Rattle.lst_legal_runs.specs.Places.{seen_at, run_at}
 use Rattle.lst_legal_runs.specs.Conflicts.{TellsConflict}
 use Rattle.lst_legal_runs.proofs.Deciding.{is_false, passes, refuses}
-use Rattle.lst_legal_runs.proofs.Splits.{so_far_none, so_far_step, so_far_wrong, so_far_all, of_calls}
+use Rattle.lst_legal_runs.proofs.Splits.{so_far_none, so_far_step, so_far_wrong, of_calls}
 use Rattle.lst_legal_runs.proofs.Placing.{traced_read}
 use Rattle.lst_legal_runs.proofs.conflicts.are_conflicts_explained.Goals as goal
 

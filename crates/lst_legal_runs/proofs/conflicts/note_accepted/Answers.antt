@@ -1,4 +1,4 @@
-use Rattle.std.proofs.Common.{◌≡◌, ◌∙◌, ℕ, List, Option, Some, None, cond, refl, sym, ap, subst}
+use Rattle.std.proofs.Common.{◌∙◌, ℕ, Some, None, cond, refl, ap, subst}
 use Rattle.lst_legal_runs.specs.Marks.{are_same, number_at}
 use Rattle.lst_legal_runs.specs.Places.{seen_at}
 use Rattle.lst_legal_runs.specs.Conflicts.{IsAcceptedAt}

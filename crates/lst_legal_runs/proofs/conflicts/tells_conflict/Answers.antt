@@ -1,4 +1,4 @@
-use Rattle.std.proofs.Common.{◌≡◌, ◌↔◌, IsTrue, ap, sym, ◌∙◌, subst}
+use Rattle.std.proofs.Common.{◌≡◌, ◌↔◌, IsTrue, ap, sym, subst}
 use Rattle.lst_model.specs.declared.lines.Line.TheVariants.{Call}
 use Rattle.lst_report.specs.Seen.{seen}
 use Rattle.lst_report.specs.Runs.{Answered, answered, speaker_of, write_of}

@@ -1,8 +1,8 @@
-use Rattle.std.proofs.Common.{◌≡◌, ℕ, ◌+◌, ◌∙◌, Bool, List, take, arith, refl, ap}
+use Rattle.std.proofs.Common.{ℕ, ◌+◌, ◌∙◌, arith, ap}
 use Rattle.lst_report.specs.Explained.{is_numbered}
 use Rattle.lst_legal_runs.specs.Marks.{number_at}
 use Rattle.lst_legal_runs.specs.Firsts.{first_after}
-use Rattle.lst_legal_runs.proofs.Firsting.{first_none, first_more}
+use Rattle.lst_legal_runs.proofs.Firsting.{first_more}
 use Rattle.lst_legal_runs.proofs.firsts.first_numbers.Goals as goal
 
 pub loop-commit-preserved : goal.loop-commit-preserved

@@ -1,12 +1,10 @@
-use Rattle.std.proofs.Common.{◌≡◌, ◌↔◌, IsTrue, ℕ, ◌<◌, ◌++◌, ◌∷◌, [], take, length, List, sym, ap, ◌∙◌, subst}
-use Rattle.std.proofs.lemmas.List.{map_more}
-use Rattle.lst_report.specs.Runs.{Answered, AtEachCall}
+use Rattle.std.proofs.Common.{take, sym, subst}
 use Rattle.lst_report.specs.States.{floor_of}
 use Rattle.lst_report.specs.Explained.{TimeIsBounded}
 use Rattle.lst_legal_runs.specs.Places.{seen_at, run_at}
 use Rattle.lst_legal_runs.specs.Floors.{AreFloors, TellsTime}
-use Rattle.lst_legal_runs.proofs.Deciding.{is_true, is_false, passes, refuses}
-use Rattle.lst_legal_runs.proofs.Splits.{so_far_none, so_far_step, so_far_wrong, so_far_all, calls_of, of_calls}
+use Rattle.lst_legal_runs.proofs.Deciding.{is_false, passes, refuses}
+use Rattle.lst_legal_runs.proofs.Splits.{so_far_none, so_far_step, so_far_wrong, of_calls}
 use Rattle.lst_legal_runs.proofs.Placing.{run_more}
 use Rattle.lst_legal_runs.proofs.floors.are_times_bounded.Goals as goal
 

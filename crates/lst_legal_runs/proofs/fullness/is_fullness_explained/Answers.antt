@@ -1,11 +1,11 @@
-use Rattle.std.proofs.Common.{◌≡◌, ◌↔◌, IsTrue, IfSome, ℕ, ◌<◌, ◌++◌, ◌∷◌, [], take, length, List, false, sym, ap, ◌∙◌, subst}
-use Rattle.lst_report.specs.Runs.{Answered, AtEachCall, write_of}
+use Rattle.std.proofs.Common.{IfSome, take, sym, subst}
+use Rattle.lst_report.specs.Runs.{write_of}
 use Rattle.lst_report.specs.States.{state_of}
 use Rattle.lst_report.specs.Explained.{FullnessIsExplained}
 use Rattle.lst_legal_runs.specs.Places.{seen_at, run_at}
 use Rattle.lst_legal_runs.specs.Fullness.{AreWritten, TellsFullness}
-use Rattle.lst_legal_runs.proofs.Deciding.{is_true, is_false, passes, refuses}
-use Rattle.lst_legal_runs.proofs.Splits.{so_far_none, so_far_step, so_far_wrong, so_far_all, of_calls}
+use Rattle.lst_legal_runs.proofs.Deciding.{is_false, passes, refuses}
+use Rattle.lst_legal_runs.proofs.Splits.{so_far_none, so_far_step, so_far_wrong, of_calls}
 use Rattle.lst_legal_runs.proofs.Placing.{run_more, traced_read}
 use Rattle.lst_legal_runs.proofs.Marking.{nothing_marked}
 use Rattle.lst_legal_runs.proofs.fullness.is_fullness_explained.Goals as goal

@@ -1,7 +1,6 @@
-use Rattle.std.proofs.Common.{◌≡◌, ◌∙◌, ℕ, ◌+◌, ◌<◌, ◌++◌, ◌∷◌, [], take, drop, length, List, IfSome, sym, ap, subst}
+use Rattle.std.proofs.Common.{◌∙◌, ℕ, ◌+◌, ◌<◌, ◌++◌, ◌∷◌, [], take, drop, length, List, IfSome, sym, subst}
 use Rattle.lst_report.specs.Runs.{Answered, speaker_of}
 use Rattle.lst_legal_runs.specs.Places.{seen_at, run_at}
-use Rattle.lst_legal_runs.specs.Gathering.{IsTold}
 use Rattle.lst_legal_runs.proofs.Placing.{run_more}
 use Rattle.lst_legal_runs.proofs.Stepping.{Filling, next_place, speaker_within, step_on, step_off}
 use Rattle.lst_legal_runs.proofs.gathering.fill_all.Goals as goal

@@ -1,4 +1,4 @@
-use Rattle.std.proofs.Common.{◌≡◌, length, take}
+use Rattle.std.proofs.Common.{length, take}
 use Rattle.lst_legal_runs.specs.Places.{run_at}
 use Rattle.lst_legal_runs.proofs.Stepping.{Filling}
 use Rattle.lst_legal_runs.proofs.gathering.fill_all.Given as goal

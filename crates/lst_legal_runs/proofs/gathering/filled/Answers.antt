@@ -1,5 +1,4 @@
-use Rattle.std.proofs.Common.{◌≡◌, ◌++◌, ◌∷◌, [], List, Option, Some, None, map, ap, ◌∙◌, sym, rules}
-use Rattle.std.proofs.lemmas.Option.{none-some}
+use Rattle.std.proofs.Common.{◌≡◌, ◌++◌, ◌∷◌, [], List, Option, Some, None, map, ap, ◌∙◌, sym}
 use Rattle.lst_model.specs.declared.commits.Commit.{Commit}
 use Rattle.lst_legal_runs.proofs.gathering.filled.Goals as goal
 

@@ -1,5 +1,4 @@
-use Rattle.std.proofs.Common.{◌≡◌, ◌∙◌, List, Option, Some, None, IfSome, map, option_map, sym, ap, subst}
-use Rattle.std.proofs.lemmas.Option.{MatchOption-at_some}
+use Rattle.std.proofs.Common.{◌∙◌, List, Some, IfSome, option_map, sym, ap, subst}
 use Rattle.lst_model.specs.declared.commits.Commit.{Commit}
 use Rattle.lst_model.specs.Histories.{AreByKey}
 use Rattle.lst_legal_runs.specs.Places.{run_at}

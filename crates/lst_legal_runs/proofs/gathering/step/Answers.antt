@@ -1,4 +1,4 @@
-use Rattle.std.proofs.Common.{◌≡◌, ℕ, ◌<◌, List, [], ◌∷◌, ◌++◌, length, get_or, set, Option, Some, None, IfSome, option_map, refl, sym, ap, ◌∙◌, subst}
+use Rattle.std.proofs.Common.{◌≡◌, ◌<◌, List, [], ◌∷◌, ◌++◌, length, get_or, set, None, IfSome, refl, sym, ap, ◌∙◌, subst}
 use Rattle.lst_model.specs.declared.acts.Write.{Write}
 use Rattle.lst_model.specs.declared.replies.Reply.TheVariants.{Silent}
 use Rattle.lst_model.specs.declared.lines.Line.TheVariants.{Phase, Merge, Call}
@@ -10,7 +10,7 @@ use Rattle.lst_report.specs.States.{state_of}
 use Rattle.lst_legal_runs.specs.declared.outlines.StateOutline.{StateOutline}
 use Rattle.lst_legal_runs.specs.Outlines.{outline_of}
 use Rattle.lst_legal_runs.specs.Places.{seen_at, outline_at}
-use Rattle.lst_legal_runs.specs.Gathering.{ArePending, AreGathered, CommitsNothing, IsStep, by_key, pending_after}
+use Rattle.lst_legal_runs.specs.Gathering.{ArePending, CommitsNothing, IsStep, by_key, pending_after}
 use Rattle.lst_legal_runs.proofs.Sorting.{by_key-stands}
 use Rattle.lst_legal_runs.proofs.Pending.{pending_phase, pending_merge, pending_call}
 use Rattle.lst_legal_runs.proofs.Gathered.{gathered_silent}

@@ -1,10 +1,9 @@
-use Rattle.std.proofs.Common.{◌≡◌, ◌↔◌, IsTrue, ℕ, ◌<◌, ◌++◌, ◌∷◌, [], take, length, List, sym, ap, ◌∙◌, subst}
-use Rattle.lst_report.specs.Runs.{Answered, AtEachMerge}
+use Rattle.std.proofs.Common.{take, sym, subst}
 use Rattle.lst_report.specs.Explained.{MergeIsAnswered}
 use Rattle.lst_legal_runs.specs.Places.{seen_at, run_at}
 use Rattle.lst_legal_runs.specs.Merges.{AreMerges, TellsMerge}
-use Rattle.lst_legal_runs.proofs.Deciding.{is_true, is_false, passes, refuses}
-use Rattle.lst_legal_runs.proofs.Splits.{so_far_none, so_far_step, so_far_wrong, so_far_all, merges_of, of_merges}
+use Rattle.lst_legal_runs.proofs.Deciding.{is_false, passes, refuses}
+use Rattle.lst_legal_runs.proofs.Splits.{so_far_none, so_far_step, so_far_wrong, of_merges}
 use Rattle.lst_legal_runs.proofs.Placing.{run_more}
 use Rattle.lst_legal_runs.proofs.merges.are_merges_consistent.Goals as goal
 

@@ -1,10 +1,8 @@
-use Rattle.std.proofs.Common.{◌≡◌, ◌<◌, length, IfSome, List, [], ◌∷◌, ◌++◌, get_or, set, refl, sym, ap, ◌∙◌, subst}
+use Rattle.std.proofs.Common.{◌<◌, length, IfSome, [], ◌∷◌, ◌++◌, set, sym, ap, ◌∙◌, subst}
 use Rattle.lst_report.specs.Seen.{seen}
-use Rattle.lst_report.specs.Runs.{Answered, answered, speaker_of}
-use Rattle.lst_report.specs.States.{state_of}
-use Rattle.lst_model.specs.declared.lines.Line.TheVariants.{Phase, Merge, Call}
+use Rattle.lst_report.specs.Runs.{Answered, speaker_of}
 use Rattle.lst_model.specs.declared.replies.Reply.TheVariants.{Silent}
-use Rattle.lst_legal_runs.specs.Outlines.{outline_of, outline_after}
+use Rattle.lst_legal_runs.specs.Outlines.{outline_after}
 use Rattle.lst_legal_runs.specs.Places.{AreOutlines}
 use Rattle.lst_legal_runs.proofs.Behind.{outlines_phase, outlines_merge, outlines_call}
 use Rattle.lst_legal_runs.proofs.places.pass.Goals as goal

@@ -1,9 +1,7 @@
-use Rattle.std.proofs.Common.{◌≡◌, ℕ, ◌+◌, ◌<◌, ◌≤◌, length, List, [], ◌∷◌, ◌++◌, IfSome, get_or, take, map, refl, sym, ap, ◌∙◌, subst, arith, min}
-use Rattle.std.proofs.lemmas.List.{length-map, length-take-le, get_or-map}
-use Rattle.std.proofs.lemmas.List.Elements.{All-get_or}
+use Rattle.std.proofs.Common.{◌≡◌, ℕ, ◌<◌, length, IfSome, take, sym, ◌∙◌, subst, arith}
+use Rattle.std.proofs.lemmas.List.{length-map, length-take-le}
 use Rattle.lst_report.specs.Seen.{seen, seen_all}
-use Rattle.lst_report.specs.Runs.{Answered, speaker_of}
-use Rattle.lst_report.specs.declared.answers.Answer.{Answer}
+use Rattle.lst_report.specs.Runs.{speaker_of}
 use Rattle.lst_legal_runs.proofs.Behind.{outlines_few}
 use Rattle.lst_legal_runs.proofs.Placing.{traced_step, within_read}
 use Rattle.lst_legal_runs.proofs.places.trace_with.Goals as goal

@@ -1,11 +1,10 @@
-use Rattle.std.proofs.Common.{◌≡◌, ◌↔◌, IsTrue, ℕ, ◌<◌, take, length, List, arith}
-use Rattle.lst_report.specs.Runs.{Answered, AtEachCall}
+use Rattle.std.proofs.Common.{take}
 use Rattle.lst_report.specs.States.{state_of}
 use Rattle.lst_report.specs.Explained.{StateIsTold}
 use Rattle.lst_legal_runs.specs.Places.{seen_at, run_at}
 use Rattle.lst_legal_runs.specs.Rules.{TellsState}
-use Rattle.lst_legal_runs.proofs.Deciding.{is_true, is_false, passes, refuses}
-use Rattle.lst_legal_runs.proofs.Splits.{so_far_none, so_far_step, so_far_wrong, so_far_all, calls_of, of_calls}
+use Rattle.lst_legal_runs.proofs.Deciding.{is_false, passes, refuses}
+use Rattle.lst_legal_runs.proofs.Splits.{so_far_none, so_far_step, so_far_wrong, of_calls}
 use Rattle.lst_legal_runs.proofs.Placing.{traced_read}
 use Rattle.lst_legal_runs.proofs.refusals.are_refusals_exact.Goals as goal
 

@@ -1,4 +1,3 @@
-use Rattle.std.proofs.Common.{◌≡◌}
 use Rattle.lst_report.specs.Explained.{ConflictIsExplained}
 use Rattle.lst_legal_runs.proofs.Writing.{at_write}
 use Rattle.lst_legal_runs.proofs.conflicts.Conflicts.explains_write.Goals as goal

@@ -1,6 +1,5 @@
-use Rattle.std.proofs.Common.{◌≡◌, ◌∙◌, ℕ, ◌+◌, nat_lt, sym, ap}
+use Rattle.std.proofs.Common.{◌∙◌, ℕ, ◌+◌, nat_lt, sym, ap}
 use Rattle.lst_legal_runs.specs.Marks.{number_at}
-use Rattle.lst_legal_runs.specs.Conflicts.{another_took}
 use Rattle.lst_legal_runs.proofs.Accepting.{took_none, took_same}
 use Rattle.lst_legal_runs.proofs.conflicts.Conflicts.may_have_taken.Goals as goal
 

@@ -1,7 +1,6 @@
-use Rattle.std.proofs.Common.{◌≡◌, ℕ, Bool, true, false, List, [], ◌∷◌, ◌++◌, refl, sym, ap, ◌∙◌, subst}
+use Rattle.std.proofs.Common.{refl, sym, ap, ◌∙◌, subst}
 use Rattle.lst_report.specs.Runs.{Answered}
 use Rattle.lst_report.specs.Seen.{seen}
-use Rattle.lst_legal_runs.specs.Floors.{AreFloors}
 use Rattle.lst_legal_runs.proofs.Flooring.{Passes, floors_pass}
 use Rattle.lst_legal_runs.proofs.floors.Floors.pass.Goals as goal
 

@@ -1,0 +1,64 @@
+//! The runs, each a loop over one call.
+ghost use Rattle.std.specs.Prelude.{◌≡◌, ◌<◌, true};
+ghost use Rattle.lst_bench.specs.Seated.{Stays, Rests};
+
+use lst_seat::{Seat, Store, load_clock, load_head};
+use lst_txn::{begin, close};
+
+/// Loads the indirection words of all records in turn, and adds them up.
+pub fn heads(store: &Store, seat: &mut Seat, count: u32) -> u64
+    requires { Stays store.now seat.old }
+    ensures { Stays store.now seat.new }
+{
+    let records = 256 * store.layout().limits.ranges;
+    let mut sum = 0u64;
+    let mut rec = 0;
+    let mut turn = 0;
+    while turn < count {
+        sum = sum.wrapping_add(load_head(store, seat, 0, rec));
+        rec = if rec + 1 < records { rec + 1 } else { 0 };
+        turn += 1;
+    }
+    sum
+}
+
+/// Loads the clock, and adds up what was found.
+pub fn clocks(store: &Store, seat: &mut Seat, count: u32) -> u64
+    requires { Stays store.now seat.old }
+    ensures { Stays store.now seat.new }
+{
+    let mut sum = 0u64;
+    let mut turn = 0;
+    while turn < count {
+        sum = sum.wrapping_add(load_clock(store, seat, 0));
+        turn += 1;
+    }
+    sum
+}
+
+/// Begins a transaction and closes it, and tells whether it began.
+fn one_turn(store: &Store, seat: &mut Seat) -> bool
+    requires { Rests store.now seat.old }
+    ensures { Rests store.now seat.new }
+{
+    if begin(store, seat, 0).is_err() {
+        return false;
+    }
+    close(store, seat, 0).is_ok()
+}
+
+/// Begins and closes transactions, and counts those that began.
+pub fn turns(store: &Store, seat: &mut Seat, count: u32) -> u32
+    requires { Rests store.now seat.old }
+    ensures { Rests store.now seat.new }
+{
+    let mut begun = 0;
+    let mut turn = 0;
+    while turn < count {
+        if one_turn(store, seat) {
+            begun += 1;
+        }
+        turn += 1;
+    }
+    begun
+}
