@@ -8,6 +8,8 @@ use Rattle.lst_core_state.specs.declared.facts.Fact.TheVariants.{IndexAt}
 use Rattle.lst_core_state.specs.Index.{size, position_of}
 use Rattle.lst_rule.specs.declared.view.View.{View}
 use Rattle.lst_rule.specs.Rule.{knows}
+use Rattle.lst_rule.specs.Learned.{Kept}
+use Rattle.lst_rule.proofs.Learning.{kept_on}
 use Rattle.lst_seat.specs.declared.store.Store.{Store}
 use Rattle.lst_seat.specs.Seats.{Sitting}
 use Rattle.lst_seat.specs.Stores.{IsSeatOf}
@@ -32,12 +34,13 @@ passed_on l v w s key n a p = passed_more l (knows v s).facts (knows w s).facts 
 pub passed_one : (l : Limits) (u v w : View) (s key n q r : ℕ) → Works u v s [] → Works v w s [] → q ≡ position_of l key n → (k : ℕ) × Contains (knows w s).facts (IndexAt q r k) × (k ≢ key) → Passed l (knows u s).facts key n → Passed l (knows w s).facts key (n + 1)
 passed_one l u v w s key n q r a b at other p = passed_next l (knows w s).facts key n r other.0 (passed_on l v w s key n b (passed_on l u v s key n a p)) (subst (λ (z : ℕ). Contains (knows w s).facts (IndexAt z r other.0)) at other.1) other.2
 
-pub search_on : (store : Store) (v : View) (seat at on : Sitting) (s key n q r : ℕ) → Searches store v seat s key n → q ≡ position_of store.layout.limits key n → Works seat.view at.view s [] → (knows at.view s).placing ≡ (knows seat.view s).placing → Works at.view on.view s []
+pub search_on : (store : Store) (v : View) (seat at on : Sitting) (s key n q r : ℕ) → Searches store v seat s key n → q ≡ position_of store.layout.limits key n → Works seat.view at.view s [] → Kept seat.view at.view → (knows at.view s).placing ≡ (knows seat.view s).placing → Works at.view on.view s [] → Kept at.view on.view
     → Keeps (knows at.view s).placing (knows on.view s).placing → (k : ℕ) × Contains (knows on.view s).facts (IndexAt q r k) × (k ≢ key) → IsSeatOf store on → Searches store v on s key (n + 1)
-search_on store v seat at on s key n q r search is a same b keeps other seat_of = record {
+search_on store v seat at on s key n q r search is a kept_a same b kept_b keeps other seat_of = record {
   seat_of = seat_of;
   host = works_host at.view on.view s [] b (works_host seat.view at.view s [] a search.host);
   works = works_on v at.view on.view s [] (works_on v seat.view at.view s [] search.works a) b;
+  kept = kept_on v at.view on.view (a.view.whole ∙ search.works.view.whole) (kept_on v seat.view at.view search.works.view.whole search.kept kept_a) kept_b;
   keeps = keeps_on (knows v s).placing (knows seat.view s).placing (knows on.view s).placing search.keeps (subst (λ (p : Placing). Keeps p (knows on.view s).placing) same keeps);
   passed = passed_one store.layout.limits seat.view at.view on.view s key n q r a b is other search.passed;
 }

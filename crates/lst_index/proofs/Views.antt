@@ -9,7 +9,7 @@ use Rattle.lst_core_state.specs.declared.facts.Find.{Find}
 use Rattle.lst_rule.specs.declared.view.View.{View}
 use Rattle.lst_rule.specs.Rule.{knows, hosts}
 use Rattle.lst_rule.specs.Learned.{Learns}
-use Rattle.lst_rule.proofs.Learning.{learns_on}
+use Rattle.lst_rule.proofs.Learning.{learns_on, learns_same}
 use Rattle.lst_index.specs.Searches.{Works, Keeps}
 use Rattle.lst_index.specs.Visits.{one, Uses}
 
@@ -35,14 +35,8 @@ works_on u v w s finds a b = record {
 }
 
 pub works_none : (v : View) (s : ℕ) → Works v v s []
-works_none v s = works_of v v s (knows v s).placing [] [] (knows v s).looks.index record {
-  now = λ i. record (knows v s) { facts = sym (append-nil (knows v s).facts) i; finds = sym (append-nil (knows v s).finds) i };
-  others = λ t other. refl;
-  hosted = refl;
-  limits = refl;
-  note = refl;
-  whole = refl;
-}
+works_none v s = works_of v v s (knows v s).placing [] [] (knows v s).looks.index
+    (subst (Learns v v s) (λ i. record (knows v s) { facts = sym (append-nil (knows v s).facts) i; finds = sym (append-nil (knows v s).finds) i }) (learns_same v s))
 
 pub works_stay : (v w : View) (s : ℕ) (finds : List Find) → Works v w s finds → (f : Fact) → Contains (knows v s).facts f → Contains (knows w s).facts f
 works_stay v w s finds a f h = subst (λ (k : Known). Contains k.facts f) (sym a.view.now) (Contains-append_left (knows v s).facts a.more f h)

@@ -8,6 +8,7 @@ use Rattle.lst_core_state.specs.declared.facts.Fact.TheVariants.{IndexAt}
 use Rattle.lst_core_state.specs.Index.{size, position_of}
 use Rattle.lst_rule.specs.declared.view.View.{View}
 use Rattle.lst_rule.specs.Rule.{knows, hosts}
+use Rattle.lst_rule.specs.Learned.{Kept}
 use Rattle.lst_seat.specs.declared.store.Store.{Store}
 use Rattle.lst_seat.specs.Seats.{Sitting}
 use Rattle.lst_seat.specs.Stores.{IsSeatOf}
@@ -18,6 +19,7 @@ pub record Searches (store : Store) (v : View) (seat : Sitting) (s key n : ℕ) 
   pub seat_of : IsSeatOf store seat
   pub host : hosts seat.view s ≡ true
   pub works : Works v seat.view s []
+  pub kept : Kept v seat.view
   pub keeps : Keeps (knows v s).placing (knows seat.view s).placing
   pub passed : Passed store.layout.limits (knows seat.view s).facts key n
 

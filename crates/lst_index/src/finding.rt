@@ -2,6 +2,7 @@
 ghost use Rattle.std.specs.Prelude.{◌≡◌, ◌<◌, [], true, IfSome, IfNone};
 ghost use Rattle.lst_core_state.specs.Cells.{record_count};
 ghost use Rattle.lst_rule.specs.Rule.{knows, hosts};
+ghost use Rattle.lst_rule.specs.Learned.{Kept};
 ghost use Rattle.lst_seat.specs.Stores.{IsSeatOf};
 ghost use Rattle.lst_index.specs.Searches.{Ended, IsPlaced, IsUnseen, Works, Keeps};
 
@@ -20,6 +21,7 @@ pub fn find(store: &Store, seat: &mut Seat, s: u32, key: Key) -> Option<RecordId
     requires own { s < seat.old.view.limits.sessions }
     ensures seat { IsSeatOf store.now seat.new }
     ensures works { Works seat.old.view seat.new.view s [] }
+    ensures kept { Kept seat.old.view seat.new.view }
     ensures keeps { Keeps (knows seat.old.view s).placing (knows seat.new.view s).placing }
     ensures some { IfSome result (λ r. (r.number < record_count store.now.layout.limits) × IsPlaced (knows seat.new.view s) r.number key) }
     ensures none { IfNone result (Ended seat.new.view s key) }

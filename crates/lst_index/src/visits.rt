@@ -4,6 +4,7 @@ ghost use Rattle.lst_core_state.specs.declared.facts.Fact.TheVariants.{IndexAt};
 ghost use Rattle.lst_core_state.specs.Cells.{record_count};
 ghost use Rattle.lst_core_state.specs.Index.{size};
 ghost use Rattle.lst_rule.specs.Rule.{knows, hosts};
+ghost use Rattle.lst_rule.specs.Learned.{Kept};
 ghost use Rattle.lst_seat.specs.Stores.{IsSeatOf};
 ghost use Rattle.lst_index.specs.Searches.{IsPlaced, Works, Keeps};
 ghost use Rattle.lst_index.specs.Visits.{Holds, Shows, Ends};
@@ -18,6 +19,7 @@ pub(crate) fn look(store: &Store, seat: &mut Seat, s: u32, position: u32) -> Opt
     requires position { position < size store.now.layout.limits }
     ensures seat { IsSeatOf store.now seat.new }
     ensures works { Works seat.old.view seat.new.view s [] }
+    ensures kept { Kept seat.old.view seat.new.view }
     ensures placing { (knows seat.new.view s).placing ≡ (knows seat.old.view s).placing }
     ensures some { IfSome result (λ r. (r < record_count store.now.layout.limits) × Shows (knows seat.new.view s) position r) }
     ensures none { IfNone result (Ends store.now.layout.limits seat.old.view seat.new.view s position) }
@@ -45,6 +47,7 @@ pub(crate) fn compare(
     requires shows { Shows (knows seat.old.view s) position number }
     ensures seat { IsSeatOf store.now seat.new }
     ensures works { Works seat.old.view seat.new.view s [] }
+    ensures kept { Kept seat.old.view seat.new.view }
     ensures keeps { Keeps (knows seat.old.view s).placing (knows seat.new.view s).placing }
     ensures same { IfSome result (λ r. (r.number ≡ number) × IsPlaced (knows seat.new.view s) number key × (Holds (knows seat.old.view s).placing key → (knows seat.new.view s).placing.hand ≡ 0)) }
     ensures other { IfNone result (((k : ℕ) × Contains (knows seat.new.view s).facts (IndexAt position number k) × (k ≢ key)) × (Holds (knows seat.old.view s).placing key → (knows seat.new.view s).placing ≡ (knows seat.old.view s).placing)) }

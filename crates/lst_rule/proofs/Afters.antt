@@ -7,9 +7,11 @@ use Rattle.lst_model.specs.declared.commits.Commit.{Commit}
 use Rattle.lst_model.specs.Histories.{Extends}
 use Rattle.lst_core_state.specs.declared.known.Known.{Known}
 use Rattle.lst_core_state.specs.declared.events.Event.{Event}
+use Rattle.lst_core_state.specs.declared.facts.Fact.{Fact}
 use Rattle.lst_core_state.specs.declared.events.Event.TheVariants.{Look, Begin, Take, Log, State, Clock, Give, Close, DrawRecord, StoreKey, Claim, Latch, DrawTail, StoreCell, Install, Release, Stamp}
 use Rattle.lst_core_state.specs.State.{Words, Core, history_of}
 use Rattle.lst_core_state.specs.Step.{session_of, known_of, IsWithin, IsEnabled, words_after, known_after, after_own, after_merger, after}
+use Rattle.lst_core_state.specs.Facts.{IsFact}
 use Rattle.lst_core_state.specs.Sound.{Sound}
 use Rattle.lst_core_state.specs.Laws.{published}
 use Rattle.lst_core_state.proofs.Functions.{put_here, put_else}
@@ -76,3 +78,7 @@ module _ (c : Core) (e : Event) where
   -- what was a front of the history stays one
   pub after_history : Sound c → IsWithin c.limits e → IsEnabled c e → (front : List Commit) → Extends (history_of c.limits c.words) front → Extends (history_of (after c e).limits (after c e).words) front
   after_history sound within able front h = subst (λ (all : List Commit). Extends all front) (sym (steps_are_sound c sound e within able).history) (starts_more (history_of c.limits c.words) front (published c e) h)
+
+  -- what was a fact stays one
+  pub after_facts : Sound c → IsWithin c.limits e → IsEnabled c e → (f : Fact) → IsFact c.limits c.words f → IsFact (after c e).limits (after c e).words f
+  after_facts sound within able f h = subst (λ (l : Limits). IsFact l (after c e).words f) (sym after_limits) ((steps_are_sound c sound e within able).facts f h)

@@ -13,14 +13,16 @@ use Rattle.lst_model.specs.declared.commits.Commit.{Commit}
 use Rattle.lst_model.specs.Histories.{Extends}
 use Rattle.lst_core_state.specs.declared.known.Known.{Known}
 use Rattle.lst_core_state.specs.declared.events.Event.{Event}
+use Rattle.lst_core_state.specs.declared.facts.Fact.{Fact}
 use Rattle.lst_core_state.specs.State.{Words, Core, newcomer, history_of}
 use Rattle.lst_core_state.specs.Step.{session_of, known_of, IsWithin, Enabled, Stands, IsEnabled, words_after, known_after, after}
-use Rattle.lst_core_state.specs.Sound.{Sound}
+use Rattle.lst_core_state.specs.Facts.{IsFact}
+use Rattle.lst_core_state.specs.Sound.{FactsOf, Sound}
 use Rattle.lst_core_state.proofs.Keeps as kept
 use Rattle.lst_core.specs.Reading.{state_over}
 use Rattle.lst_rule.specs.declared.view.View.{View}
 use Rattle.lst_rule.specs.Rule.{knows, hosts, Fits, Ruled, view_after, Allowed, Makes, Ready, Told}
-use Rattle.lst_rule.proofs.Afters.{after_limits, after_words, after_here, after_else, after_history}
+use Rattle.lst_rule.proofs.Afters.{after_limits, after_words, after_here, after_else, after_history, after_facts}
 
 pub allowed : (words : List ℕ) (known : ℕ → Known) (merger : Known) (owner : ℕ → ℕ) (id : ℕ) (v : View) → length words ≡ words_of v.limits → Sound (state_over v.limits words known merger)
     → Fits words (state_over v.limits words known merger) owner id v → Allowed v words known merger
@@ -31,6 +33,8 @@ allowed words known merger owner id v wide sound fit = record {
   low = fit.low;
   knew = fit.knew;
   told = fit.told;
+  told_facts = fit.told_facts;
+  told_keys = fit.told_keys;
   whole = fit.whole;
   all = fit.all;
 }
@@ -79,6 +83,9 @@ module _ (s : State (Unit {0}) View) (id : ℕ) (v : View) (r : Ruled v.limits s
   grown : (front : List Commit) → Extends (history_of L W) front → Extends (history_of L (shown L (set s.words i x))) front
   grown front h = subst (λ (z : Core). Extends (history_of z.limits z.words) front) (sym made) (after_history c e r.sound within able front h)
 
+  stayed : (facts : List Fact) → FactsOf L W facts → FactsOf L (shown L (set s.words i x)) facts
+  stayed facts h f has = subst (λ (z : Core). IsFact z.limits z.words f) (sym made) (after_facts c e r.sound within able f (h f has))
+
   here : next ≡ known_of c' k
   here = sym (ap (λ (z : Core). known_of z k) made ∙ (after_here c e ∙ ap (λ (u : Known). known_after L W u e) same))
 
@@ -98,6 +105,8 @@ module _ (s : State (Unit {0}) View) (id : ℕ) (v : View) (r : Ruled v.limits s
         (λ f. subst (λ (z : ℕ). get_or (set v.known k next) z (newcomer L) ≡ known_of c' z) (sym f) (get_or-set_same v.known k next (newcomer L) low ∙ here))
         (λ other. get_or-set_other v.known k t next (newcomer L) other ∙ (fit.knew t h ∙ there t other));
     told = grown v.note fit.told;
+    told_facts = stayed v.note_facts fit.told_facts;
+    told_keys = fit.told_keys;
     whole = λ h. ap (λ ws. set ws i x) (fit.whole h);
     all = fit.all;
   }
@@ -110,6 +119,8 @@ module _ (s : State (Unit {0}) View) (id : ℕ) (v : View) (r : Ruled v.limits s
     owns = f.owns;
     knew = λ t h. f.knew t h ∙ there t (λ g. apart (subst (λ (z : ℕ). hosts u z ≡ true) g h));
     told = grown u.note f.told;
+    told_facts = stayed u.note_facts f.told_facts;
+    told_keys = f.told_keys;
     whole = λ h. absurd (apart (f.all h k (fit.low k hosted)));
     all = f.all;
   }

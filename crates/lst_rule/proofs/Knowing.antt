@@ -1,11 +1,8 @@
 -- What a view says of each state that it allows.
-use Rattle.std.proofs.Common.{◌≡◌, ◌≢◌, ℕ, ◌^◌, ◌-◌, slice_index, length, ◌<◌, List, true, sym, subst, ap, ◌∙◌, arith, Contains}
+use Rattle.std.proofs.Common.{◌≡◌, ◌≢◌, ℕ, ◌^◌, ◌-◌, length, ◌<◌, List, true, sym, subst, ap, ◌∙◌, arith, Contains}
 use mathlib.Core.Logic.{dite}
 use native.Mathlib.Decide.{ℕ_discrete}
-use Rattle.lst_layout.specs.Addresses.{address}
-use Rattle.lst_layout.specs.declared.place.Place.TheVariants.{CommitWord}
 use Rattle.lst_layout.specs.Words.{Words, shown}
-use Rattle.lst_layout.proofs.Shown.{found}
 use Rattle.lst_model.specs.Histories.{Extends}
 use Rattle.lst_core_state.specs.declared.known.Known.{Known}
 use Rattle.lst_core_state.specs.declared.facts.Fact.{Fact}
@@ -17,7 +14,6 @@ use Rattle.lst_core.proofs.Stepping.{rows_few}
 use Rattle.lst_core.specs.Reading.{state_over}
 use Rattle.lst_rule.specs.declared.view.View.{View}
 use Rattle.lst_rule.specs.Rule.{knows, hosts, Allowed}
-use Rattle.lst_rule.specs.Learned.{Possible}
 use Rattle.lst_rule.proofs.Afters.{known_own, known_merger}
 
 module _ (v : View) (words : List ℕ) (known : ℕ → Known) (merger : Known) (a : Allowed v words known merger) (s : ℕ) (hosted : hosts v s ≡ true) where
@@ -57,9 +53,8 @@ clock_is v words known merger a = let w = shown v.limits words in (
 pub whole_words : (v : View) (words : List ℕ) (known : ℕ → Known) (merger : Known) → Allowed v words known merger → v.whole ≡ true → Allowed v v.words known merger
 whole_words v words known merger a whole = subst (λ (ws : List ℕ). Allowed v ws known merger) (sym (a.whole whole)) a
 
--- a view that knows each word, and none of whose sessions has the turn, knows the commit word as free
-pub free_turn : (v : View) (p : Possible v) → v.whole ≡ true → ((t : ℕ) → t < v.limits.sessions → rank (knows v t).turn ≡ 0) → slice_index v.words (address v.limits CommitWord) ≡ 0
-free_turn v p whole away = let a = whole_words v p.words p.known p.merger p.allowed whole in let w : Words = shown v.limits v.words in let low = a.sound.times.low in
-    sym (found v.limits v.words a.wide CommitWord tt) ∙ dite (ℕ_discrete w.turn 0) (λ e. e)
+-- where a view hosts every session, and none of them has the turn, the commit word is 0
+pub free_turn : (v : View) (words : List ℕ) (known : ℕ → Known) (merger : Known) → Allowed v words known merger → ((t : ℕ) → t < v.limits.sessions → (hosts v t ≡ true) × (rank (knows v t).turn ≡ 0)) → (shown v.limits words).turn ≡ 0
+free_turn v words known merger a away = let w : Words = shown v.limits words in let low = a.sound.times.low in dite (ℕ_discrete w.turn 0) (λ e. e)
     (λ ne. let t : ℕ = w.turn - 1 in let in_range : t < v.limits.sessions = omega arith in let h = (a.sound.each t in_range).turn_in (omega arith) in
-    let none = away t in_range in let same = ap (λ (u : Known). rank u.turn) (knows_own v v.words p.known p.merger a t (a.all whole t (omega arith)) (λ f. omega arith)) in absurd (omega arith))
+    let none = (away t in_range).1 in let same = ap (λ (u : Known). rank u.turn) (knows_own v words known merger a t (away t in_range).0 (λ f. omega arith)) in absurd (omega arith))

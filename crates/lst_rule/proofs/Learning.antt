@@ -1,5 +1,6 @@
 -- What a step tells, in the words of its caller.
 use Rattle.std.proofs.Common.{◌≡◌, ℕ, ◌<◌, List, true, set, refl, sym, subst, ap, ◌∙◌, arith, length, slice_index, get_or-set_same, get_or-set_other}
+use Rattle.std.proofs.lemmas.List.{set-get_or}
 use Rattle.lst_layout.specs.Addresses as layout
 use Rattle.lst_layout.specs.Addresses.{address}
 use Rattle.lst_layout.specs.Words.{shown}
@@ -12,7 +13,7 @@ use Rattle.lst_core_state.specs.Step.{session_of, known_after, after}
 use Rattle.lst_core.specs.Reading.{state_over}
 use Rattle.lst_rule.specs.declared.view.View.{View}
 use Rattle.lst_rule.specs.Rule.{knows, hosts, Told}
-use Rattle.lst_rule.specs.Learned.{Possible, Learns, Made, Met}
+use Rattle.lst_rule.specs.Learned.{Possible, Learns, Kept, Made, Met}
 
 -- the view, where the session s knows k and the word i is x
 abbrev pub with : View → ℕ → Known → ℕ → ℕ → View
@@ -25,6 +26,7 @@ learns_with v w s k i x low is = subst (λ (u : View). Learns v u s k) (sym is) 
   hosted = refl;
   limits = refl;
   note = refl;
+  note_facts = refl;
   whole = refl;
 }
 
@@ -35,7 +37,20 @@ learns_on u v w s k m a b = record {
   hosted = b.hosted ∙ a.hosted;
   limits = b.limits ∙ a.limits;
   note = b.note ∙ a.note;
+  note_facts = b.note_facts ∙ a.note_facts;
   whole = b.whole ∙ a.whole;
+}
+
+-- nothing was learnt
+pub learns_same : (v : View) (s : ℕ) → Learns v v s (knows v s)
+learns_same v s = record {
+  now = refl;
+  others = λ t other. refl;
+  hosted = refl;
+  limits = refl;
+  note = refl;
+  note_facts = refl;
+  whole = refl;
 }
 
 -- a session that the view hosts stands in its list
@@ -68,3 +83,15 @@ possible_after v w e i x t = record {
 -- the same, where the second step is told by what the session knew before it
 pub learns_then : (u v w : View) (s : ℕ) (k : Known) (f : Known → Known) → Learns u v s k → Learns v w s (f (knows v s)) → Learns u w s (f k)
 learns_then u v w s k f a b = subst (λ (m : Known). Learns u w s (f m)) a.now (learns_on u v w s k (f (knows v s)) a b)
+
+-- ---- the words that a view knows
+
+-- a step that leaves its word as it found it
+pub kept_by : (v w : View) (e : Event) (p : Place) (x : ℕ) → Met v w e p x x → Kept v w
+kept_by v w e p x m = record { words = λ whole. m.made.words ∙ (ap (set v.words (address v.limits p)) (m.own whole) ∙ set-get_or v.words (address v.limits p) 0) }
+
+pub kept_same : (v : View) → Kept v v
+kept_same v = record { words = λ _. refl }
+
+pub kept_on : (u v w : View) → v.whole ≡ u.whole → Kept u v → Kept v w → Kept u w
+kept_on u v w same a b = record { words = λ whole. b.words (same ∙ whole) ∙ a.words whole }

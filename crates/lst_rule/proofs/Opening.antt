@@ -1,5 +1,5 @@
 -- The rule holds of a store as it is opened.
-use Rattle.std.proofs.Common.{◌≡◌, ℕ, zero, suc, ◌+◌, ◌<◌, ◌≤◌, List, [], ◌∷◌, true, false, length, get_or, replicate, refl, sym, subst, ap, ◌∙◌, arith, true≢false}
+use Rattle.std.proofs.Common.{◌≡◌, ℕ, zero, suc, ◌+◌, ◌<◌, ◌≤◌, List, [], ◌∷◌, true, false, length, get_or, replicate, refl, sym, subst, ap, ◌∙◌, arith, true≢false, inl}
 use mathlib.Core.Logic.{dite}
 use mathlib.Core.Option.{some, some-injective, some-ne-none}
 use native.Mathlib.Decide.{ℕ_discrete, dec_lt}
@@ -55,6 +55,8 @@ module _ (l : Limits) (sized : IsValid l) (ws : List ℕ) (is : IsOpening l ws) 
     owns = λ s h. refl;
     knew = λ s h. same_at (l.sessions + 1) s (newcomer l) ∙ sym (nobody s);
     told = (history_of l (shown l ws), refl);
+    told_facts = λ f h. absurd (let low : h.0 < 0 = h.1 in omega arith);
+    told_keys = λ k. inl refl;
     whole = λ _. sym (first_words_are l ws is);
     all = λ _ s h. get_or-replicate (l.sessions + 1) s true false (omega arith);
   }

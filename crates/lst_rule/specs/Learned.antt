@@ -32,7 +32,12 @@ pub record Learns (v w : View) (s : ℕ) (k : Known) : Type 0 where
   pub hosted : w.hosts ≡ v.hosts
   pub limits : w.limits ≡ v.limits
   pub note : w.note ≡ v.note
+  pub note_facts : w.note_facts ≡ v.note_facts
   pub whole : w.whole ≡ v.whole
+
+-- where the view knows each word, it knows the same words as before
+pub record Kept (v w : View) : Type 0 where
+  pub words : v.whole ≡ true → w.words ≡ v.words
 
 -- the step e was made on the word at the place, which it left as x
 pub record Made (v w : View) (e : Event) (p : Place) (x : ℕ) : Type 0 where

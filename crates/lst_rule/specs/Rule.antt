@@ -13,7 +13,7 @@ use Rattle.lst_core_state.specs.declared.events.Event.{Event}
 use Rattle.lst_core_state.specs.Cells.{listed}
 use Rattle.lst_core_state.specs.State.{Core, newcomer, history_of}
 use Rattle.lst_core_state.specs.Step.{session_of, known_of, IsWithin, Enabled, Stands, IsEnabled, words_after, known_after, after}
-use Rattle.lst_core_state.specs.Sound.{Sound}
+use Rattle.lst_core_state.specs.Sound.{FactsOf, SeenIsRecorded, Sound}
 use Rattle.lst_core.specs.Reading.{state_over}
 use Rattle.lst_rule.specs.declared.view.View.{View}
 
@@ -32,7 +32,7 @@ first_words l = listed (opening_at l) 0 (words_of l)
 
 -- the first seat hosts every session and the merger
 abbrev pub crew : Limits → View
-crew l = record { limits = l; hosts = replicate (l.sessions + 1) true; known = replicate (l.sessions + 1) (newcomer l); note = []; whole = true; words = first_words l }
+crew l = record { limits = l; hosts = replicate (l.sessions + 1) true; known = replicate (l.sessions + 1) (newcomer l); note = []; note_facts = []; whole = true; words = first_words l }
 
 -- ---- the rule
 
@@ -44,6 +44,8 @@ pub record Fits (words : List ℕ) (c : Core) (owner : ℕ → ℕ) (j : ℕ) (v
   pub owns : (s : ℕ) → hosts v s ≡ true → owner s ≡ j
   pub knew : (s : ℕ) → hosts v s ≡ true → knows v s ≡ known_of c s
   pub told : Extends (history_of c.limits c.words) v.note
+  pub told_facts : FactsOf c.limits c.words v.note_facts
+  pub told_keys : SeenIsRecorded v.note_facts v.note
   pub whole : v.whole ≡ true → v.words ≡ words
   pub all : v.whole ≡ true → (s : ℕ) → s ≤ c.limits.sessions → hosts v s ≡ true
 
@@ -65,6 +67,8 @@ pub record Allowed (v : View) (words : List ℕ) (known : ℕ → Known) (merger
   pub low : (s : ℕ) → hosts v s ≡ true → s ≤ v.limits.sessions
   pub knew : (s : ℕ) → hosts v s ≡ true → knows v s ≡ known_of (state_over v.limits words known merger) s
   pub told : Extends (history_of v.limits (shown v.limits words)) v.note
+  pub told_facts : FactsOf v.limits (shown v.limits words) v.note_facts
+  pub told_keys : SeenIsRecorded v.note_facts v.note
   pub whole : v.whole ≡ true → v.words ≡ words
   pub all : v.whole ≡ true → (s : ℕ) → s ≤ v.limits.sessions → hosts v s ≡ true
 

@@ -1,5 +1,5 @@
 //! What a seat at the table knows.
-use lst_core_state::Known;
+use lst_core_state::{Fact, Known};
 use lst_layout::Limits;
 use lst_model::Commit;
 use std::collections::LinkedList;
@@ -14,6 +14,8 @@ pub struct View {
     pub known: LinkedList<Known>,
     /// A history that it was told.
     pub note: LinkedList<Commit>,
+    /// Facts that it was told with it; they have the record of each key that the history wrote.
+    pub note_facts: LinkedList<Fact>,
     /// It has hosted every session and the merger since the store opened, and so knows each word.
     pub whole: bool,
     /// The words, where it knows each.

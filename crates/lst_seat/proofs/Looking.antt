@@ -17,7 +17,7 @@ use Rattle.lst_rule.specs.declared.view.View.{View}
 use Rattle.lst_rule.specs.Rule.{knows, hosts, Ready, Told}
 use Rattle.lst_rule.specs.Learned.{Learns}
 use Rattle.lst_rule.proofs.Enabling.{becomes, ready_at}
-use Rattle.lst_rule.proofs.Learning.{met}
+use Rattle.lst_rule.proofs.Learning.{met, kept_by}
 use Rattle.lst_seat.specs.Seats.{told, Tells}
 use Rattle.lst_seat.specs.Operations.{IsQuiet}
 use Rattle.lst_seat.specs.Stores.{Looked}
@@ -68,6 +68,7 @@ module _ (s a : ℕ) (p : Place) (u v : View) (numbers : List Numbers) (loads : 
   loads_looked w x h = let g = loads_found w x h in let m = met v w (Look s i) p x x loads.place g loads.hosted in record {
     met = m;
     view = subst (λ (q : Place). Learns v w s (look_at L (shown L g.0.words) (knows v s) q)) back m.made.view;
+    kept = kept_by v w (Look s i) p x m;
   }
 
   counts : (w : View) (x : ℕ) → (g : Finds v i w x) → numbers_of (known_after L (shown L g.0.words) (knows v s) (Look s i)) ≡ numbers_look L x (told v s) p

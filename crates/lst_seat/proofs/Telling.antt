@@ -1,5 +1,5 @@
 -- The numbers of a seat are its view's, after a step too.
-use Rattle.std.proofs.Common.{◌≤◌, ◌≡◌, ◌≢◌, ℕ, ◌<◌, List, true, get_or, set, sym, subst, ap, ◌∙◌, arith, length-set, get_or-set_other, get_or-set_same, length}
+use Rattle.std.proofs.Common.{◌≤◌, ◌≡◌, ◌≢◌, ℕ, ◌<◌, ◌^◌, List, true, get_or, set, sym, subst, ap, ◌∙◌, arith, length-set, get_or-set_other, get_or-set_same, length}
 use mathlib.Core.Logic.{dite}
 use native.Mathlib.Decide.{ℕ_discrete}
 use Rattle.std.proofs.lemmas.List.{get_or_default}
@@ -8,8 +8,9 @@ use Rattle.lst_layout.specs.Limits.{IsValid}
 use Rattle.lst_layout.specs.Words.{shown}
 use Rattle.lst_core_state.specs.declared.known.Known.{Known}
 use Rattle.lst_core_state.specs.declared.events.Event.{Event}
-use Rattle.lst_core_state.specs.State.{newcomer}
+use Rattle.lst_core_state.specs.State.{newcomer, history_of}
 use Rattle.lst_core_state.specs.Step.{session_of, IsWithin, Enabled, known_after}
+use Rattle.lst_core_state.proofs.Histories.{starts_length}
 use Rattle.lst_core.specs.declared.numbers.Numbers.{Numbers}
 use Rattle.lst_core.specs.Numbers.{numbers_of, place_for}
 use Rattle.lst_core.specs.Bounds.{IsWritable}
@@ -18,7 +19,7 @@ use Rattle.lst_rule.specs.declared.view.View.{View}
 use Rattle.lst_rule.specs.Rule.{knows, hosts, view_after, Told}
 use Rattle.lst_rule.specs.Learned.{Possible}
 use Rattle.lst_rule.proofs.Enabling.{allowed_steps}
-use Rattle.lst_rule.proofs.Knowing.{knows_own}
+use Rattle.lst_rule.proofs.Knowing.{knows_own, is_seen, clock_is}
 use Rattle.lst_rule.proofs.Learning.{possible_after}
 use Rattle.lst_rule.proofs.Bounded.{writable, numbers_few}
 use Rattle.lst_seat.specs.Seats.{Tells, told}
@@ -100,3 +101,8 @@ reads_step v u numbers s n e same tells read hosted low session within ok = subs
 pub number_few : (v u : View) (numbers : List Numbers) (s : ℕ) (n : Numbers) → v ≡ u → Tells v numbers → n ≡ get_or numbers s n → hosts u s ≡ true → s < u.limits.sessions → n.number ≤ u.limits.txns
 number_few v u numbers s n same tells read hosted low = let p : Possible u = subst Possible same tells.possible in let is = knows_own u p.words p.known p.merger p.allowed s hosted (λ f. omega arith) in
     let h = (numbers_few (state_over u.limits p.words p.known p.merger) p.allowed.sound s low).0 in let a = ap (λ (m : Numbers). m.number) (reads v u numbers s n same tells read hosted) in let b = ap (λ (k : Known). k.number) is in omega arith
+
+-- as many commits as a session has seen fit 32 bits
+pub seen_few : (v u : View) (numbers : List Numbers) (s : ℕ) (n : Numbers) → v ≡ u → Tells v numbers → n ≡ get_or numbers s n → hosts u s ≡ true → n.seen < 2 ^ 32
+seen_few v u numbers s n same tells read hosted = let p : Possible u = subst Possible same tells.possible in let h = is_seen u p.words p.known p.merger p.allowed s hosted in let c = clock_is u p.words p.known p.merger p.allowed in
+    let low = starts_length (history_of u.limits (shown u.limits p.words)) (knows u s).seen h in let a = ap (λ (m : Numbers). m.seen) (reads v u numbers s n same tells read hosted) in let e = c.0 in let few = c.1 in omega arith

@@ -11,11 +11,11 @@ use Rattle.lst_core_state.specs.declared.facts.Find.TheVariants.{FreshClock}
 use Rattle.lst_core_state.specs.declared.facts.Fact.{Fact}
 use Rattle.lst_core_state.specs.declared.known.Known.{Known}
 use Rattle.lst_core_state.specs.Facts.{early_find, index_facts}
-use Rattle.lst_core_state.specs.State.{history_of}
+use Rattle.lst_core_state.specs.State.{history_of, mine}
 use Rattle.lst_core_state.specs.Step.{look_at, refreshed, took, held_off}
 use Rattle.lst_rule.specs.declared.view.View.{View}
 use Rattle.lst_rule.specs.Rule.{knows, hosts}
-use Rattle.lst_rule.specs.Learned.{Learns, Met}
+use Rattle.lst_rule.specs.Learned.{Learns, Kept, Met}
 use Rattle.lst_seat.specs.declared.store.Store.{Store}
 use Rattle.lst_seat.specs.Seats.{Sitting}
 
@@ -29,6 +29,7 @@ pub record IsSeatOf (store : Store) (seat : Sitting) : Type 0 where
 pub record Looked (v w : View) (s : ℕ) (p : Place) (x : ℕ) : Type 0 where
   pub met : Met v w (Look s (address v.limits p)) p x x
   pub view : Learns v w s (look_at v.limits (shown v.limits met.made.told.words) (knows v s) p)
+  pub kept : Kept v w
 
 -- what is known once the clock was loaded, with this history and these facts of the index
 abbrev pub clocked : Known → List Commit → List Fact → Known
@@ -45,8 +46,13 @@ pub record Clocked (v w : View) (s x : ℕ) : Type 0 where
   pub looked : Looked v w s ClockWord x
   pub history : all ≡ history_of v.limits (shown v.limits looked.met.made.told.words)
   pub records : index ≡ index_facts v.limits (shown v.limits looked.met.made.told.words)
+  pub least : length (knows v s).seen ≤ x
+  -- its own commits were seen before
+  pub own : s < v.limits.sessions → mine s (knows w s) ≡ mine s (knows v s)
 
 -- a try of the session s to take the turn, which found x
 pub record Tried (v w : View) (s x : ℕ) : Type 0 where
   pub met : Met v w (Take s) CommitWord (cond (eqb x 0) (s + 1) x) x
   pub view : Learns v w s (cond (eqb x 0) (took (knows v s)) (held_off (knows v s)))
+  -- a try that fails stores nothing
+  pub kept : 0 < x → Kept v w

@@ -109,10 +109,11 @@ impl Seat {
         self.numbers[s as usize].has_writes
     }
 
-    /// How many commits a session has seen.
+    /// How many commits a session has seen, which is also the time of the last one.
     pub fn seen(&self, s: u32) -> u64
         requires { hosts self.now.view s ≡ true }
-        ensures { result ≡ length (knows self.now.view s).seen }
+        ensures is { result ≡ length (knows self.now.view s).seen }
+        ensures few { result < 2 ^ 32 }
     {
         self.numbers[s as usize].seen
     }
@@ -133,7 +134,8 @@ impl Seat {
         one_less(self.numbers[s as usize].hold.latch)
     }
 
-    /// The tail in hand of a session, by its number among all tails.
+    /// The tail in hand of a session, by its number among all tails: the number within its range, from 1 on, after the tails of all
+    /// ranges before it.
     pub fn tail(&self, s: u32) -> Option<u32>
         requires { hosts self.now.view s ≡ true }
         ensures { MatchOption result ((knows self.now.view s).hold.tail ≡ 0) (λ t. (0 < t) × ((knows self.now.view s).hold.tail ≡ t)) }

@@ -5,9 +5,7 @@ ghost use Rattle.lst_layout.specs.Addresses as layout;
 ghost use Rattle.lst_layout.specs.declared.place.Place.TheVariants.{StateWord};
 ghost use Rattle.lst_rule.specs.Rule.{hosts};
 ghost use Rattle.lst_seat.specs.Stores.{IsSeatOf};
-ghost use Rattle.lst_seat.specs.Statuses.{IsNamed, Says, SaysCommitted, StatusOf, stated};
-ghost use Rattle.lst_rule.specs.Rule.{knows};
-ghost use Rattle.lst_rule.specs.Learned.{Learns};
+ghost use Rattle.lst_seat.specs.Statuses.{IsNamed, Says, SaysCommitted, StatusOf, Asked};
 
 use crate::loads::{load_clock, load_state};
 use crate::seat::Seat;
@@ -40,6 +38,7 @@ fn commit_status(
     requires host { hosts seat.old.view s ≡ true }
     ensures seat { IsSeatOf store.now seat.new }
     ensures says { SaysCommitted seat.old.view seat.new.view s session number time result }
+    ensures asked { Asked seat.old.view seat.new.view s }
 {
     if time <= seat.seen(s) {
         return Status::Committed { time };
@@ -59,6 +58,7 @@ fn transaction_status(store: &Store, seat: &mut Seat, s: u32, session: u32, numb
     requires place { layout.IsWithin seat.old.view.limits (StateWord session number) }
     ensures seat { IsSeatOf store.now seat.new }
     ensures says { Says seat.old.view seat.new.view s session number result }
+    ensures asked { Asked seat.old.view seat.new.view s }
 {
     match load_state(store, seat, s, session, number) {
         0 => Status::Unfinished { session, number },
@@ -68,13 +68,15 @@ fn transaction_status(store: &Store, seat: &mut Seat, s: u32, session: u32, numb
 }
 
 /// The status of the version that has a start word. A transaction that was found committed at a time above what the session has seen is
-/// looked at again under a clock loaded then, and is unfinished where its time is above that too.
+/// judged by a clock loaded then: it is unfinished where its time is above that too.
 pub fn status_of(store: &Store, seat: &mut Seat, s: u32, start: u64) -> Status
     requires seat { IsSeatOf store.now seat.old }
     requires host { hosts seat.old.view s ≡ true }
     requires named { IsNamed seat.old.view.limits start }
     ensures seat { IsSeatOf store.now seat.new }
+    ensures hosted { seat.new.view.hosts ≡ seat.old.view.hosts }
     ensures status { StatusOf (start_of start) seat.old.view seat.new.view s result }
+    ensures asked { Asked seat.old.view seat.new.view s }
 {
     seat.consider();
     match unpack_start(start) {

@@ -14,7 +14,7 @@ use crate::seat::Seat;
 use crate::store::Store;
 use lst_core::Event;
 
-/// Stores the begin word of the next transaction: a begin that the session has seen. It may be where none is open and the number is below the
+/// Stores the begin word of the next transaction: a begin that the session has seen. Allowed where none is open and the number is below the
 /// limit.
 pub fn step_begin(store: &Store, seat: &mut Seat, s: u32, begin: u64, read_only: bool)
     requires seat { IsSeatOf store.now seat.old }
@@ -38,8 +38,8 @@ pub fn step_begin(store: &Store, seat: &mut Seat, s: u32, begin: u64, read_only:
     );
 }
 
-/// Exchanges the commit word from 0 to the session's number plus one, and answers what it found: the turn is taken where that is 0. It
-/// may be where the open transaction has writes, with no latch and no turn.
+/// Exchanges the commit word from 0 to the session's number plus one, and answers what it found: the turn is taken where that is 0.
+/// Allowed where the open transaction has writes, with no latch and no turn.
 pub fn step_take(store: &Store, seat: &mut Seat, s: u32) -> u64
     requires seat { IsSeatOf store.now seat.old }
     requires host { hosts seat.old.view s ≡ true }
@@ -51,7 +51,7 @@ pub fn step_take(store: &Store, seat: &mut Seat, s: u32) -> u64
     exchange_event(store, seat, s, Event::Take { session: s })
 }
 
-/// Stores the log word above the clock, with the turn, once the clock was loaded since it was taken.
+/// Stores the log word above the clock. Allowed with the turn, once the clock was loaded since it was taken.
 pub fn step_log(store: &Store, seat: &mut Seat, s: u32)
     requires seat { IsSeatOf store.now seat.old }
     requires host { hosts seat.old.view s ≡ true }
@@ -64,7 +64,7 @@ pub fn step_log(store: &Store, seat: &mut Seat, s: u32)
     store_event(store, seat, s, Event::Log { session: s }, 0);
 }
 
-/// Stores the state word: committed at the time above the clock, once the log word is stored.
+/// Stores the state word: committed at the time above the clock. Allowed once the log word is stored.
 pub fn step_state(store: &Store, seat: &mut Seat, s: u32)
     requires seat { IsSeatOf store.now seat.old }
     requires host { hosts seat.old.view s ≡ true }
@@ -77,7 +77,7 @@ pub fn step_state(store: &Store, seat: &mut Seat, s: u32)
     store_event(store, seat, s, Event::State { session: s }, 0);
 }
 
-/// Stores the clock, one higher, once the state word is stored: the transaction is committed.
+/// Stores the clock, one higher: the transaction is committed. Allowed once the state word is stored.
 pub fn step_clock(store: &Store, seat: &mut Seat, s: u32)
     requires seat { IsSeatOf store.now seat.old }
     requires host { hosts seat.old.view s ≡ true }
@@ -90,7 +90,7 @@ pub fn step_clock(store: &Store, seat: &mut Seat, s: u32)
     store_event(store, seat, s, Event::Clock { session: s }, 0);
 }
 
-/// Gives the turn back, before the log word is stored or once the clock is.
+/// Gives the turn back. Allowed before the log word is stored, and once the clock is.
 pub fn step_give(store: &Store, seat: &mut Seat, s: u32)
     requires seat { IsSeatOf store.now seat.old }
     requires host { hosts seat.old.view s ≡ true }
@@ -103,7 +103,7 @@ pub fn step_give(store: &Store, seat: &mut Seat, s: u32)
     store_event(store, seat, s, Event::Give { session: s }, 0);
 }
 
-/// Stores the state word of the open transaction: closed. It may be with no latch and no turn.
+/// Stores the state word of the open transaction: closed. Allowed with no latch and no turn.
 pub fn step_close(store: &Store, seat: &mut Seat, s: u32)
     requires seat { IsSeatOf store.now seat.old }
     requires host { hosts seat.old.view s ≡ true }

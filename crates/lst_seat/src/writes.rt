@@ -12,7 +12,7 @@ use crate::seat::Seat;
 use crate::store::Store;
 use lst_core::Event;
 
-/// Adds one to the record counter, and answers the record drawn, or a number at the limit or above. It may be with no record in hand, once
+/// Adds one to the record counter, and answers the record drawn, or a number at the limit or above. Allowed with no record in hand, once
 /// a load has found the counter below its limit since the last draw.
 pub fn step_draw_record(store: &Store, seat: &mut Seat, s: u32) -> u64
     requires seat { IsSeatOf store.now seat.old }
@@ -25,7 +25,7 @@ pub fn step_draw_record(store: &Store, seat: &mut Seat, s: u32) -> u64
     draw_event(store, seat, s, Event::DrawRecord { session: s })
 }
 
-/// Stores the key word of the record in hand.
+/// Stores the key word of the record in hand. Allowed with a record in hand.
 pub fn step_store_key(store: &Store, seat: &mut Seat, s: u32, key: u64)
     requires seat { IsSeatOf store.now seat.old }
     requires host { hosts seat.old.view s ≡ true }
@@ -37,7 +37,7 @@ pub fn step_store_key(store: &Store, seat: &mut Seat, s: u32, key: u64)
     store_event(store, seat, s, Event::StoreKey { session: s, key }, 0);
 }
 
-/// Exchanges a position of the primary index from 0 to the record in hand plus one, and answers what it found. It may be once the key is
+/// Exchanges a position of the primary index from 0 to the record in hand plus one, and answers what it found. Allowed once the key is
 /// stored, where all positions of the key's run before this one are known to hold other keys.
 pub fn step_claim(store: &Store, seat: &mut Seat, s: u32, position: u32) -> u64
     requires seat { IsSeatOf store.now seat.old }
@@ -60,7 +60,7 @@ pub fn step_claim(store: &Store, seat: &mut Seat, s: u32, position: u32) -> u64
     )
 }
 
-/// Sets the latch bit of a record's indirection word, and answers what it found: the latch is in hand where the bit was not set. It may be
+/// Sets the latch bit of a record's indirection word, and answers what it found: the latch is in hand where the bit was not set. Allowed
 /// in a transaction that may write, with no latch and no turn, for a record that is known to be in the index.
 pub fn step_latch(store: &Store, seat: &mut Seat, s: u32, rec: u32) -> u64
     requires seat { IsSeatOf store.now seat.old }
@@ -76,7 +76,7 @@ pub fn step_latch(store: &Store, seat: &mut Seat, s: u32, rec: u32) -> u64
 }
 
 /// Adds one to the tail counter of the latched record's range, and answers one less than the number drawn, or a number at the limit or
-/// above. It may be with no tail in hand, once a load has found the counter below its limit since the last draw, where the chain is
+/// above. Allowed with no tail in hand, once a load has found the counter below its limit since the last draw, where the chain is
 /// judged.
 pub fn step_draw_tail(store: &Store, seat: &mut Seat, s: u32, range: u32) -> u64
     requires seat { IsSeatOf store.now seat.old }
@@ -91,8 +91,9 @@ pub fn step_draw_tail(store: &Store, seat: &mut Seat, s: u32, range: u32) -> u64
     draw_event(store, seat, s, Event::DrawTail { session: s, range })
 }
 
-/// Stores a word of the tail in hand: place 0 is its start word, 1 its encoding word, 2 its back word, and 3 + c the value of column c. The
-/// start word comes last, and names the open transaction; the other words are then known to be those of a write that fits.
+/// Stores a word of the tail in hand: place 0 is its start word, 1 its encoding word, 2 its back word, and 3 + c the value of column c.
+/// Allowed until the start word is stored. The start word comes last, and names the open transaction; the other words are then known to
+/// be those of a write that fits.
 pub fn step_store_cell(store: &Store, seat: &mut Seat, s: u32, place: u32, value: u64)
     requires seat { IsSeatOf store.now seat.old }
     requires host { hosts seat.old.view s ≡ true }
@@ -116,7 +117,8 @@ pub fn step_store_cell(store: &Store, seat: &mut Seat, s: u32, place: u32, value
     );
 }
 
-/// Stores the tail in hand, which is whole, into the indirection word of the latched record, without the latch bit.
+/// Stores the number of the tail in hand, within its range, into the indirection word of the latched record, without the latch bit.
+/// Allowed once the start word of the tail is stored.
 pub fn step_install(store: &Store, seat: &mut Seat, s: u32)
     requires seat { IsSeatOf store.now seat.old }
     requires host { hosts seat.old.view s ≡ true }
@@ -129,7 +131,7 @@ pub fn step_install(store: &Store, seat: &mut Seat, s: u32)
     store_event(store, seat, s, Event::Install { session: s }, 0);
 }
 
-/// Stores the indirection word of the latched record as it was before the latch, with no tail in hand.
+/// Stores the indirection word of the latched record as it was before the latch. Allowed with no tail in hand.
 pub fn step_release(store: &Store, seat: &mut Seat, s: u32)
     requires seat { IsSeatOf store.now seat.old }
     requires host { hosts seat.old.view s ≡ true }
@@ -141,7 +143,8 @@ pub fn step_release(store: &Store, seat: &mut Seat, s: u32)
     store_event(store, seat, s, Event::Release { session: s }, 0);
 }
 
-/// Stores the commit time of a tail's transaction into its start word. The time is known to be that of the transaction.
+/// Stores the commit time of a tail's transaction into its start word. The tail is named by its number within the range, from 1 on, and not
+/// by its number among all tails. Allowed where the transaction is known to be committed, at this time.
 pub fn step_stamp(store: &Store, seat: &mut Seat, s: u32, range: u32, tail: u32, time: u64)
     requires seat { IsSeatOf store.now seat.old }
     requires host { hosts seat.old.view s ≡ true }

@@ -18,7 +18,8 @@ pub enum BeginFault {
     Future { clock: Time },
 }
 
-/// Begins the session's next transaction, and answers its begin: a clock that is loaded in this call.
+/// Begins the session's next transaction, and answers its begin: a clock that is loaded in this call. Active comes exactly where a
+/// transaction of the session is open; Spent, where none is and the session has begun as many as it may; Future never.
 pub fn begin(store: &Store, seat: &mut Seat, s: u32) -> Result<Time, BeginFault>
     requires seat { IsSeatOf store.now seat.old }
     requires host { hosts seat.old.view s ≡ true }
@@ -42,8 +43,8 @@ pub fn begin(store: &Store, seat: &mut Seat, s: u32) -> Result<Time, BeginFault>
     Ok(begin)
 }
 
-/// Opens a read-only transaction as of a time, which is its begin. It is refused where the clock that is loaded in this call is below
-/// the time.
+/// Opens a read-only transaction as of a time, which is its begin. Active comes exactly where a transaction of the session is open; Spent,
+/// where none is and the session has begun as many as it may; Future, where the clock that is loaded in this call is below the time.
 pub fn as_of(store: &Store, seat: &mut Seat, s: u32, time: Time) -> Result<Time, BeginFault>
     requires seat { IsSeatOf store.now seat.old }
     requires host { hosts seat.old.view s ≡ true }

@@ -1,10 +1,12 @@
 //! A transaction ends: it is committed with the turn, or closed.
-ghost use Rattle.std.specs.Prelude.{◌≡◌, ℕ, ◌↔◌, ◌<◌, [], true, false, IfOk, OnErr, IsOk, Err, length};
+ghost use Rattle.std.specs.Prelude.{◌≡◌, ℕ, ◌↔◌, ◌+◌, ◌<◌, [], true, false, IfOk, OnErr, IsOk, Err, length, slice_set};
+ghost use Rattle.lst_layout.specs.Addresses.{address};
+ghost use Rattle.lst_layout.specs.declared.place.Place.TheVariants.{CommitWord, StateWord};
 ghost use Rattle.lst_core_state.specs.declared.known.Stage.TheVariants.{Away};
 ghost use Rattle.lst_core_state.specs.State.{rank};
 ghost use Rattle.lst_core_state.specs.Step.{took, held_off};
 ghost use Rattle.lst_rule.specs.Rule.{knows, hosts};
-ghost use Rattle.lst_rule.specs.Learned.{Learns};
+ghost use Rattle.lst_rule.specs.Learned.{Learns, Kept};
 ghost use Rattle.lst_seat.specs.Stores.{IsSeatOf};
 ghost use Rattle.lst_txn.specs.Transactions.{IsFree, HoldsTurn, Commits};
 
@@ -26,12 +28,13 @@ pub enum TurnFault {
     Busy,
 }
 
-/// The turn to commit. It has to be spent, by `commit` or by `give_back`.
+/// The turn to commit. It has to be spent, by `commit` or by `give_back`, and nothing else makes or unmakes one but `take_turn`.
 pub struct Turn {
-    pub session: u32,
+    pub(crate) session: u32,
 }
 
-/// Tries once to take the turn for the session's open transaction, which has writes.
+/// Tries once to take the turn for the session's open transaction, which has writes. Idle comes exactly where none is open. Busy
+/// says that the commit word was found held: never to a seat that hosts every session while none of them has the turn.
 pub fn take_turn(store: &Store, seat: &mut Seat, s: u32) -> Result<Turn, TurnFault>
     requires seat { IsSeatOf store.now seat.old }
     requires host { hosts seat.old.view s ≡ true }
@@ -41,15 +44,15 @@ pub fn take_turn(store: &Store, seat: &mut Seat, s: u32) -> Result<Turn, TurnFau
     ensures seat { IsSeatOf store.now seat.new }
     ensures hosted { seat.new.view.hosts ≡ seat.old.view.hosts }
     ensures ok { IfOk result (λ turn. (turn.session ≡ s) × Learns seat.old.view seat.new.view s (took (knows seat.old.view s))) }
+    ensures words { IfOk result (λ _. seat.new.view.words ≡ slice_set seat.old.view.words (address seat.old.view.limits CommitWord) (s + 1)) }
     ensures idle { (result ≡ Err TurnFault.Idle) ↔ ((knows seat.old.view s).is_open ≡ false) }
     ensures still { result ≡ Err TurnFault.Idle → seat.new ≡ seat.old }
-    ensures busy { result ≡ Err TurnFault.Busy → Learns seat.old.view seat.new.view s (held_off (knows seat.old.view s)) }
-    ensures crew { seat.old.view.whole ≡ true → ((t : ℕ) → t < seat.old.view.limits.sessions → rank (knows seat.old.view t).turn ≡ 0) → ¬ (result ≡ Err TurnFault.Busy) }
+    ensures busy { result ≡ Err TurnFault.Busy → Learns seat.old.view seat.new.view s (held_off (knows seat.old.view s)) × Kept seat.old.view seat.new.view }
+    ensures crew { ((t : ℕ) → t < seat.old.view.limits.sessions → (hosts seat.old.view t ≡ true) × (rank (knows seat.old.view t).turn ≡ 0)) → ¬ (result ≡ Err TurnFault.Busy) }
 {
     if !seat.is_open(s) {
         return Err(TurnFault::Idle);
     }
-    seat.consider();
     if step_take(store, seat, s) == 0 {
         Ok(Turn { session: s })
     } else {
@@ -85,6 +88,7 @@ impl Turn {
         requires turn { HoldsTurn (knows seat.old.view self.session) }
         ensures seat { IsSeatOf store.now seat.new }
         ensures view { Learns seat.old.view seat.new.view self.session (record (knows seat.old.view self.session) { turn = Away }) }
+        ensures words { seat.new.view.words ≡ slice_set seat.old.view.words (address seat.old.view.limits CommitWord) 0 }
     {
         let Turn { session } = self;
         step_give(store, seat, session);
@@ -100,6 +104,7 @@ pub fn close(store: &Store, seat: &mut Seat, s: u32) -> Result<(), Idle>
     ensures seat { IsSeatOf store.now seat.new }
     ensures hosted { seat.new.view.hosts ≡ seat.old.view.hosts }
     ensures ok { IfOk result (λ _. Learns seat.old.view seat.new.view s (record (knows seat.old.view s) { is_open = false; own = [] })) }
+    ensures words { IfOk result (λ _. seat.new.view.words ≡ slice_set seat.old.view.words (address seat.old.view.limits (StateWord s (knows seat.old.view s).number)) 1) }
     ensures idle { IsOk result ↔ ((knows seat.old.view s).is_open ≡ true) }
     ensures err { OnErr result (seat.new ≡ seat.old) }
 {

@@ -2,6 +2,7 @@ use Rattle.std.proofs.Common.{◌<◌, subst, sym, ap, ◌∙◌}
 use Rattle.lst_layout.specs.declared.layout.Layout.{Layout}
 use Rattle.lst_layout.specs.declared.limits.Limits.{Limits}
 use Rattle.lst_core_state.specs.Index.{position_of}
+use Rattle.lst_rule.proofs.Learning.{kept_on}
 use Rattle.lst_index.proofs.Views.{works_on, works_host}
 use Rattle.lst_index.proofs.Ending.{ended_unseen, endless}
 use Rattle.lst_index.proofs.Searching.{turn_short, turns_over, search_on}
@@ -23,9 +24,15 @@ returns-in_default-clause-unseen c = ended_unseen c.look.new.seat.view c.args.s 
 pub returns-in-Some-compare-clause-works : goal.returns-in-Some-compare-clause-works
 returns-in-Some-compare-clause-works c = works_on _ _ _ _ _ (works_on _ _ _ _ _ c.loop-turn.invariant.works c.look.ensures.works) c.compare.ensures.works
 
+pub returns-in_default-clause-kept : goal.returns-in_default-clause-kept
+returns-in_default-clause-kept c = kept_on _ _ _ c.loop-turn.invariant.works.view.whole c.loop-turn.invariant.kept c.look.ensures.kept
+
+pub returns-in-Some-compare-clause-kept : goal.returns-in-Some-compare-clause-kept
+returns-in-Some-compare-clause-kept c = kept_on _ _ _ (c.look.ensures.works.view.whole ∙ c.loop-turn.invariant.works.view.whole) (kept_on _ _ _ c.loop-turn.invariant.works.view.whole c.loop-turn.invariant.kept c.look.ensures.kept) c.compare.ensures.kept
+
 pub loop-turn-preserved : goal.loop-turn-preserved
 loop-turn-preserved c = search_on _ _ c.loop-turn.seat c.look.new.seat c.compare.new.seat _ _ _ _ _ c.loop-turn.invariant (c.position-at.ensures.position ∙ ap (λ (y : Layout). position_of y.limits c.args.key c.loop-turn.turn) c.layout-in-loop-turn.ensures)
-    c.look.ensures.works c.look.ensures.placing c.compare.ensures.works c.compare.ensures.keeps c.in_default-compare.ensures.other.0 c.compare.ensures.seat
+    c.look.ensures.works c.look.ensures.kept c.look.ensures.placing c.compare.ensures.works c.compare.ensures.kept c.compare.ensures.keeps c.in_default-compare.ensures.other.0 c.compare.ensures.seat
 
 pub unreachable-requires : goal.unreachable-requires
 unreachable-requires c = endless c.args.store.now.layout.limits c.loop-turn.seat.view c.args.s c.args.key c.loop-turn.turn c.loop-turn.invariant.seat_of.limits c.loop-turn.invariant.host c.consider.ensures c.loop-turn.invariant.passed
