@@ -7,3 +7,5 @@ pub mod Searching
 pub mod Draws
 pub mod Claims
 pub mod Visiting
+pub mod Pairing
+pub mod Placed

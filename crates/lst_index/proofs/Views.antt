@@ -1,5 +1,5 @@
 -- What a session knows after a few steps of a search.
-use Rattle.std.proofs.Common.{◌≡◌, ℕ, ◌<◌, ◌≤◌, List, [], ◌++◌, Bool, true, false, refl, sym, subst, ap, ◌∙◌, arith, append_assoc, append-nil, length-append, slice_index_or, inl, inr, ⊎_elim}
+use Rattle.std.proofs.Common.{◌≡◌, ℕ, ◌<◌, ◌≤◌, List, [], ◌++◌, Bool, true, false, sym, subst, ap, ◌∙◌, arith, append_assoc, append-nil, length-append, slice_index_or, inl, inr, ⊎_elim}
 use Rattle.std.specs.List.{Contains}
 use Rattle.std.proofs.lemmas.List.Elements.{Contains-append_left}
 use Rattle.lst_core_state.specs.declared.known.Known.{Known}

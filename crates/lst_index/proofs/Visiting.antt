@@ -1,5 +1,5 @@
 -- The placing of a key, position by position.
-use Rattle.std.proofs.Common.{◌≡◌, ◌≢◌, ℕ, ◌+◌, ◌<◌, List, [], ◌∷◌, Bool, true, false, Option, Some, None, IfSome, IfNone, Result, Ok, Err, OnErr, rules, refl, sym, subst, ap, ◌∙◌, arith, inl, inr, true≢false}
+use Rattle.std.proofs.Common.{◌≡◌, ◌≢◌, ℕ, ◌+◌, ◌<◌, List, [], ◌∷◌, Bool, true, false, Option, Some, None, IfSome, IfNone, Result, Ok, Err, OnErr, rules, refl, sym, subst, ap, ◌∙◌, arith, inl, inr, true≢false, ⊎_elim}
 use Rattle.std.specs.List.{Contains}
 use Rattle.std.specs.Result.{IsErr}
 use Rattle.lst_layout.specs.declared.limits.Limits.{Limits}
@@ -61,23 +61,16 @@ module _ (p q r : Placing) (same : q ≡ p) where
   pub look_drawn : (m : ℕ) → Uses q r m → Uses p r m
   look_drawn m uses = subst (λ (z : Placing). Uses z r m) same uses
 
--- a claim that was won, o, after a draw, r
-pub won_uses : (p r o : Placing) → Uses p r 1 → o ≡ record r { hand = 0; has_key = false } → Uses p o 1
-won_uses p r o a is = record { drew = a.drew; drawn = ap (λ (z : Placing). z.drawn) is ∙ a.drawn; few = a.few }
+-- a record in hand that was drawn, r, and is still in hand or placed, u
+module _ (p r u : Placing) (a : Uses p r 1) (same : u.drawn ≡ r.drawn) where
+  pub settled_uses : Uses p u 1
+  settled_uses = record { drew = a.drew; drawn = same ∙ a.drawn; few = a.few }
 
--- a claim that was lost, o, and a comparison, u
-module _ (p r o u : Placing) (key : ℕ) (a : Uses p r 1) (has : HasOne r key) (is : o ≡ r) where
-  pub lost_holds : Holds o key
-  lost_holds = subst (λ (z : Placing). Holds z key) (sym is) (inr has)
+  pub settled_still : u.has_key ≡ true → Uses p u (one u.has_key)
+  settled_still e = subst (λ (b : Bool). Uses p u (one b)) (sym e) settled_uses
 
-  pub lost_uses : Keeps o u → Uses p u 1
-  lost_uses keeps = let b : Keeps r u = subst (λ (z : Placing). Keeps z u) is keeps in let c = uses_keeps r u b in uses_on p r u 1 (subst (λ (b : Bool). Uses p r (one b)) (sym has.keyed) a) (uses_one r u r.has_key c)
-
-  pub lost_still : u ≡ o → Uses p u (one u.has_key) × Holds u key
-  lost_still e = let same : u ≡ r = e ∙ is in (
-    record { drew = a.drew; drawn = ap (λ (z : Placing). z.drawn) same ∙ a.drawn; few = let f : one u.has_key ≡ 1 = ap (λ (z : Placing). one z.has_key) same ∙ ap one has.keyed in let g = a.few in omega arith },
-    subst (λ (z : Placing). Holds z key) (sym same) (inr has),
-  )
+pub keeps_drawn : (p q r : Placing) → q ≡ p → Keeps q r → r.drawn ≡ p.drawn
+keeps_drawn p q r same keeps = ⊎_elim (λ (e : r ≡ q). ap (λ (z : Placing). z.drawn) (e ∙ same)) (λ (t : (0 < q.hand) × (r ≡ record q { hand = 0; has_key = false })). ap (λ (z : Placing). z.drawn) t.1 ∙ ap (λ (z : Placing). z.drawn) same) keeps
 
 -- ---- a position that holds another key is passed
 
@@ -92,14 +85,18 @@ module _ (l : Limits) (u v w : View) (s key n q r : ℕ) (at : q ≡ position_of
     passed_one l u v w s key n q r a b at h.0 p,
   )) other
 
-  -- or a claim that was lost, v, with a record in hand, p
-  pub lost_passed : Works u v s [] → (p : Placing) → Uses (knows u s).placing p 1 → HasOne p key → (knows v s).placing ≡ p → Works v w s [] → Passed l (knows u s).facts key n
-      → IfNone o (Uses (knows u s).placing (knows w s).placing (one (knows w s).placing.has_key) × Holds (knows w s).placing key × Passed l (knows w s).facts key (n + 1))
-  lost_passed a p uses has is b passed = if_none o (λ h. let still = lost_still (knows u s).placing p (knows v s).placing (knows w s).placing key uses has is (h.1 (lost_holds (knows u s).placing p (knows v s).placing (knows w s).placing key uses has is)) in (
-    still.0,
-    still.1,
+  -- or a claim that was lost, v, with a record in hand
+  pub lost_passed : Works u v s [] → HasOne (knows u s).placing key → (knows v s).placing ≡ (knows u s).placing → Works v w s [] → Passed l (knows u s).facts key n
+      → IfNone o (HasOne (knows w s).placing key × Passed l (knows w s).facts key (n + 1))
+  lost_passed a has is b passed = if_none o (λ h. let still = h.1 (inr (subst (λ (z : Placing). HasOne z key) (sym is) has)) in (
+    subst (λ (z : Placing). HasOne z key) (sym (still ∙ is)) has,
     passed_one l u v w s key n q r a b at h.0 passed,
   )) other
+
+-- a record in hand that was drawn, v, and is in hand after the position, w
+pub settled_passed : (l : Limits) (u v w : View) (s key n : ℕ) (o : Option RecordId) → Uses (knows u s).placing (knows v s).placing 1 → (knows w s).placing.drawn ≡ (knows v s).placing.drawn → IfNone o (HasOne (knows w s).placing key × Passed l (knows w s).facts key (n + 1))
+    → IfNone o (Uses (knows u s).placing (knows w s).placing (one (knows w s).placing.has_key) × Holds (knows w s).placing key × Passed l (knows w s).facts key (n + 1))
+settled_passed l u v w s key n o a same h = if_none o (λ t. (settled_still (knows u s).placing (knows v s).placing (knows w s).placing a same t.0.keyed, inr t.0, t.1)) h
 
 -- ---- where a call is refused
 

@@ -1,3 +1,4 @@
 pub mod Searches
 pub mod Placings
 pub mod Visits
+pub mod Pairs

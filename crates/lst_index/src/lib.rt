@@ -4,6 +4,8 @@
 mod finding;
 mod placing;
 mod positions;
+#[cfg(test)]
+mod tests;
 mod visits;
 
 pub use finding::find;

@@ -27,7 +27,7 @@ struct Lost {
 }
 
 /// Looks whether a record is left to be drawn.
-fn look_at_counter(store: &Store, seat: &mut Seat, s: u32) -> Result<(), TableFull>
+pub(crate) fn look_at_counter(store: &Store, seat: &mut Seat, s: u32) -> Result<(), TableFull>
     requires seat { IsSeatOf store.now seat.old }
     requires host { hosts seat.old.view s ≡ true }
     ensures seat { IsSeatOf store.now seat.new }
@@ -43,7 +43,7 @@ fn look_at_counter(store: &Store, seat: &mut Seat, s: u32) -> Result<(), TableFu
 }
 
 /// Draws a record, and stores its key.
-fn draw(store: &Store, seat: &mut Seat, s: u32, key: Key) -> Result<(), TableFull>
+pub(crate) fn draw(store: &Store, seat: &mut Seat, s: u32, key: Key) -> Result<(), TableFull>
     requires seat { IsSeatOf store.now seat.old }
     requires host { hosts seat.old.view s ≡ true }
     requires own { s < seat.old.view.limits.sessions }
@@ -64,7 +64,7 @@ fn draw(store: &Store, seat: &mut Seat, s: u32, key: Key) -> Result<(), TableFul
 }
 
 /// Has a record in hand for the key, which it draws if there is none.
-fn take_record(store: &Store, seat: &mut Seat, s: u32, key: Key) -> Result<(), TableFull>
+pub(crate) fn take_record(store: &Store, seat: &mut Seat, s: u32, key: Key) -> Result<(), TableFull>
     requires seat { IsSeatOf store.now seat.old }
     requires host { hosts seat.old.view s ≡ true }
     requires own { s < seat.old.view.limits.sessions }
@@ -117,8 +117,38 @@ fn claim(
     })
 }
 
+/// Brings the record in hand to the position, or finds that another session's record stands there: then it is the key's, and the one
+/// in hand is given up, or it has another key.
+pub(crate) fn settle(
+    store: &Store,
+    seat: &mut Seat,
+    s: u32,
+    key: Key,
+    turn: u32,
+    position: u32,
+) -> Option<RecordId>
+    requires seat { IsSeatOf store.now seat.old }
+    requires host { hosts seat.old.view s ≡ true }
+    requires own { s < seat.old.view.limits.sessions }
+    requires turn { turn < size store.now.layout.limits }
+    requires position { position < size store.now.layout.limits }
+    requires is { position ≡ position_of store.now.layout.limits key turn }
+    requires has { HasOne (knows seat.old.view s).placing key }
+    requires passed { Passed store.now.layout.limits (knows seat.old.view s).facts key turn }
+    ensures seat { IsSeatOf store.now seat.new }
+    ensures works { Works seat.old.view seat.new.view s [] }
+    ensures drawn { (knows seat.new.view s).placing.drawn ≡ (knows seat.old.view s).placing.drawn }
+    ensures placed { IfSome result (λ r. (r.number < record_count store.now.layout.limits) × IsPlaced (knows seat.new.view s) r.number key × ((knows seat.new.view s).placing.hand ≡ 0)) }
+    ensures passed { IfNone result (HasOne (knows seat.new.view s).placing key × Passed store.now.layout.limits (knows seat.new.view s).facts key (turn + 1)) }
+{
+    match claim(store, seat, s, key, turn, position) {
+        Ok(placed) => Some(placed),
+        Err(lost) => compare(store, seat, s, key, position, lost.number),
+    }
+}
+
 /// Looks at one position for the key, and claims it if it is free.
-fn visit(
+pub(crate) fn visit(
     store: &Store,
     seat: &mut Seat,
     s: u32,
@@ -144,10 +174,7 @@ fn visit(
         return Ok(compare(store, seat, s, key, at, number));
     }
     take_record(store, seat, s, key)?;
-    match claim(store, seat, s, key, turn, at) {
-        Ok(placed) => Ok(Some(placed)),
-        Err(lost) => Ok(compare(store, seat, s, key, at, lost.number)),
-    }
+    Ok(settle(store, seat, s, key, turn, at))
 }
 
 /// The record of a key, which is drawn and placed if the key has none. At most one record is drawn, and none is in hand afterwards. A

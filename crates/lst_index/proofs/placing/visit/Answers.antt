@@ -6,7 +6,7 @@ use Rattle.lst_index.proofs.Searching.{passed_on}
 use Rattle.lst_core_state.specs.declared.facts.Find.{Find}
 use Rattle.lst_rule.specs.Rule.{knows}
 use Rattle.lst_index.specs.Searches.{Works}
-use Rattle.lst_index.proofs.Visiting.{found_full, finds_of_err, on_err, look_passed, look_drawn, lost_passed}
+use Rattle.lst_index.proofs.Visiting.{found_full, finds_of_err, on_err, look_passed, look_drawn, settled_uses, settled_passed}
 use Rattle.lst_index.proofs.placing.visit.Goals as goal
 
 pub returns-in-Some-clause-works : goal.returns-in-Some-clause-works
@@ -25,18 +25,16 @@ returns-in_err-take_record-clause-full c = on_err c.from_residual.result (found_
     (c.in_default.ensures.none c.args.key c.args.turn c.requires.turn (c.position-at.ensures.position ∙ ap (λ (y : Layout). position_of y.limits c.args.key c.args.turn) c.layout.ensures) c.requires.passed)
     c.in_err-take_record.ensures.works c.in_err-take_record.ensures.full)
 
-pub claim-requires-clause-passed : goal.claim-requires-clause-passed
-claim-requires-clause-passed c = passed_on c.args.store.now.layout.limits c.look.new.seat.view c.take_record.new.seat.view c.args.s c.args.key c.args.turn c.in_ok-take_record.ensures.works (passed_on c.args.store.now.layout.limits c.args.seat.now.view c.look.new.seat.view c.args.s c.args.key c.args.turn c.look.ensures.works c.requires.passed)
+pub settle-requires-clause-passed : goal.settle-requires-clause-passed
+settle-requires-clause-passed c = passed_on c.args.store.now.layout.limits c.look.new.seat.view c.take_record.new.seat.view c.args.s c.args.key c.args.turn c.in_ok-take_record.ensures.works (passed_on c.args.store.now.layout.limits c.args.seat.now.view c.look.new.seat.view c.args.s c.args.key c.args.turn c.look.ensures.works c.requires.passed)
 
-pub returns-in-Ok-clause-works : goal.returns-in-Ok-clause-works
-returns-in-Ok-clause-works c = works_on _ _ _ _ _ (works_on _ _ _ _ _ c.look.ensures.works c.in_ok-take_record.ensures.works) c.claim.ensures.works
+pub returns-clause-works : goal.returns-clause-works
+returns-clause-works c = works_on _ _ _ _ _ (works_on _ _ _ _ _ c.look.ensures.works c.in_ok-take_record.ensures.works) c.settle.ensures.works
 
-pub returns-in-Err-clause-works : goal.returns-in-Err-clause-works
-returns-in-Err-clause-works c = works_on _ _ _ _ _ (works_on _ _ _ _ _ (works_on _ _ _ _ _ c.look.ensures.works c.in_ok-take_record.ensures.works) c.claim.ensures.works) c.compare-in-Err.ensures.works
+pub returns-clause-uses : goal.returns-clause-uses
+returns-clause-uses c = settled_uses (knows c.args.seat.now.view c.args.s).placing (knows c.take_record.new.seat.view c.args.s).placing (knows c.settle.new.seat.view c.args.s).placing
+    (look_drawn (knows c.args.seat.now.view c.args.s).placing (knows c.look.new.seat.view c.args.s).placing (knows c.take_record.new.seat.view c.args.s).placing c.look.ensures.placing 1 c.in_ok-take_record.ensures.has.1) c.settle.ensures.drawn
 
-pub returns-in-Err-clause-passed : goal.returns-in-Err-clause-passed
-returns-in-Err-clause-passed c = lost_passed c.args.store.now.layout.limits c.args.seat.now.view c.claim.new.seat.view c.compare-in-Err.new.seat.view c.args.s c.args.key c.args.turn c.position-at.result c.in-Err.lost.number
-    (c.position-at.ensures.position ∙ ap (λ (y : Layout). position_of y.limits c.args.key c.args.turn) c.layout.ensures) c.compare-in-Err.result c.compare-in-Err.ensures.other
-    (works_on _ _ _ _ _ (works_on _ _ _ _ _ c.look.ensures.works c.in_ok-take_record.ensures.works) c.claim.ensures.works) (knows c.take_record.new.seat.view c.args.s).placing
-    (look_drawn (knows c.args.seat.now.view c.args.s).placing (knows c.look.new.seat.view c.args.s).placing (knows c.take_record.new.seat.view c.args.s).placing c.look.ensures.placing 1 c.in_ok-take_record.ensures.has.1)
-    c.in_ok-take_record.ensures.has.0 c.in-Err.ensures.lost.2 c.compare-in-Err.ensures.works c.requires.passed
+pub returns-clause-passed : goal.returns-clause-passed
+returns-clause-passed c = settled_passed c.args.store.now.layout.limits c.args.seat.now.view c.take_record.new.seat.view c.settle.new.seat.view c.args.s c.args.key c.args.turn c.settle.result
+    (look_drawn (knows c.args.seat.now.view c.args.s).placing (knows c.look.new.seat.view c.args.s).placing (knows c.take_record.new.seat.view c.args.s).placing c.look.ensures.placing 1 c.in_ok-take_record.ensures.has.1) c.settle.ensures.drawn c.settle.ensures.passed
