@@ -11,7 +11,7 @@ use Rattle.lst_core_state.specs.declared.facts.Fact.{Fact}
 use Rattle.lst_core_state.specs.declared.facts.Fact.TheVariants.{ChainEnds}
 use Rattle.lst_core_state.specs.Cells.{record_count, range_of, tail_at, listed}
 use Rattle.lst_core_state.specs.Facts.{cell_fact, cell_facts, chain_facts}
-use Rattle.lst_core_state.specs.State.{Words, Core, writer_at, line, back_in, head_of}
+use Rattle.lst_core_state.specs.State.{Words, Core, writer_at, line, back_in, head_of, record_in}
 use Rattle.lst_core_state.specs.Sound.{Sound, StoredOf}
 use Rattle.lst_core_state.proofs.CellsKept.{tail_at-some, tail_at-none, tail_range-is}
 use Rattle.lst_sights.specs.Copies.{Version, fact_of, tails_of, AreKnown, IsVersionOf, AreVersionsOf, Leads, IsChainFrom, IsCopy, Includes}
@@ -89,6 +89,19 @@ module _ (l : Limits) (w : Words) where
           (λ e. omega arith)
           (λ ne. let f = tail_at-some l.tails range b (omega arith) in omega arith)
 
+-- a tail whose start word is stored is a version
+pub stored_is : (c : Core) → Sound c → (t : ℕ) → 0 < t → 0 < c.words.cells t 0 → IsVersionOf c.limits (record_in c.limits c.words.cells t) (version_at c.limits c.words t)
+stored_is c sound t some stored = let l : Limits = c.limits in let w : Words = c.words in let k : StoredOf l w c.known t = sound.versions.stored t stored in let image = sound.tail_words.images t stored in record {
+  some = some;
+  few = k.few;
+  session = k.begun.0;
+  begun = k.begun.1;
+  number = let a = k.begun.2 in let b = (sound.each (writer_at w t % 16) k.begun.0).few in omega arith;
+  here = refl;
+  wide = length-listed (w.cells t) 3 l.columns;
+  cell = record { slot = image.slot; kind = image.kind; else = λ column below none. listed_at (w.cells t) 3 l.columns column below ∙ image.else column below none };
+}
+
 module _ (c : Core) (sound : Sound c) (rec : ℕ) (low : rec < record_count c.limits) where
   abbrev l : Limits
   l = c.limits
@@ -100,16 +113,8 @@ module _ (c : Core) (sound : Sound c) (rec : ℕ) (low : rec < record_count c.li
   copy = versions_at c.limits c.words (line c.limits c.words rec)
 
   version_is : (t : ℕ) → Has t (line c.limits c.words rec) → IsVersionOf c.limits rec (version_at c.limits c.words t)
-  version_is t i = let L = sound.versions.lines rec low in let stored = L.stored t i in let k : StoredOf c.limits c.words c.known t = sound.versions.stored t stored in let image = sound.tail_words.images t stored in record {
-    some = links_positive (back_in l w.cells) (head_of l rec (w.heads rec)) (line l w rec) L.links t i;
-    few = k.few;
-    session = k.begun.0;
-    begun = k.begun.1;
-    number = let a = k.begun.2 in let b = (sound.each (writer_at w t % 16) k.begun.0).few in omega arith;
-    here = L.here t i;
-    wide = length-listed (w.cells t) 3 l.columns;
-    cell = record { slot = image.slot; kind = image.kind; else = λ column below none. listed_at (w.cells t) 3 l.columns column below ∙ image.else column below none };
-  }
+  version_is t i = let L = sound.versions.lines rec low in subst (λ (r : ℕ). IsVersionOf l r (version_at l w t)) (L.here t i)
+      (stored_is c sound t (links_positive (back_in l w.cells) (head_of l rec (w.heads rec)) (line l w rec) L.links t i) (L.stored t i))
 
   versions_are : (ts : List ℕ) → ((t : ℕ) → Has t ts → Has t (line c.limits c.words rec)) → AreVersionsOf c.limits rec (versions_at c.limits c.words ts)
   versions_are [] all = tt

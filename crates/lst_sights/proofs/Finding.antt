@@ -1,6 +1,6 @@
 -- What loads and latches find of a chain and of its versions.
 use Rattle.std.proofs.Common.{◌≡◌, ℕ, ◌+◌, ◌*◌, ◌/◌, ◌%◌, ◌<◌, List, [], ◌∷◌, ◌++◌, true, cond, eqb, get_or, Contains, refl, sym, subst, ap, ◌∙◌, arith, true≢false, eq-eqb, ne_eqb}
-use Rattle.std.proofs.lemmas.List.Elements.{Contains-append_right}
+use Rattle.std.proofs.lemmas.List.Elements.{Contains-append_left, Contains-append_right}
 use Rattle.lst_layout.specs.declared.limits.Limits.{Limits}
 use Rattle.lst_layout.specs.declared.place.Place.{Place}
 use Rattle.lst_layout.specs.declared.place.Place.TheVariants.{StateWord, HeadWord, CellWord}
@@ -17,9 +17,9 @@ use Rattle.lst_core_state.specs.declared.facts.Find.{Find}
 use Rattle.lst_core_state.specs.declared.facts.Find.TheVariants.{UnfinishedVersion}
 use Rattle.lst_core_state.specs.Cells.{record_count, record_of}
 use Rattle.lst_core_state.specs.Facts.{IsFact, index_facts, chain_facts, state_fact, stored_fact, commit_fact, active_find, unfinished}
-use Rattle.lst_core_state.specs.State.{Words, writer, name_of}
+use Rattle.lst_core_state.specs.State.{Words, writer, name_of, record_in}
 use Rattle.lst_core_state.specs.Step.{look_at, latched, latch_lost}
-use Rattle.lst_core_state.specs.Sound.{FactsOf}
+use Rattle.lst_core_state.specs.Sound.{FactsOf, StoredOf}
 use Rattle.lst_core_state.proofs.Functions.{either}
 use Rattle.lst_core_state.proofs.Steps.{writer_odd, writer_even}
 use Rattle.lst_core_state.proofs.FactsPart.{more_facts, index_are_facts, chain_are_facts}
@@ -32,8 +32,8 @@ use Rattle.lst_rule.proofs.Knowing.{is_fact}
 use Rattle.lst_sights.specs.Copies.{Version, fact_of, IsVersionOf, Includes}
 use Rattle.lst_sights.specs.Seen.{is_early, SeesAlike}
 use Rattle.lst_sights.specs.Loads.{ChainFound, StartFound, StateFound}
-use Rattle.lst_sights.specs.Laws.{LoadsFindChains, LatchesFindChains, StartsAreFound, WordsAreFound, StatesAreFound, UnfinishedIsAbout}
-use Rattle.lst_sights.proofs.Copying.{listed_at}
+use Rattle.lst_sights.specs.Laws.{LoadsFindChains, LatchesFindChains, StartsAreFound, TailsAreFound, WordsAreFound, StatesAreFound, UnfinishedIsAbout}
+use Rattle.lst_sights.proofs.Copying.{listed_at, version_at, stored_is}
 use Rattle.lst_sights.proofs.Seeing.{chain_found}
 use Rattle.lst_sights.proofs.Telling.{low, is_known, is_on_known, state_tells}
 
@@ -94,9 +94,10 @@ commit_at log x name some even is = subst (λ (n : ℕ). Contains (commit_fact l
     either (λ (fs : List Fact). Contains fs here) (eqb x 0) [] (cond (eqb (x % 2) 0) (here ∷ []) []) (λ z. absurd (true≢false (sym z ∙ ne_eqb x 0 (λ e. omega arith))))
     (λ _. either (λ (fs : List Fact). Contains fs here) (eqb (x % 2) 0) (here ∷ []) [] (λ _. (0, omega arith, refl)) (λ z. absurd (true≢false (sym (eq-eqb (x % 2) 0 even) ∙ z)))))
 
-pub starts_are_found : StartsAreFound
-starts_are_found v w s rec x c hosted is known m = let now = cell_now v w s rec 0 x c hosted is known (omega arith) m in
-    subst (λ (u : Known). StartFound u rec c x) (sym now) (let f = fact v w s rec 0 x c hosted is known (omega arith) m in let t = m.made.told in let V = t.allowed.sound.versions in
+-- what a load of a version's start word tells
+start_found : (v w : View) (s rec x : ℕ) (c : Version) (m : Met v w (Look s (address v.limits (CellWord c.tail 0))) (CellWord c.tail 0) x x) → knows w s ≡ look_at v.limits (shown v.limits m.made.told.words) (knows v s) (CellWord c.tail 0)
+    → IsVersionOf v.limits rec c → IsFact v.limits (shown v.limits m.made.told.words) (fact_of c) → StartFound (knows w s) rec c x
+start_found v w s rec x c m now is f = subst (λ (u : Known). StartFound u rec c x) (sym now) (let t = m.made.told in let V = t.allowed.sound.versions in
     let log : ℕ → ℕ = (shown v.limits t.words).log in let cells : ℕ → ℕ → ℕ = (shown v.limits t.words).cells in
     let start : cells c.tail 0 ≡ x = m.found in let some : 0 < cells c.tail 0 = f.0 in
     let name : writer log x ≡ c.writer = ap (writer log) (sym start) ∙ f.1 in record {
@@ -112,6 +113,26 @@ starts_are_found v w s rec x c hosted is known m = let now = cell_now v w s rec 
       about = ap (λ (e : ℕ). record_of v.limits.tails c.tail e + 1) f.2 ∙ ap (λ (r : ℕ). r + 1) is.here;
       tail = refl;
     })
+
+pub starts_are_found : StartsAreFound
+starts_are_found v w s rec x c hosted is known m = start_found v w s rec x c m (cell_now v w s rec 0 x c hosted is known (omega arith) m) is (fact v w s rec 0 x c hosted is known (omega arith) m)
+
+pub tails_are_found : TailsAreFound
+tails_are_found v w s tail x hosted some few m positive = let t = m.made.told in let W : Words = shown v.limits t.words in let S = t.allowed.sound in
+    let stored : 0 < W.cells tail 0 = (let e : W.cells tail 0 ≡ x = m.found in omega arith) in
+    let c : Version = version_at v.limits W tail in
+    let k : StoredOf v.limits W t.known tail = S.versions.stored tail stored in
+    let is : IsVersionOf v.limits (record_in v.limits W.cells tail) c = stored_is (state_over v.limits t.words t.known t.merger) S tail some stored in
+    let now : knows w s ≡ look_at v.limits W (knows v s) (CellWord tail 0) = m.made.view.now ∙ ap (look_at v.limits W (knows v s)) ((addresses_are_read v.limits S.sized).back (CellWord tail 0) (some, few, omega arith)) in record {
+      rec = record_in v.limits W.cells tail;
+      version = c;
+      at = refl;
+      is = subst (λ (l : Limits). IsVersionOf l (record_in v.limits W.cells tail) c) (sym m.made.view.limits) is;
+      known = subst (λ (u : Known). Contains u.facts (fact_of c)) (sym now) (Contains-append_right (knows v s).facts (stored_fact v.limits W tail ++ commit_fact W.log (W.cells tail 0)) (fact_of c)
+          (Contains-append_left (stored_fact v.limits W tail) (commit_fact W.log (W.cells tail 0)) (fact_of c)
+          (either (λ (fs : List Fact). Contains fs (fact_of c)) (eqb (W.cells tail 0) 0) [] (fact_of c ∷ []) (λ z. absurd (true≢false (sym z ∙ ne_eqb (W.cells tail 0) 0 (λ e. omega arith)))) (λ _. (0, omega arith, refl)))));
+      start = start_found v w s (record_in v.limits W.cells tail) x c m now is (stored, refl, refl, refl, refl);
+    }
 
 pub words_are_found : WordsAreFound
 words_are_found v w s rec p x c hosted is known inside m = let f = fact v w s rec p x c hosted is known inside m in let cells : ℕ → ℕ → ℕ = (shown v.limits m.made.told.words).cells in let here : cells c.tail p ≡ x = m.found in record {

@@ -47,7 +47,7 @@ seen_is_by_name v s x = (
 pub same_sees : (u v : Known) (s x : ℕ) → SeesAlike u v → sees v s x ≡ sees u s x
 same_sees u v s x same = λ i. names (same.front i) x || eqb x (name_of s (same.number i))
 
-same_acts : (u v : Known) (s : ℕ) (cs : List Version) → SeesAlike u v → seen_acts v s cs ≡ seen_acts u s cs
+pub same_acts : (u v : Known) (s : ℕ) (cs : List Version) → SeesAlike u v → seen_acts v s cs ≡ seen_acts u s cs
 same_acts u v s [] same = refl
 same_acts u v s (c ∷ cs) same = λ i. cond (same_sees u v s c.writer same i) (same_acts u v s cs same i ++ act_by c ∷ []) (same_acts u v s cs same i)
 

@@ -1,26 +1,31 @@
 -- What a session may conclude from the facts that it has of a record's chain.
-use Rattle.std.specs.Prelude.{◌≡◌, ◌≢◌, ◌⊎◌, ◌↔◌, ℕ, ◌+◌, ◌*◌, ◌/◌, ◌%◌, ◌<◌, ◌≤◌, List, [], ◌∷◌, ◌++◌, true, false, length, take, nat_le}
+use Rattle.std.specs.Prelude.{◌≡◌, ◌≢◌, ◌⊎◌, ◌↔◌, ℕ, ◌+◌, ◌*◌, ◌/◌, ◌%◌, ◌<◌, ◌≤◌, List, [], ◌∷◌, ◌++◌, true, false, length, take, nat_le, None}
 use Rattle.std.specs.List.{Contains}
 use Rattle.lst_layout.specs.declared.limits.Limits.{Limits}
+use Rattle.lst_layout.specs.declared.place.Place.{Place}
 use Rattle.lst_layout.specs.declared.place.Place.TheVariants.{StateWord, HeadWord, CellWord}
-use Rattle.lst_layout.specs.Addresses.{address}
+use Rattle.lst_layout.specs.Addresses.{address, IsWithin}
 use Rattle.lst_layout.specs.Words.{shown}
+use Rattle.lst_model.specs.Histories.{Extends}
+use Rattle.lst_model.specs.Soundness.{FitInTurn}
 use Rattle.lst_versions.specs.Lists.{is_until}
 use Rattle.lst_core_state.specs.declared.known.Known.{Known}
 use Rattle.lst_core_state.specs.declared.events.Event.TheVariants.{Look, Latch, DrawTail, Stamp}
 use Rattle.lst_core_state.specs.declared.facts.Fact.{Fact}
 use Rattle.lst_core_state.specs.declared.facts.Fact.TheVariants.{StateAt, CommitAt}
+use Rattle.lst_core_state.specs.declared.facts.Find.{Find}
 use Rattle.lst_core_state.specs.declared.facts.Find.TheVariants.{UnfinishedVersion}
-use Rattle.lst_core_state.specs.Cells.{record_count, range_of}
+use Rattle.lst_core_state.specs.Cells.{record_count, tail_count, range_of}
 use Rattle.lst_core_state.specs.Facts.{unfinished}
-use Rattle.lst_core_state.specs.State.{entry, name_of}
+use Rattle.lst_core_state.specs.State.{entry, name_of, sight}
 use Rattle.lst_core_state.specs.Laws.{Names}
 use Rattle.lst_rule.specs.declared.view.View.{View}
 use Rattle.lst_rule.specs.Rule.{knows, hosts, Allowed}
-use Rattle.lst_rule.specs.Learned.{Possible, CanStand, Times, Met}
+use Rattle.lst_rule.specs.Learned.{Possible, CanStand, Times, Made, Met}
 use Rattle.lst_sights.specs.Copies.{Version, fact_of, IsVersionOf, IsChainFrom, IsCopy, Includes}
 use Rattle.lst_sights.specs.Seen.{is_early, sees, IsSight, SeesAlike, HasKey}
 use Rattle.lst_sights.specs.Judging.{AreClosed, IsJudged, IsCommittedAt, WroteAt}
+use Rattle.lst_sights.specs.Watching.{Watched, IsWatched}
 use Rattle.lst_sights.specs.Loads.{ChainFound, StartFound, WordFound, StateFound}
 
 -- ---- the copy of a chain
@@ -54,6 +59,10 @@ SeenIsByName = (v : Known) (s x : ℕ) → (sees v s x ≡ true) ↔ ((x ≡ nam
 abbrev pub SightsStay : Type 0
 SightsStay = (u v : Known) (s key : ℕ) (versions : List Version) → SeesAlike u v → IsSight u s key versions → IsSight v s key versions
 
+-- each act of a sight fits the row that those before it make
+abbrev pub SightsFit : Type 0
+SightsFit = (v : View) (s rec key : ℕ) → Possible v → hosts v s ≡ true → (knows v s).is_open ≡ true → HasKey (knows v s).facts rec key → FitInTurn None (sight (knows v s) key)
+
 -- ---- what statuses tell
 
 -- in each state that the view allows, a transaction is early exactly where its state word says so
@@ -81,6 +90,18 @@ abbrev pub StartsAreFound : Type 0
 StartsAreFound = (v w : View) (s rec x : ℕ) (c : Version) → hosts v s ≡ true → IsVersionOf v.limits rec c → Contains (knows v s).facts (fact_of c)
     → Met v w (Look s (address v.limits (CellWord c.tail 0))) (CellWord c.tail 0) x x → StartFound (knows w s) rec c x
 
+-- and where nothing is known of the tail yet: a start word that isn't 0 is a version's, which is known then
+pub record TailFound (w : View) (s tail x : ℕ) : Type 0 where
+  pub rec : ℕ
+  pub version : Version
+  pub at : version.tail ≡ tail
+  pub is : IsVersionOf w.limits rec version
+  pub known : Contains (knows w s).facts (fact_of version)
+  pub start : StartFound (knows w s) rec version x
+
+abbrev pub TailsAreFound : Type 0
+TailsAreFound = (v w : View) (s tail x : ℕ) → hosts v s ≡ true → 0 < tail → tail ≤ tail_count v.limits → Met v w (Look s (address v.limits (CellWord tail 0))) (CellWord tail 0) x x → 0 < x → TailFound w s tail x
+
 abbrev pub WordsAreFound : Type 0
 WordsAreFound = (v w : View) (s rec p x : ℕ) (c : Version) → hosts v s ≡ true → IsVersionOf v.limits rec c → Contains (knows v s).facts (fact_of c) → p < 3 + v.limits.columns
     → Met v w (Look s (address v.limits (CellWord c.tail p))) (CellWord c.tail p) x x → WordFound v.limits c p x
@@ -93,6 +114,30 @@ StatesAreFound = (v w : View) (s name x : ℕ) → hosts v s ≡ true → name %
 abbrev pub UnfinishedIsAbout : Type 0
 UnfinishedIsAbout = (v : Known) (rec : ℕ) (c : Version) → v.is_open ≡ true → StartFound v rec c (1 + 2 * c.writer) → c.writer % 16 < 16
     → unfinished v (c.writer % 16) (c.writer / 16) ≡ UnfinishedVersion (rec + 1) c.tail (c.writer % 16) (c.writer / 16) (v.begin + 1)
+
+-- ---- what a session knows after looks
+
+abbrev pub LooksWatch : Type 0
+LooksWatch = (v w : View) (s x : ℕ) (p : Place) → hosts v s ≡ true → IsWithin v.limits p → IsWatched p → Met v w (Look s (address v.limits p)) p x x → Watched v w s
+
+-- a stamp tells its session nothing
+abbrev pub StampsWatch : Type 0
+StampsWatch = (v w : View) (s range n x : ℕ) (p : Place) → Made v w (Stamp s range n) p x → Watched v w s
+
+abbrev pub WatchesJoin : Type 0
+WatchesJoin = (u v w : View) (s : ℕ) → Watched u v s → Watched v w s → Watched u w s
+
+-- it sees the same as before, and keeps its facts and finds
+pub record KeptBy (u v : Known) : Type 0 where
+  pub alike : SeesAlike u v
+  pub facts : Includes v.facts u.facts
+  pub finds : (f : Find) → Contains u.finds f → Contains v.finds f
+  pub seen : Extends v.seen u.seen
+  pub is_open : v.is_open ≡ u.is_open
+  pub hold : v.hold ≡ u.hold
+
+abbrev pub WatchersKeep : Type 0
+WatchersKeep = (v w : View) (s : ℕ) → Possible v → hosts v s ≡ true → (knows v s).is_open ≡ true → Watched v w s → KeptBy (knows v s) (knows w s)
 
 -- ---- what a writer may do
 

@@ -1,5 +1,5 @@
 //! The laws. Each function is a law: its contract holds at all values, and its body does nothing.
-ghost use Rattle.lst_sights.specs.Laws.{LoadsFindChains, LatchesFindChains, ChainsAreWalked, CopiesStay, SeenIsByName, SightsStay, StatesTell, StatusesTell, StartsAreFound, WordsAreFound, StatesAreFound, UnfinishedIsAbout, ClosedArePassed, JudgedMayDraw, CommittedWrote, CommittedMayBeStamped};
+ghost use Rattle.lst_sights.specs.Laws.{LoadsFindChains, LatchesFindChains, ChainsAreWalked, CopiesStay, SeenIsByName, SightsStay, SightsFit, StatesTell, StatusesTell, StartsAreFound, TailsAreFound, WordsAreFound, StatesAreFound, UnfinishedIsAbout, LooksWatch, StampsWatch, WatchesJoin, WatchersKeep, ClosedArePassed, JudgedMayDraw, CommittedWrote, CommittedMayBeStamped};
 
 /// A load of a record's indirection word, and a latch, leave a copy of the record's whole chain in the facts. What the open
 /// transaction sees of the copy is its sight of the record's key. The copy is walked by numbers: the word loaded names the
@@ -12,10 +12,12 @@ pub fn chains_are_copied()
 {}
 
 /// A transaction sees a version exactly where it is its own, or where the commits seen up to its begin name the version's
-/// transaction. So what it sees of a copy stays, whatever happens to the words.
+/// transaction. So what it sees of a copy stays, whatever happens to the words. Each act of
+/// a sight fits the row that those before it make.
 pub fn versions_are_seen()
     ensures named { SeenIsByName }
     ensures stay { SightsStay }
+    ensures fit { SightsFit }
 {}
 
 /// A state word, a stamp or a find of an unfinished version, whenever it was found, decides whether a transaction was committed
@@ -25,13 +27,24 @@ pub fn statuses_tell()
     ensures found { StatusesTell }
 {}
 
-/// Loads of the words of a copied version find what the copy has. The start word names its transaction or its commit time.
+/// Loads of the words of a copied version find what the copy has. The start word names its transaction or its commit time;
+/// where it isn't 0, the tail is a version.
 /// A find that it is unfinished is about its record.
 pub fn words_are_found()
     ensures starts { StartsAreFound }
+    ensures tails { TailsAreFound }
     ensures words { WordsAreFound }
     ensures states { StatesAreFound }
     ensures about { UnfinishedIsAbout }
+{}
+
+/// A session that only looks at versions, statuses and the clock, and stamps, knows more facts, finds and commits after it, and else what
+/// it knew: it sees the same.
+pub fn watchers_keep()
+    ensures looks { LooksWatch }
+    ensures stamps { StampsWatch }
+    ensures joins { WatchesJoin }
+    ensures keep { WatchersKeep }
 {}
 
 /// With the latch in hand, a tail may be drawn once each version of the chain down to one that is seen, or to its end, is

@@ -5,5 +5,6 @@
 mod laws;
 
 pub use laws::{
-    chains_are_copied, statuses_tell, versions_are_seen, words_are_found, writers_are_judged,
+    chains_are_copied, statuses_tell, versions_are_seen, watchers_keep, words_are_found,
+    writers_are_judged,
 };

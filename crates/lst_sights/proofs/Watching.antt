@@ -1,0 +1,154 @@
+-- What a session knows after looks.
+use Rattle.std.proofs.Common.{◌≡◌, ◌⊎◌, ℕ, ◌+◌, ◌≤◌, [], ◌∷◌, ◌++◌, cond, eqb, ◌&&◌, length, refl, sym, subst, ap, ◌∙◌, inl, inr, append_assoc, append-nil}
+use Rattle.std.proofs.lemmas.List.{take-append-le}
+use Rattle.std.proofs.lemmas.List.Elements.{Contains-append_left}
+use Rattle.lst_layout.specs.declared.limits.Limits.{Limits}
+use Rattle.lst_layout.specs.declared.place.Place.{Place}
+use Rattle.lst_layout.specs.declared.place.Place.TheVariants.{ClockWord, CommitWord, EpochWord, RecordCounter, LogWord, BeginWord, StateWord, KeyWord, IndexWord, HeadWord, TailCounter, CellWord, DirectoryWord, FrameWord, PinWord, PostingWord}
+use Rattle.lst_layout.specs.Words.{shown}
+use Rattle.lst_layout.proofs.Places.{addresses_are_read}
+use Rattle.lst_model.specs.Histories.{Extends}
+use Rattle.lst_core_state.specs.declared.known.Known.{Known}
+use Rattle.lst_core_state.specs.declared.known.Stage.{Stage}
+use Rattle.lst_core_state.specs.declared.known.Stage.TheVariants.{Away, Taken, Fresh, Logged, Stated, Done}
+use Rattle.lst_core_state.specs.declared.facts.Find.TheVariants.{FreshClock, TailLoad, EmptyStart}
+use Rattle.lst_core_state.specs.Facts.{index_facts, chain_facts, state_fact, stored_fact, commit_fact, active_find, early_find}
+use Rattle.lst_core_state.specs.State.{Words, record_in, history_of}
+use Rattle.lst_core_state.specs.Step.{look_at, refreshed}
+use Rattle.lst_rule.specs.declared.view.View.{View}
+use Rattle.lst_rule.specs.Rule.{knows}
+use Rattle.lst_rule.specs.Learned.{Learns}
+use Rattle.lst_rule.proofs.Knowing.{is_seen}
+use Rattle.lst_rule.proofs.Learning.{learns_on}
+use Rattle.lst_sights.specs.Watching.{Watches, Watched, IsWatched}
+use Rattle.lst_sights.specs.Laws.{LooksWatch, StampsWatch, WatchesJoin, WatchersKeep, KeptBy}
+use Rattle.lst_sights.proofs.Telling.{low, is_known, is_on_known}
+
+-- nothing new
+pub watches_same : (u : Known) → Watches u u
+watches_same u = record {
+  facts = [];
+  finds = [];
+  later = [];
+  turn = u.turn;
+  looks = u.looks;
+  is = λ i. record u { seen = sym (append-nil u.seen) i; turn = u.turn; facts = sym (append-nil u.facts) i; finds = sym (append-nil u.finds) i; looks = u.looks };
+  stage = inl refl;
+}
+
+refreshed_again : (k : Stage) → refreshed (refreshed k) ≡ refreshed k
+refreshed_again Away = refl
+refreshed_again Taken = refl
+refreshed_again Fresh = refl
+refreshed_again Logged = refl
+refreshed_again Stated = refl
+refreshed_again Done = refl
+
+joined_stage : (a b c : Stage) → (b ≡ a) ⊎ (b ≡ refreshed a) → (c ≡ b) ⊎ (c ≡ refreshed b) → (c ≡ a) ⊎ (c ≡ refreshed a)
+joined_stage a b c (inl e) (inl f) = inl (f ∙ e)
+joined_stage a b c (inl e) (inr f) = inr (f ∙ ap refreshed e)
+joined_stage a b c (inr e) (inl f) = inr (f ∙ e)
+joined_stage a b c (inr e) (inr f) = inr (f ∙ (ap refreshed e ∙ refreshed_again a))
+
+pub watches_on : (u v w : Known) → Watches u v → Watches v w → Watches u w
+watches_on u v w a b = record {
+  facts = a.facts ++ b.facts;
+  finds = a.finds ++ b.finds;
+  later = a.later ++ b.later;
+  turn = b.turn;
+  looks = b.looks;
+  is = b.is ∙ (ap (λ (k : Known). record k { seen = k.seen ++ b.later; turn = b.turn; facts = k.facts ++ b.facts; finds = k.finds ++ b.finds; looks = b.looks }) a.is
+      ∙ (λ i. record u { seen = append_assoc u.seen a.later b.later i; turn = b.turn; facts = append_assoc u.facts a.facts b.facts i; finds = append_assoc u.finds a.finds b.finds i; looks = b.looks }));
+  stage = joined_stage u.turn a.turn b.turn a.stage (subst (λ (k : Stage). (b.turn ≡ k) ⊎ (b.turn ≡ refreshed k)) (ap (λ (k : Known). k.turn) a.is) b.stage);
+}
+
+pub watches_join : WatchesJoin
+watches_join u v w s a b = record {
+  learns = learns_on u v w s (knows v s) (knows w s) a.learns b.learns;
+  watches = watches_on (knows u s) (knows v s) (knows w s) a.watches b.watches;
+}
+
+watched : (v w : View) (s : ℕ) (k : Known) → Learns v w s k → Watches (knows v s) k → Watched v w s
+watched v w s k learns watches = record {
+  learns = record { now = refl; others = learns.others; hosted = learns.hosted; limits = learns.limits; note = learns.note; note_facts = learns.note_facts; whole = learns.whole };
+  watches = subst (λ (u : Known). Watches (knows v s) u) (sym learns.now) watches;
+}
+
+pub stamps_watch : StampsWatch
+stamps_watch v w s range n x p made = watched v w s (knows v s) made.view (watches_same (knows v s))
+
+look_watches : (l : Limits) (w : Words) (u : Known) (p : Place) → Extends (history_of l w) u.seen → IsWatched p → Watches u (look_at l w u p)
+look_watches l w u ClockWord all is = record {
+  facts = index_facts l w;
+  finds = FreshClock w.clock ∷ early_find u w.clock;
+  later = all.0;
+  turn = refreshed u.turn;
+  looks = u.looks;
+  is = λ i. record u { seen = all.1 i; turn = refreshed u.turn; facts = u.facts ++ index_facts l w; finds = u.finds ++ FreshClock w.clock ∷ early_find u w.clock; looks = u.looks };
+  stage = inr refl;
+}
+look_watches l w u (StateWord s n) all is = record {
+  facts = state_fact w s n;
+  finds = active_find u s n (w.states s n);
+  later = [];
+  turn = u.turn;
+  looks = record u.looks { state = w.states s n; session = s; number = n };
+  is = λ i. record u { seen = sym (append-nil u.seen) i; turn = u.turn; facts = u.facts ++ state_fact w s n; finds = u.finds ++ active_find u s n (w.states s n); looks = record u.looks { state = w.states s n; session = s; number = n } };
+  stage = inl refl;
+}
+look_watches l w u (HeadWord r) all is = record {
+  facts = chain_facts l w r;
+  finds = [];
+  later = [];
+  turn = u.turn;
+  looks = u.looks;
+  is = λ i. record u { seen = sym (append-nil u.seen) i; turn = u.turn; facts = u.facts ++ chain_facts l w r; finds = sym (append-nil u.finds) i; looks = u.looks };
+  stage = inl refl;
+}
+look_watches l w u (CellWord t p) all is = record {
+  facts = stored_fact l w t ++ commit_fact w.log (w.cells t 0);
+  finds = TailLoad t ∷ cond (eqb p 0 && eqb (w.cells t 0) 0) (EmptyStart t ∷ []) [];
+  later = [];
+  turn = u.turn;
+  looks = cond (eqb p 0) (record u.looks { start = w.cells t 0; about = record_in l w.cells t + 1; tail = t }) u.looks;
+  is = λ i. record u {
+    seen = sym (append-nil u.seen) i;
+    turn = u.turn;
+    facts = u.facts ++ (stored_fact l w t ++ commit_fact w.log (w.cells t 0));
+    finds = u.finds ++ TailLoad t ∷ cond (eqb p 0 && eqb (w.cells t 0) 0) (EmptyStart t ∷ []) [];
+    looks = cond (eqb p 0) (record u.looks { start = w.cells t 0; about = record_in l w.cells t + 1; tail = t }) u.looks;
+  };
+  stage = inl refl;
+}
+look_watches l w u CommitWord all is = absurd is
+look_watches l w u EpochWord all is = absurd is
+look_watches l w u RecordCounter all is = absurd is
+look_watches l w u (LogWord t) all is = absurd is
+look_watches l w u (BeginWord s n) all is = absurd is
+look_watches l w u (KeyWord r) all is = absurd is
+look_watches l w u (IndexWord q) all is = absurd is
+look_watches l w u (TailCounter r) all is = absurd is
+look_watches l w u (DirectoryWord r c) all is = absurd is
+look_watches l w u (FrameWord f c) all is = absurd is
+look_watches l w u (PinWord s) all is = absurd is
+look_watches l w u (PostingWord c q) all is = absurd is
+
+pub looks_watch : LooksWatch
+looks_watch v w s x p hosted inside is m = let t = m.made.told in let W : Words = shown v.limits t.words in let k : Known = knows v s in
+    watched v w s (look_at v.limits W k p) (subst (λ (q : Place). Learns v w s (look_at v.limits W k q)) ((addresses_are_read v.limits t.allowed.sound.sized).back p inside) m.made.view)
+    (look_watches v.limits W k p (is_seen v t.words t.known t.merger t.allowed s hosted) is)
+
+keeps : (u v : Known) → u.begin ≤ length u.seen → Watches u v → KeptBy u v
+keeps u v high watches = subst (λ (k : Known). KeptBy u k) (sym watches.is) record {
+  alike = record { number = refl; begin = refl; own = refl; front = take-append-le u.begin u.seen watches.later high };
+  facts = λ f h. Contains-append_left u.facts watches.facts f h;
+  finds = λ f h. Contains-append_left u.finds watches.finds f h;
+  seen = (watches.later, refl);
+  is_open = refl;
+  hold = refl;
+}
+
+pub watchers_keep : WatchersKeep
+watchers_keep v w s p hosted is_on is = let a = p.allowed in
+    keeps (knows v s) (knows w s) (subst (λ (u : Known). u.begin ≤ length u.seen) (sym (is_known v p.words p.known p.merger a s hosted is_on))
+    ((a.sound.views s (low v p.words p.known p.merger a s hosted is_on)).begun (is_on_known v p.words p.known p.merger a s hosted is_on))) is.watches

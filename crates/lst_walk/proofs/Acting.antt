@@ -1,0 +1,67 @@
+-- What the act of a version that is seen does.
+use Rattle.std.proofs.Common.{◌≡◌, ◌≢◌, ℕ, ◌+◌, ◌/◌, ◌%◌, ◌^◌, ◌<◌, List, Bool, true, false, cond, length, sym, subst, ap, ◌∙◌, arith, eq-eqb, ne_eqb}
+use Rattle.std.specs.Prelude.{Option, None, Some, slice_index, slice_get}
+use Rattle.std.specs.Int.{bit_at}
+use Rattle.lst_layout.specs.declared.limits.Limits.{Limits}
+use Rattle.lst_bits.specs.declared.encodings.Encoding.{Encoding}
+use Rattle.lst_bits.specs.declared.encodings.Kind.{Kind}
+use Rattle.lst_bits.specs.declared.encodings.Kind.TheVariants as kinds
+use Rattle.lst_model.specs.declared.acts.Act.{Act}
+use Rattle.lst_model.specs.declared.acts.Act.TheVariants.{Set}
+use Rattle.lst_model.specs.Cells.{Cell, overlaid}
+use Rattle.lst_model.specs.Histories.{row_after}
+use Rattle.lst_model.specs.Soundness.{Fits}
+use Rattle.lst_core_state.specs.Cells.{patched, has_bit}
+use Rattle.lst_rule.specs.declared.view.View.{View}
+use Rattle.lst_sights.specs.Copies.{Version}
+use Rattle.lst_sights.specs.Seen.{act_by}
+use Rattle.lst_walk.specs.Readers.{IsAt}
+use Rattle.lst_walk.specs.Patches.{act_for, merged, cell_in}
+use Rattle.lst_walk.specs.Walks.{Acted, Told}
+use Rattle.lst_walk.specs.declared.rows.Visit.TheVariants.{Done, Older}
+use Rattle.lst_walk.proofs.Lists.{set_twice, length-merged, length-patched, patched_at, cell_set, cell_unset}
+use Rattle.lst_walk.proofs.Chains.{set_fits}
+
+-- bits of a mask
+pub bit_set : (mask column : ℕ) → bit_at mask column ≡ 1 → has_bit mask column ≡ true
+bit_set mask column is = eq-eqb (mask / 2 ^ column % 2) 1 is
+
+pub bit_clear : (mask column : ℕ) → bit_at mask column ≢ 1 → has_bit mask column ≡ false
+bit_clear mask column is = ne_eqb (mask / 2 ^ column % 2) 1 is
+
+pub columns_of : (l : Limits) (v : View) (s tail : ℕ) (d : Version) → v.limits ≡ l → IsAt v s tail d → length d.values ≡ l.columns
+columns_of l v s tail d is at = at.is.wide ∙ ap (λ (k : Limits). k.columns) is
+
+module _ (d : Version) (e : Encoding) (act : act_by d ≡ act_for e.kind e.mask d.values) where
+  kind_act : (k : Kind) → e.kind ≡ k → act_by d ≡ act_for k e.mask d.values
+  kind_act k is = act ∙ ap (λ (j : Kind). act_for j e.mask d.values) is
+
+  cell_at : (column : ℕ) → column < length d.values → slice_get (patched e.mask 0 d.values) column ≡ Some (cond (has_bit e.mask column) (Some (slice_index d.values column)) None)
+  cell_at column low = patched_at e.mask 0 d.values column low ∙ ap (λ (n : ℕ). Some (cond (has_bit e.mask n) (Some (slice_index d.values column)) None)) (let f : 0 + column ≡ column = omega arith in f)
+
+  pub put_acted : (columns : ℕ) (patch : List (Option ℕ)) (row : List Cell) → e.kind ≡ kinds.Put → row ≡ overlaid d.values patch → Acted d columns patch (Done (Some row))
+  put_acted columns patch row kind is older = ap (λ (r : List Cell). Some r) is ∙ ap (λ (a : Act). row_after (row_after older a) (Set patch)) (sym (kind_act kinds.Put kind))
+
+  pub del_acted : (columns : ℕ) (patch : List (Option ℕ)) → e.kind ≡ kinds.Del → Acted d columns patch (Done None)
+  del_acted columns patch kind older = ap (λ (a : Act). row_after (row_after older a) (Set patch)) (sym (kind_act kinds.Del kind))
+
+  pub set_acted : (columns : ℕ) (patch more : List (Option ℕ)) → e.kind ≡ kinds.Set → length patch ≡ columns → length d.values ≡ columns → more ≡ merged patch (patched e.mask 0 d.values) → Acted d columns patch (Older more)
+  set_acted columns patch more kind wide values is = (
+    ap length is ∙ (length-merged patch (patched e.mask 0 d.values) ∙ wide),
+    λ older. ap (λ (a : Act). row_after (row_after older a) (Set patch)) (kind_act kinds.Set kind) ∙ (set_twice older patch (patched e.mask 0 d.values) (wide ∙ sym (length-patched e.mask 0 d.values ∙ values)) ∙ ap (λ (q : List (Option ℕ)). row_after older (Set q)) (sym is)),
+  )
+
+  pub put_told : (columns column x : ℕ) → e.kind ≡ kinds.Put → x ≡ slice_index d.values column → Told d columns column (Some (Some x))
+  put_told columns column x kind is older wide fits = ap (λ (a : Act). cell_in column (row_after older a)) (kind_act kinds.Put kind) ∙ ap (λ (n : ℕ). Some n) (sym is)
+
+  pub del_told : (columns column : ℕ) → e.kind ≡ kinds.Del → Told d columns column (Some None)
+  del_told columns column kind older wide fits = ap (λ (a : Act). cell_in column (row_after older a)) (kind_act kinds.Del kind)
+
+  pub set_told : (columns column x : ℕ) → e.kind ≡ kinds.Set → column < columns → length d.values ≡ columns → has_bit e.mask column ≡ true → x ≡ slice_index d.values column → Told d columns column (Some (Some x))
+  set_told columns column x kind low values bit is older wide fits = ap (λ (a : Act). cell_in column (row_after older a)) (kind_act kinds.Set kind)
+      ∙ cell_set older (patched e.mask 0 d.values) columns column x wide low (set_fits older (patched e.mask 0 d.values) (subst (λ (a : Act). Fits older a) (kind_act kinds.Set kind) fits))
+      (cell_at column (omega arith) ∙ (λ i. Some (cond (bit i) (Some (sym is i)) None)))
+
+  pub set_untold : (columns column : ℕ) → e.kind ≡ kinds.Set → column < columns → length d.values ≡ columns → has_bit e.mask column ≡ false → Told d columns column None
+  set_untold columns column kind low values bit older = ap (λ (a : Act). cell_in column (row_after older a)) (kind_act kinds.Set kind)
+      ∙ cell_unset older (patched e.mask 0 d.values) column (cell_at column (omega arith) ∙ ap (λ (b : Bool). Some (cond b (Some (slice_index d.values column)) None)) bit)

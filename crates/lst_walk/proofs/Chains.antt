@@ -1,0 +1,65 @@
+-- The row of a chain, version by version.
+use Rattle.std.proofs.Common.{◌≡◌, ℕ, List, [], ◌∷◌, ◌++◌, Bool, true, false, cond, length, refl, sym, subst, ◌∙◌, true≢false}
+use Rattle.std.specs.Prelude.{Option, None, Some, is_some}
+use Rattle.lst_layout.specs.declared.limits.Limits.{Limits}
+use Rattle.lst_model.specs.declared.acts.Act.{Act}
+use Rattle.lst_model.specs.declared.acts.Act.TheVariants.{Set}
+use Rattle.lst_model.specs.Cells.{Cell}
+use Rattle.lst_model.specs.Histories.{row_after, row_from}
+use Rattle.lst_model.specs.Soundness.{Fits, FitInTurn}
+use Rattle.lst_model.proofs.Folds.{row_from-append}
+use Rattle.lst_core_state.specs.declared.known.Known.{Known}
+use Rattle.lst_bits.specs.declared.encodings.Kind.{Kind}
+use Rattle.lst_bits.specs.declared.encodings.Kind.TheVariants as kinds
+use Rattle.lst_bits.specs.Encodings.{encoding_of}
+use Rattle.lst_sights.specs.Copies.{Version, AreVersionsOf}
+use Rattle.lst_sights.specs.Seen.{sees, act_by, seen_acts}
+use Rattle.lst_walk.specs.Patches.{act_for, seen_after, IsWide}
+use Rattle.lst_walk.proofs.Lists.{length-overlaid}
+use Rattle.lst_walk.proofs.Meanings.{act_is}
+use Rattle.std.specs.Prelude.{slice_index}
+
+-- the newest version acts on the row of the older ones
+pub row_step : (v : Known) (s : ℕ) (c : Version) (cs : List Version) → row_from None (seen_acts v s (c ∷ cs)) ≡ seen_after v s c (row_from None (seen_acts v s cs))
+row_step v s c cs = choose (sees v s c.writer)
+  where
+    choose : (b : Bool) → row_from None (cond b (seen_acts v s cs ++ act_by c ∷ []) (seen_acts v s cs)) ≡ cond b (row_after (row_from None (seen_acts v s cs)) (act_by c)) (row_from None (seen_acts v s cs))
+    choose true = row_from-append None (seen_acts v s cs) (act_by c ∷ [])
+    choose false = refl
+
+turn_front : (row : Option (List Cell)) (xs ys : List Act) → FitInTurn row (xs ++ ys) → FitInTurn row xs
+turn_front row [] ys turn = tt
+turn_front row (x ∷ xs) ys turn = (turn.0, turn_front (row_after row x) xs ys turn.1)
+
+turn_last : (row : Option (List Cell)) (xs : List Act) (a : Act) → FitInTurn row (xs ++ a ∷ []) → Fits (row_from row xs) a
+turn_last row [] a turn = turn.0
+turn_last row (x ∷ xs) a turn = turn_last (row_after row x) xs a turn.1
+
+-- the acts of the older versions fit, and what is seen of the newest fits the row that they make
+pub fit_step : (v : Known) (s : ℕ) (c : Version) (cs : List Version) → FitInTurn None (seen_acts v s (c ∷ cs)) → FitInTurn None (seen_acts v s cs) × (sees v s c.writer ≡ true → Fits (row_from None (seen_acts v s cs)) (act_by c))
+fit_step v s c cs = choose (sees v s c.writer)
+  where
+    choose : (b : Bool) → FitInTurn None (cond b (seen_acts v s cs ++ act_by c ∷ []) (seen_acts v s cs)) → FitInTurn None (seen_acts v s cs) × (b ≡ true → Fits (row_from None (seen_acts v s cs)) (act_by c))
+    choose true turn = (turn_front None (seen_acts v s cs) (act_by c ∷ []) turn, λ _. turn_last None (seen_acts v s cs) (act_by c) turn)
+    choose false turn = (turn, λ e. absurd (true≢false (sym e)))
+
+-- a set fits a row only
+pub set_fits : (row : Option (List Cell)) (patch : List (Option ℕ)) → Fits row (Set patch) → is_some row ≡ true
+set_fits None patch fit = absurd fit
+set_fits (Some row) patch fit = refl
+
+-- rows have as many columns as the table
+wide_for : (columns mask : ℕ) (kind : Kind) (values : List ℕ) (row : Option (List Cell)) → length values ≡ columns → IsWide columns row → IsWide columns (row_after row (act_for kind mask values))
+wide_for columns mask kinds.Put values row wide is = wide
+wide_for columns mask kinds.Set values None wide is = tt
+wide_for columns mask kinds.Set values (Some row) wide is = length-overlaid row _ ∙ is
+wide_for columns mask kinds.Del values row wide is = tt
+
+pub wide_row : (l : Limits) (rec : ℕ) (v : Known) (s : ℕ) (cs : List Version) → AreVersionsOf l rec cs → IsWide l.columns (row_from None (seen_acts v s cs))
+wide_row l rec v s [] are = tt
+wide_row l rec v s (c ∷ cs) are = subst (λ (r : Option (List Cell)). IsWide l.columns r) (sym (row_step v s c cs)) (choose (sees v s c.writer) (wide_row l rec v s cs are.1))
+  where
+    choose : (b : Bool) → IsWide l.columns (row_from None (seen_acts v s cs)) → IsWide l.columns (cond b (row_after (row_from None (seen_acts v s cs)) (act_by c)) (row_from None (seen_acts v s cs)))
+    choose true is = subst (λ (a : Act). IsWide l.columns (row_after (row_from None (seen_acts v s cs)) a)) (sym (act_is l.columns c.encoding (λ i. slice_index c.values i) c.values are.0.cell))
+        (wide_for l.columns (encoding_of c.encoding).mask (encoding_of c.encoding).kind c.values (row_from None (seen_acts v s cs)) are.0.wide is)
+    choose false is = is

@@ -1,0 +1,128 @@
+-- Rows and patches as lists.
+use Rattle.std.proofs.Common.{◌≡◌, ℕ, zero, suc, ◌+◌, ◌<◌, ◌≤◌, List, [], ◌∷◌, ◌++◌, true, cond, length, take, refl, sym, ap, ◌∙◌, arith, true≢false}
+use Rattle.std.specs.Prelude.{Option, None, Some, is_some, slice_index, slice_get, unwrap_or, replicate}
+use Rattle.lst_model.specs.declared.acts.Act.TheVariants.{Set}
+use Rattle.lst_model.specs.Cells.{Cell, overlaid}
+use Rattle.lst_model.specs.Histories.{row_after}
+use Rattle.lst_core_state.specs.Cells.{patched, has_bit}
+use Rattle.lst_walk.specs.Patches.{newest, merged, cell_in, IsWide}
+
+none_some : {A B : Type 0} (x : A) → None ≡ Some x → B
+none_some x e = absurd (true≢false (sym (ap is_some e)))
+
+-- ---- one more element
+
+take_next : {A : Type 0} (k : ℕ) (ys : List A) (x : A) → slice_get ys k ≡ Some x → take k ys ++ x ∷ [] ≡ take (suc k) ys
+take_next zero [] x at = none_some x at
+take_next zero (y ∷ ys) x at = ap (λ z. z ∷ []) (sym (ap (λ o. unwrap_or o x) at))
+take_next (suc k) [] x at = none_some x at
+take_next (suc k) (y ∷ ys) x at = ap (λ zs. y ∷ zs) (take_next k ys x at)
+
+pub take_more : {A : Type 0} (xs ys : List A) (k : ℕ) (x : A) → xs ≡ take k ys → slice_get ys k ≡ Some x → xs ++ x ∷ [] ≡ take (k + 1) ys
+take_more {A} xs ys k x is at = ap (λ (zs : List A). zs ++ x ∷ []) is ∙ (take_next k ys x at ∙ ap (λ (n : ℕ). take n ys) (let e : suc k ≡ k + 1 = omega arith in e))
+
+pub take_whole : {A : Type 0} (ys : List A) (n : ℕ) → length ys ≤ n → take n ys ≡ ys
+take_whole [] zero low = refl
+take_whole [] (suc n) low = refl
+take_whole (y ∷ ys) zero low = absurd (omega arith)
+take_whole (y ∷ ys) (suc n) low = ap (λ zs. y ∷ zs) (take_whole ys n (omega arith))
+
+-- ---- lengths
+
+pub length-overlaid : (row : List ℕ) (patch : List (Option ℕ)) → length (overlaid row patch) ≡ length row
+length-overlaid [] patch = refl
+length-overlaid (cell ∷ row) [] = refl
+length-overlaid (cell ∷ row) (x ∷ patch) = ap suc (length-overlaid row patch)
+
+pub length-merged : (newer older : List (Option ℕ)) → length (merged newer older) ≡ length newer
+length-merged [] older = refl
+length-merged (x ∷ newer) [] = refl
+length-merged (x ∷ newer) (y ∷ older) = ap suc (length-merged newer older)
+
+pub length-patched : (mask c : ℕ) (values : List ℕ) → length (patched mask c values) ≡ length values
+length-patched mask c [] = refl
+length-patched mask c (x ∷ values) = ap suc (length-patched mask (suc c) values)
+
+pub length-unset : (n : ℕ) → length {A = Option ℕ} (replicate n None) ≡ n
+length-unset zero = refl
+length-unset (suc n) = ap suc (length-unset n)
+
+-- ---- elements
+
+pub overlaid_at : (row : List ℕ) (patch : List (Option ℕ)) (k : ℕ) (o : Option ℕ) → k < length row → slice_get patch k ≡ Some o → slice_get (overlaid row patch) k ≡ Some (unwrap_or o (slice_index row k))
+overlaid_at [] patch k o low at = absurd (omega arith)
+overlaid_at (cell ∷ row) [] zero o low at = none_some o at
+overlaid_at (cell ∷ row) [] (suc k) o low at = none_some o at
+overlaid_at (cell ∷ row) (x ∷ patch) zero o low at = ap (λ y. Some (unwrap_or y cell)) (ap (λ p. unwrap_or p o) at)
+overlaid_at (cell ∷ row) (x ∷ patch) (suc k) o low at = overlaid_at row patch k o (omega arith) at
+
+pub merged_at : (newer older : List (Option ℕ)) (k : ℕ) (a b : Option ℕ) → slice_get newer k ≡ Some a → slice_get older k ≡ Some b → slice_get (merged newer older) k ≡ Some (newest a b)
+merged_at [] older k a b at below = none_some a at
+merged_at (x ∷ newer) [] zero a b at below = none_some b below
+merged_at (x ∷ newer) [] (suc k) a b at below = none_some b below
+merged_at (x ∷ newer) (y ∷ older) zero a b at below = λ i. Some (newest (ap (λ p. unwrap_or p a) at i) (ap (λ p. unwrap_or p b) below i))
+merged_at (x ∷ newer) (y ∷ older) (suc k) a b at below = merged_at newer older k a b at below
+
+pub patched_at : (mask c : ℕ) (values : List ℕ) (k : ℕ) → k < length values → slice_get (patched mask c values) k ≡ Some (cond (has_bit mask (c + k)) (Some (slice_index values k)) None)
+patched_at mask c [] k low = absurd (omega arith)
+patched_at mask c (x ∷ values) zero low = ap (λ (n : ℕ). Some (cond (has_bit mask n) (Some x) None)) (let e : c ≡ c + zero = omega arith in e)
+patched_at mask c (x ∷ values) (suc k) low = patched_at mask (suc c) values k (omega arith) ∙ ap (λ (n : ℕ). Some (cond (has_bit mask n) (Some (slice_index values k)) None)) (let e : suc c + k ≡ c + suc k = omega arith in e)
+
+-- ---- rows under patches
+
+newest_cell : (a b : Option ℕ) (cell : ℕ) → unwrap_or b (unwrap_or a cell) ≡ unwrap_or (newest b a) cell
+newest_cell a None cell = refl
+newest_cell a (Some x) cell = refl
+
+overlaid_twice : (row : List ℕ) (newer older : List (Option ℕ)) → length newer ≡ length older → overlaid (overlaid row older) newer ≡ overlaid row (merged newer older)
+overlaid_twice [] newer older same = refl
+overlaid_twice (cell ∷ row) [] [] same = refl
+overlaid_twice (cell ∷ row) [] (a ∷ older) same = absurd (omega arith)
+overlaid_twice (cell ∷ row) (b ∷ newer) [] same = absurd (omega arith)
+overlaid_twice (cell ∷ row) (b ∷ newer) (a ∷ older) same = λ i. newest_cell a b cell i ∷ overlaid_twice row newer older (let e : length newer ≡ length older = omega arith in e) i
+
+pub set_twice : (row : Option (List Cell)) (newer older : List (Option ℕ)) → length newer ≡ length older → row_after (row_after row (Set older)) (Set newer) ≡ row_after row (Set (merged newer older))
+set_twice None newer older same = refl
+set_twice (Some row) newer older same = ap (λ (r : List ℕ). Some r) (overlaid_twice row newer older same)
+
+overlaid_unset : (row : List ℕ) (n : ℕ) → overlaid row (replicate n None) ≡ row
+overlaid_unset [] n = refl
+overlaid_unset (cell ∷ row) zero = refl
+overlaid_unset (cell ∷ row) (suc n) = ap (λ (r : List ℕ). cell ∷ r) (overlaid_unset row n)
+
+pub set_unset : (row : Option (List Cell)) (n : ℕ) → row_after row (Set (replicate n None)) ≡ row
+set_unset None n = refl
+set_unset (Some row) n = ap (λ (r : List ℕ). Some r) (overlaid_unset row n)
+
+-- ---- one column
+
+index_unset : (row : List ℕ) (patch : List (Option ℕ)) (k : ℕ) → slice_get patch k ≡ Some None → slice_index (overlaid row patch) k ≡ slice_index row k
+index_unset [] patch k at = refl
+index_unset (cell ∷ row) [] k at = refl
+index_unset (cell ∷ row) (x ∷ patch) zero at = ap (λ o. unwrap_or o cell) (ap (λ p. unwrap_or p x) at)
+index_unset (cell ∷ row) (x ∷ patch) (suc k) at = index_unset row patch k at
+
+index_set : (row : List ℕ) (patch : List (Option ℕ)) (k x : ℕ) → k < length row → slice_get patch k ≡ Some (Some x) → slice_index (overlaid row patch) k ≡ x
+index_set [] patch k x low at = absurd (omega arith)
+index_set (cell ∷ row) [] zero x low at = none_some (Some x) at
+index_set (cell ∷ row) [] (suc k) x low at = none_some (Some x) at
+index_set (cell ∷ row) (y ∷ patch) zero x low at = ap (λ o. unwrap_or o cell) (ap (λ p. unwrap_or p y) at)
+index_set (cell ∷ row) (y ∷ patch) (suc k) x low at = index_set row patch k x (omega arith) at
+
+pub cell_unset : (row : Option (List Cell)) (patch : List (Option ℕ)) (k : ℕ) → slice_get patch k ≡ Some None → cell_in k (row_after row (Set patch)) ≡ cell_in k row
+cell_unset None patch k at = refl
+cell_unset (Some row) patch k at = ap (λ (n : ℕ). Some n) (index_unset row patch k at)
+
+pub cell_set : (row : Option (List Cell)) (patch : List (Option ℕ)) (columns k x : ℕ) → IsWide columns row → k < columns → is_some row ≡ true → slice_get patch k ≡ Some (Some x) → cell_in k (row_after row (Set patch)) ≡ Some x
+cell_set None patch columns k x wide low some at = absurd (true≢false (sym some))
+cell_set (Some row) patch columns k x wide low some at = let w : length row ≡ columns = wide in ap (λ (n : ℕ). Some n) (index_set row patch k x (omega arith) at)
+
+pub replicate_more : {A : Type 0} (x : A) (n : ℕ) (items more : List A) → items ≡ replicate n x → more ≡ items ++ x ∷ [] → more ≡ replicate (n + 1) x
+replicate_more {A} x n items more is new = new ∙ (ap (λ (xs : List A). xs ++ x ∷ []) is ∙ (next n ∙ ap (λ (k : ℕ). replicate k x) (let e : suc n ≡ n + 1 = omega arith in e)))
+  where
+    next : (k : ℕ) → replicate k x ++ x ∷ [] ≡ replicate (suc k) x
+    next zero = refl
+    next (suc k) = ap (λ (xs : List A). x ∷ xs) (next k)
+
+pub patched_first : (mask : ℕ) (values : List ℕ) (k : ℕ) → k < length values → slice_get (patched mask 0 values) k ≡ Some (cond (has_bit mask k) (Some (slice_index values k)) None)
+patched_first mask values k low = patched_at mask 0 values k low ∙ ap (λ (n : ℕ). Some (cond (has_bit mask n) (Some (slice_index values k)) None)) (let f : 0 + k ≡ k = omega arith in f)

@@ -1,0 +1,160 @@
+-- One version after the other.
+use Rattle.std.proofs.Common.{◌≡◌, ℕ, ◌+◌, ◌*◌, ◌/◌, ◌<◌, ◌≤◌, List, ◌∷◌, Bool, true, false, cond, length, sym, subst, ap, ◌∙◌, arith}
+use Rattle.std.specs.Prelude.{Option, None, Some, replicate}
+use Rattle.lst_layout.specs.declared.limits.Limits.{Limits}
+use Rattle.lst_model.specs.declared.acts.Act.{Act}
+use Rattle.lst_model.specs.declared.acts.Act.TheVariants.{Set}
+use Rattle.lst_model.specs.Cells.{Cell}
+use Rattle.lst_model.specs.Histories.{row_after, row_from}
+use Rattle.lst_model.specs.Soundness.{FitInTurn}
+use Rattle.lst_core_state.specs.declared.known.Known.{Known}
+use Rattle.lst_core_state.specs.declared.facts.Fact.TheVariants.{IndexAt}
+use Rattle.lst_core_state.specs.Cells.{record_count}
+use Rattle.lst_core_state.specs.State.{sight}
+use Rattle.lst_rule.specs.declared.view.View.{View}
+use Rattle.lst_rule.specs.Rule.{knows, hosts}
+use Rattle.lst_rule.specs.Learned.{Possible}
+use Rattle.lst_seat.specs.declared.store.Store.{Store}
+use Rattle.lst_seat.specs.Seats.{Sitting}
+use Rattle.lst_sights.specs.Copies.{Version, IsVersionOf, IsChainFrom}
+use Rattle.lst_sights.specs.Seen.{sees, act_by, seen_acts, HasKey}
+use Rattle.lst_sights.specs.Loads.{ChainFound}
+use Rattle.lst_sights.specs.Watching.{Watched}
+use Rattle.lst_sights.specs.Laws.{FromNumber, KeptBy}
+use Rattle.lst_sights.proofs.Copying.{chains_are_walked, chain_stays}
+use Rattle.lst_sights.proofs.Seeing.{same_acts, same_sight}
+use Rattle.lst_sights.proofs.Turns.{sights_fit}
+use Rattle.lst_sights.proofs.Watching.{watchers_keep}
+use Rattle.lst_walk.specs.Readers.{IsReader, IsAt, HasVersion}
+use Rattle.lst_walk.specs.Patches.{seen_after, cell_in}
+use Rattle.lst_walk.specs.Walks.{IsRowOf, IsCellOf, Visited, Acted, Tells, Told, RowWalk, CellWalk}
+use Rattle.lst_walk.specs.declared.rows.Visit.{Visit}
+use Rattle.lst_walk.specs.declared.rows.Visit.TheVariants.{Done, Older}
+use Rattle.lst_walk.proofs.Reading.{watched_on, facts_on, sees_on}
+use Rattle.lst_walk.proofs.Lists.{set_unset, length-unset}
+use Rattle.lst_walk.proofs.Chains.{row_step, fit_step, wide_row}
+
+-- ---- the version at a number
+
+module _ (store : Store) (seat : Sitting) (s rec n : ℕ) (reader : IsReader store seat s) (versions : List Version) (chain : IsChainFrom store.layout.limits (knows seat.view s).facts rec n versions) (some : 0 < n) where
+  first : FromNumber store.layout.limits (knows seat.view s).facts rec n versions
+  first = chains_are_walked store.layout.limits (knows seat.view s).facts rec n versions chain
+
+  pub number_few : n ≤ store.layout.limits.tails
+  number_few = (first.some some).6
+
+  pub at_number : (range t : ℕ) → range ≡ rec / 256 → t ≡ range * store.layout.limits.tails + n → (c : Version) × (older : List Version) × (versions ≡ c ∷ older) × IsAt seat.view s t c × (c.back < n) × IsChainFrom store.layout.limits (knows seat.view s).facts rec c.back older
+  at_number range t e is = let q = first.some some in (
+    q.0,
+    q.1,
+    q.2,
+    record { rec = rec; is = subst (λ (l : Limits). IsVersionOf l rec q.0) (sym reader.seat_of.limits) q.3; known = q.4; at = q.5 ∙ (ap (λ (k : ℕ). k * store.layout.limits.tails + n) (sym e) ∙ sym is) },
+    q.7,
+    q.8,
+  )
+
+  pub version_number : (range t : ℕ) → range ≡ rec / 256 → t ≡ range * store.layout.limits.tails + n → HasVersion seat.view s t
+  version_number range t e is = let q = at_number range t e is in (q.0, q.3)
+
+pub range_low : (l : Limits) (rec range : ℕ) → rec < record_count l → range ≡ rec / 256 → range < l.ranges
+range_low l rec range low e = omega arith
+
+-- ---- seen or not
+
+pub seen_visited : (v : Known) (s : ℕ) (c : Version) (columns : ℕ) (patch : List (Option ℕ)) (r : Visit) → sees v s c.writer ≡ true → Acted c columns patch r → Visited v s c columns patch r
+seen_visited v s c columns patch (Done row) seen acted = λ older. acted older ∙ ap (λ (b : Bool). row_after (cond b (row_after older (act_by c)) older) (Set patch)) (sym seen)
+seen_visited v s c columns patch (Older more) seen acted = (acted.0, λ older. ap (λ (b : Bool). row_after (cond b (row_after older (act_by c)) older) (Set patch)) seen ∙ acted.1 older)
+
+pub unseen_visited : (v : Known) (s : ℕ) (c : Version) (columns : ℕ) (patch : List (Option ℕ)) → sees v s c.writer ≡ false → length patch ≡ columns → Visited v s c columns patch (Older patch)
+unseen_visited v s c columns patch unseen wide = (wide, λ older. ap (λ (b : Bool). row_after (cond b (row_after older (act_by c)) older) (Set patch)) unseen)
+
+pub seen_tells : (v : Known) (s : ℕ) (c : Version) (columns column : ℕ) (r : Option (Option ℕ)) → sees v s c.writer ≡ true → Told c columns column r → Tells v s c columns column r
+seen_tells v s c columns column None seen told = λ older. ap (λ (b : Bool). cell_in column (cond b (row_after older (act_by c)) older)) seen ∙ told older
+seen_tells v s c columns column (Some held) seen told = λ older wide fits. ap (λ (b : Bool). cell_in column (cond b (row_after older (act_by c)) older)) seen ∙ told older wide (fits seen)
+
+pub unseen_tells : (v : Known) (s : ℕ) (c : Version) (columns column : ℕ) → sees v s c.writer ≡ false → Tells v s c columns column None
+unseen_tells v s c columns column unseen = λ older. ap (λ (b : Bool). cell_in column (cond b (row_after older (act_by c)) older)) unseen
+
+-- ---- walks
+
+-- the chain that the head's load found, and its sight
+module _ (store : Store) (v : View) (seat : Sitting) (s rec head : ℕ) (p : Possible v) (host : hosts v s ≡ true) (opened : (knows v s).is_open ≡ true) (reader : IsReader store seat s) (watched : Watched v seat.view s) (found : ChainFound store.layout.limits (knows seat.view s) s rec head) where
+  kept : KeptBy (knows v s) (knows seat.view s)
+  kept = watchers_keep v seat.view s p host opened watched
+
+  copy_sight : (key : ℕ) → HasKey (knows v s).facts rec key → sight (knows v s) key ≡ seen_acts (knows v s) s found.copy
+  copy_sight key has = sym (same_sight (knows v s) (knows seat.view s) key kept.alike) ∙ (sym (found.sight key reader.opened (has.0, kept.facts (IndexAt has.0 rec key) has.1)) ∙ same_acts (knows v s) (knows seat.view s) s found.copy kept.alike)
+
+  pub row_start : (patch : List (Option ℕ)) → patch ≡ replicate store.layout.limits.columns None → RowWalk store v seat s rec head patch
+  row_start patch is = record {
+    reader = reader;
+    possible = p;
+    watched = watched;
+    wide = ap length is ∙ length-unset store.layout.limits.columns;
+    versions = found.copy;
+    chain = found.is.chain;
+    answers = λ key has. ap (row_from None) (copy_sight key has) ∙ (sym (set_unset (row_from None (seen_acts (knows v s) s found.copy)) store.layout.limits.columns) ∙ ap (λ (q : List (Option ℕ)). row_after (row_from None (seen_acts (knows v s) s found.copy)) (Set q)) (sym is));
+  }
+
+  pub cell_start : (column : ℕ) → CellWalk store v seat s rec column head
+  cell_start column = record {
+    reader = reader;
+    possible = p;
+    watched = watched;
+    versions = found.copy;
+    chain = found.is.chain;
+    fits = λ key has. subst (λ (xs : List Act). FitInTurn None xs) (copy_sight key has) (sights_fit v s rec key p host opened has);
+    answers = λ key has. ap (λ (xs : List Act). cell_in column (row_from None xs)) (copy_sight key has);
+  }
+
+-- one version, at the seat a; the loads of the visit led to b, and those of the back word to d
+module _ (store : Store) (v : View) (a b d : Sitting) (s rec n range t m : ℕ) (host : hosts v s ≡ true) (opened : (knows v s).is_open ≡ true) (some : 0 < n) (range_is : range ≡ rec / 256) (tail_is : t ≡ range * store.layout.limits.tails + n) where
+  seen_same : Possible v → Watched v a.view s → (c : Version) (older : Option (List Cell)) → seen_after (knows a.view s) s c older ≡ seen_after (knows v s) s c older
+  seen_same p watched c older = ap (λ (e : Bool). cond e (row_after older (act_by c)) older) (sees_on v a.view s c.writer p host opened watched)
+
+  pub row_next : (patch more : List (Option ℕ)) → RowWalk store v a s rec n patch → Watched a.view b.view s → ((c : Version) → IsAt a.view s t c → Visited (knows a.view s) s c store.layout.limits.columns patch (Older more))
+      → IsReader store d s → Watched b.view d.view s → ((c : Version) → IsAt a.view s t c → m ≡ c.back) → RowWalk store v d s rec m more
+  row_next patch more walk ab visited reader bd back = let q = at_number store a s rec n walk.reader walk.versions walk.chain some range t range_is tail_is in let ad = watched_on a.view b.view d.view s ab bd in let vis = visited q.0 q.3 in record {
+    reader = reader;
+    possible = walk.possible;
+    watched = watched_on v a.view d.view s walk.watched ad;
+    wide = vis.0;
+    versions = q.1;
+    chain = subst (λ (k : ℕ). IsChainFrom store.layout.limits (knows d.view s).facts rec k q.1) (sym (back q.0 q.3)) (chain_stays store.layout.limits (knows a.view s).facts (knows d.view s).facts rec q.0.back q.1 (facts_on a.view d.view s ad) q.5);
+    answers = λ key has. let older : Option (List Cell) = row_from None (seen_acts (knows v s) s q.1) in walk.answers key has ∙ (ap (λ (cs : List Version). row_after (row_from None (seen_acts (knows v s) s cs)) (Set patch)) q.2
+        ∙ (ap (λ (r : Option (List Cell)). row_after r (Set patch)) (row_step (knows v s) s q.0 q.1 ∙ sym (seen_same walk.possible walk.watched q.0 older)) ∙ vis.1 older));
+  }
+
+  pub row_done : (patch : List (Option ℕ)) (row : Option (List Cell)) → RowWalk store v a s rec n patch → ((c : Version) → IsAt a.view s t c → Visited (knows a.view s) s c store.layout.limits.columns patch (Done row)) → IsRowOf v s rec row
+  row_done patch row walk visited key has = let q = at_number store a s rec n walk.reader walk.versions walk.chain some range t range_is tail_is in let older : Option (List Cell) = row_from None (seen_acts (knows v s) s q.1) in
+      visited q.0 q.3 older ∙ sym (walk.answers key has ∙ (ap (λ (cs : List Version). row_after (row_from None (seen_acts (knows v s) s cs)) (Set patch)) q.2
+      ∙ ap (λ (r : Option (List Cell)). row_after r (Set patch)) (row_step (knows v s) s q.0 q.1 ∙ sym (seen_same walk.possible walk.watched q.0 older))))
+
+  pub cell_next : (column : ℕ) → CellWalk store v a s rec column n → Watched a.view b.view s → ((c : Version) → IsAt a.view s t c → Tells (knows a.view s) s c store.layout.limits.columns column None)
+      → IsReader store d s → Watched b.view d.view s → ((c : Version) → IsAt a.view s t c → m ≡ c.back) → CellWalk store v d s rec column m
+  cell_next column walk ab tells reader bd back = let q = at_number store a s rec n walk.reader walk.versions walk.chain some range t range_is tail_is in let ad = watched_on a.view b.view d.view s ab bd in record {
+    reader = reader;
+    possible = walk.possible;
+    watched = watched_on v a.view d.view s walk.watched ad;
+    versions = q.1;
+    chain = subst (λ (k : ℕ). IsChainFrom store.layout.limits (knows d.view s).facts rec k q.1) (sym (back q.0 q.3)) (chain_stays store.layout.limits (knows a.view s).facts (knows d.view s).facts rec q.0.back q.1 (facts_on a.view d.view s ad) q.5);
+    fits = λ key has. (fit_step (knows v s) s q.0 q.1 (subst (λ (cs : List Version). FitInTurn None (seen_acts (knows v s) s cs)) q.2 (walk.fits key has))).0;
+    answers = λ key has. let older : Option (List Cell) = row_from None (seen_acts (knows v s) s q.1) in walk.answers key has ∙ (ap (λ (cs : List Version). cell_in column (row_from None (seen_acts (knows v s) s cs))) q.2
+        ∙ (ap (cell_in column) (row_step (knows v s) s q.0 q.1 ∙ sym (seen_same walk.possible walk.watched q.0 older)) ∙ tells q.0 q.3 older));
+  }
+
+  pub cell_done : (column : ℕ) (held : Option ℕ) → CellWalk store v a s rec column n → ((c : Version) → IsAt a.view s t c → Tells (knows a.view s) s c store.layout.limits.columns column (Some held)) → IsCellOf v s rec column held
+  cell_done column held walk tells key has = let q = at_number store a s rec n walk.reader walk.versions walk.chain some range t range_is tail_is in let older : Option (List Cell) = row_from None (seen_acts (knows v s) s q.1) in
+      let fits = (fit_step (knows v s) s q.0 q.1 (subst (λ (cs : List Version). FitInTurn None (seen_acts (knows v s) s cs)) q.2 (walk.fits key has))).1 in
+      sym (walk.answers key has ∙ (ap (λ (cs : List Version). cell_in column (row_from None (seen_acts (knows v s) s cs))) q.2
+      ∙ (ap (cell_in column) (row_step (knows v s) s q.0 q.1 ∙ sym (seen_same walk.possible walk.watched q.0 older))
+      ∙ tells q.0 q.3 older (wide_row store.layout.limits rec (knows v s) s q.1 q.5.whole) (λ e. fits (sym (sees_on v a.view s q.0.writer walk.possible host opened walk.watched) ∙ e)))))
+
+-- the chain's end
+pub row_over : (store : Store) (v : View) (a : Sitting) (s rec n : ℕ) (patch : List (Option ℕ)) → n ≤ 0 → RowWalk store v a s rec n patch → IsRowOf v s rec None
+row_over store v a s rec n patch none walk key has = let empty = (chains_are_walked store.layout.limits (knows a.view s).facts rec n walk.versions walk.chain).none (omega arith) in
+    sym (walk.answers key has ∙ ap (λ (cs : List Version). row_after (row_from None (seen_acts (knows v s) s cs)) (Set patch)) empty)
+
+pub cell_over : (store : Store) (v : View) (a : Sitting) (s rec column n : ℕ) → n ≤ 0 → CellWalk store v a s rec column n → IsCellOf v s rec column None
+cell_over store v a s rec column n none walk key has = let empty = (chains_are_walked store.layout.limits (knows a.view s).facts rec n walk.versions walk.chain).none (omega arith) in
+    sym (walk.answers key has ∙ ap (λ (cs : List Version). cell_in column (row_from None (seen_acts (knows v s) s cs))) empty)

@@ -1,0 +1,21 @@
+use Rattle.std.proofs.Common.{sym, ◌∙◌}
+use Rattle.lst_rule.specs.Rule.{knows}
+use Rattle.lst_walk.proofs.Reading.{at_on, version_on, watched_on}
+use Rattle.lst_walk.proofs.Stamping.{at_same, has_same}
+use Rattle.lst_walk.proofs.Walking.{seen_tells, unseen_tells}
+use Rattle.lst_walk.proofs.columns.held.Goals as goal
+
+pub told-requires-clause-reader : goal.told-requires-clause-reader
+told-requires-clause-reader c = c.is_seen.ensures.reader
+
+pub told-requires-clause-version : goal.told-requires-clause-version
+told-requires-clause-version c = has_same c.is_seen.new.seat.view c.args.s _ c.tail_of.result (sym c.tail_of.ensures) (version_on c.args.seat.now.view c.is_seen.new.seat.view c.args.s _ c.is_seen.ensures.watched c.requires.version)
+
+pub returns-then-is_seen-clause-watched : goal.returns-then-is_seen-clause-watched
+returns-then-is_seen-clause-watched c = watched_on c.args.seat.now.view c.is_seen.new.seat.view c.told.new.seat.view c.args.s c.is_seen.ensures.watched c.told.ensures.watched
+
+pub returns-then-is_seen-clause-tells : goal.returns-then-is_seen-clause-tells
+returns-then-is_seen-clause-tells c = λ d at. seen_tells (knows c.args.seat.now.view c.args.s) c.args.s d c.args.store.now.layout.limits.columns c.args.column c.told.result (sym (c.is_seen.ensures.seen d at) ∙ c.if-is_seen.true) (c.told.ensures.told d (at_same c.is_seen.new.seat.view c.args.s _ c.tail_of.result d (sym c.tail_of.ensures) (at_on c.args.seat.now.view c.is_seen.new.seat.view c.args.s _ d c.is_seen.ensures.watched at)))
+
+pub returns-else-is_seen-clause-tells : goal.returns-else-is_seen-clause-tells
+returns-else-is_seen-clause-tells c = λ d at. unseen_tells (knows c.args.seat.now.view c.args.s) c.args.s d c.args.store.now.layout.limits.columns c.args.column (sym (c.is_seen.ensures.seen d at) ∙ c.if-is_seen.false)

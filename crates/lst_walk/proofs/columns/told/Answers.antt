@@ -1,0 +1,32 @@
+use Rattle.std.proofs.Common.{refl, sym, true≢false}
+use Rattle.lst_walk.proofs.Reading.{at_on, watched_on, version_on}
+use Rattle.lst_walk.proofs.Acting.{bit_set, bit_clear, columns_of, put_told, del_told, set_told, set_untold}
+use Rattle.lst_walk.proofs.columns.told.Goals as goal
+
+pub returns-in-Put-clause-told : goal.returns-in-Put-clause-told
+returns-in-Put-clause-told c = λ d at. put_told d c.encoding-encoding.result (c.encoding-encoding.ensures.act d at) c.args.store.now.layout.limits.columns c.args.column c.value.result c.in-Put.is
+    (c.value.ensures.value d (at_on c.args.seat.now.view c.encoding-encoding.new.seat.view c.args.s c.args.tail d c.encoding-encoding.ensures.watched at))
+
+pub returns-in-Del-clause-told : goal.returns-in-Del-clause-told
+returns-in-Del-clause-told c = λ d at. del_told d c.encoding-encoding.result (c.encoding-encoding.ensures.act d at) c.args.store.now.layout.limits.columns c.args.column c.in-Del.is
+
+pub returns-then-has_column-clause-told : goal.returns-then-has_column-clause-told
+returns-then-has_column-clause-told c = λ d at. set_told d c.encoding-encoding.result (c.encoding-encoding.ensures.act d at) c.args.store.now.layout.limits.columns c.args.column c.value-then-has_column.result c.in-Set.is c.requires.column
+    (columns_of c.args.store.now.layout.limits c.args.seat.now.view c.args.s c.args.tail d c.requires.reader.seat_of.limits at) (bit_set c.encoding-encoding.result.mask c.args.column (c.if-has_column.ensures.0 refl))
+    (c.value-then-has_column.ensures.value d (at_on c.args.seat.now.view c.encoding-encoding.new.seat.view c.args.s c.args.tail d c.encoding-encoding.ensures.watched at))
+
+pub returns-else-has_column-clause-told : goal.returns-else-has_column-clause-told
+returns-else-has_column-clause-told c = λ d at. set_untold d c.encoding-encoding.result (c.encoding-encoding.ensures.act d at) c.args.store.now.layout.limits.columns c.args.column c.in-Set.is c.requires.column
+    (columns_of c.args.store.now.layout.limits c.args.seat.now.view c.args.s c.args.tail d c.requires.reader.seat_of.limits at) (bit_clear c.encoding-encoding.result.mask c.args.column (λ h. true≢false (sym (c.if-has_column.ensures.1 h))))
+
+pub value-requires-clause-version : goal.value-requires-clause-version
+value-requires-clause-version c = version_on c.args.seat.now.view c.encoding-encoding.new.seat.view c.args.s c.args.tail c.encoding-encoding.ensures.watched c.requires.version
+
+pub value-requires-then-has_column-clause-version : goal.value-requires-then-has_column-clause-version
+value-requires-then-has_column-clause-version c = version_on c.args.seat.now.view c.encoding-encoding.new.seat.view c.args.s c.args.tail c.encoding-encoding.ensures.watched c.requires.version
+
+pub returns-then-has_column-clause-watched : goal.returns-then-has_column-clause-watched
+returns-then-has_column-clause-watched c = watched_on c.args.seat.now.view c.encoding-encoding.new.seat.view c.value-then-has_column.new.seat.view c.args.s c.encoding-encoding.ensures.watched c.value-then-has_column.ensures.watched
+
+pub returns-in-Put-clause-watched : goal.returns-in-Put-clause-watched
+returns-in-Put-clause-watched c = watched_on c.args.seat.now.view c.encoding-encoding.new.seat.view c.value.new.seat.view c.args.s c.encoding-encoding.ensures.watched c.value.ensures.watched

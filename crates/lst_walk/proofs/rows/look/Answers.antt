@@ -1,0 +1,21 @@
+use Rattle.std.proofs.Common.{sym, ◌∙◌}
+use Rattle.lst_rule.specs.Rule.{knows}
+use Rattle.lst_walk.proofs.Reading.{at_on, version_on, watched_on}
+use Rattle.lst_walk.proofs.Stamping.{at_same, has_same}
+use Rattle.lst_walk.proofs.Walking.{seen_visited, unseen_visited}
+use Rattle.lst_walk.proofs.rows.look.Goals as goal
+
+pub acted-requires-clause-reader : goal.acted-requires-clause-reader
+acted-requires-clause-reader c = c.is_seen.ensures.reader
+
+pub acted-requires-clause-version : goal.acted-requires-clause-version
+acted-requires-clause-version c = has_same c.is_seen.new.seat.view c.args.s _ c.tail_of.result (sym c.tail_of.ensures) (version_on c.args.seat.now.view c.is_seen.new.seat.view c.args.s _ c.is_seen.ensures.watched c.requires.version)
+
+pub returns-then-is_seen-clause-watched : goal.returns-then-is_seen-clause-watched
+returns-then-is_seen-clause-watched c = watched_on c.args.seat.now.view c.is_seen.new.seat.view c.acted.new.seat.view c.args.s c.is_seen.ensures.watched c.acted.ensures.watched
+
+pub returns-then-is_seen-clause-visited : goal.returns-then-is_seen-clause-visited
+returns-then-is_seen-clause-visited c = λ d at. seen_visited (knows c.args.seat.now.view c.args.s) c.args.s d c.args.store.now.layout.limits.columns c.args.patch c.acted.result (sym (c.is_seen.ensures.seen d at) ∙ c.if-is_seen.true) (c.acted.ensures.acted d (at_same c.is_seen.new.seat.view c.args.s _ c.tail_of.result d (sym c.tail_of.ensures) (at_on c.args.seat.now.view c.is_seen.new.seat.view c.args.s _ d c.is_seen.ensures.watched at)))
+
+pub returns-else-is_seen-clause-visited : goal.returns-else-is_seen-clause-visited
+returns-else-is_seen-clause-visited c = λ d at. unseen_visited (knows c.args.seat.now.view c.args.s) c.args.s d c.args.store.now.layout.limits.columns c.args.patch (sym (c.is_seen.ensures.seen d at) ∙ c.if-is_seen.false) c.requires.wide

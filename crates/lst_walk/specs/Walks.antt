@@ -1,0 +1,75 @@
+-- Walks along a record's chain.
+use Rattle.std.specs.Prelude.{◌≡◌, ℕ, List, Option, Some, None, length, take, true}
+use Rattle.lst_model.specs.declared.acts.Act.TheVariants.{Set}
+use Rattle.lst_model.specs.Cells.{Cell}
+use Rattle.lst_model.specs.Histories.{row_after, row_from}
+use Rattle.lst_model.specs.Soundness.{Fits, FitInTurn}
+use Rattle.lst_core_state.specs.State.{sight}
+use Rattle.lst_core_state.specs.declared.known.Known.{Known}
+use Rattle.lst_rule.specs.declared.view.View.{View}
+use Rattle.lst_rule.specs.Rule.{knows}
+use Rattle.lst_rule.specs.Learned.{Possible}
+use Rattle.lst_seat.specs.declared.store.Store.{Store}
+use Rattle.lst_seat.specs.Seats.{Sitting}
+use Rattle.lst_sights.specs.Copies.{Version, IsChainFrom}
+use Rattle.lst_sights.specs.Seen.{sees, act_by, seen_acts, HasKey}
+use Rattle.lst_sights.specs.Watching.{Watched}
+use Rattle.lst_walk.specs.Readers.{IsReader, IsAt}
+use Rattle.lst_walk.specs.Patches.{seen_after, cell_in, IsWide}
+use Rattle.lst_walk.specs.declared.rows.Visit.{Visit}
+use Rattle.lst_walk.specs.declared.rows.Visit.TheVariants.{Done, Older}
+
+-- the row of the record that the session's open transaction sees, where the facts have the record's key
+abbrev pub IsRowOf : View → ℕ → ℕ → Option (List Cell) → Type 0
+IsRowOf v s rec row = (key : ℕ) → HasKey (knows v s).facts rec key → row ≡ row_from None (sight (knows v s) key)
+
+-- and the cell of a column in it
+abbrev pub IsCellOf : View → ℕ → ℕ → ℕ → Option Cell → Type 0
+IsCellOf v s rec column cell = (key : ℕ) → HasKey (knows v s).facts rec key → cell ≡ cell_in column (row_from None (sight (knows v s) key))
+
+-- what a visit of the version c makes of the patch of the newer versions, whatever row the older ones leave
+abbrev pub Visited : Known → ℕ → Version → ℕ → List (Option ℕ) → Visit → Type 0
+Visited v s c columns patch (Done row) = (older : Option (List Cell)) → row ≡ row_after (seen_after v s c older) (Set patch)
+Visited v s c columns patch (Older more) = (length more ≡ columns) × ((older : Option (List Cell)) → row_after (seen_after v s c older) (Set patch) ≡ row_after older (Set more))
+
+-- the same where it is seen
+abbrev pub Acted : Version → ℕ → List (Option ℕ) → Visit → Type 0
+Acted c columns patch (Done row) = (older : Option (List Cell)) → row ≡ row_after (row_after older (act_by c)) (Set patch)
+Acted c columns patch (Older more) = (length more ≡ columns) × ((older : Option (List Cell)) → row_after (row_after older (act_by c)) (Set patch) ≡ row_after older (Set more))
+
+-- what the version c tells of a column: its cell, or nothing
+abbrev pub Tells : Known → ℕ → Version → ℕ → ℕ → Option (Option ℕ) → Type 0
+Tells v s c columns column None = (older : Option (List Cell)) → cell_in column (seen_after v s c older) ≡ cell_in column older
+Tells v s c columns column (Some held) = (older : Option (List Cell)) → IsWide columns older → (sees v s c.writer ≡ true → Fits older (act_by c)) → cell_in column (seen_after v s c older) ≡ held
+
+-- the same where it is seen
+abbrev pub Told : Version → ℕ → ℕ → Option (Option ℕ) → Type 0
+Told c columns column None = (older : Option (List Cell)) → cell_in column (row_after older (act_by c)) ≡ cell_in column older
+Told c columns column (Some held) = (older : Option (List Cell)) → IsWide columns older → Fits older (act_by c) → cell_in column (row_after older (act_by c)) ≡ held
+
+-- the walk for a row from v has come to the number n of the record's range: the newer versions made the patch
+pub record RowWalk (store : Store) (v : View) (seat : Sitting) (s rec n : ℕ) (patch : List (Option ℕ)) : Type 0 where
+  pub reader : IsReader store seat s
+  pub possible : Possible v
+  pub watched : Watched v seat.view s
+  pub wide : length patch ≡ store.layout.limits.columns
+  pub versions : List Version
+  pub chain : IsChainFrom store.layout.limits (knows seat.view s).facts rec n versions
+  pub answers : (key : ℕ) → HasKey (knows v s).facts rec key → row_from None (sight (knows v s) key) ≡ row_after (row_from None (seen_acts (knows v s) s versions)) (Set patch)
+
+-- the walk for a cell: the newer versions tell nothing of the column
+pub record CellWalk (store : Store) (v : View) (seat : Sitting) (s rec column n : ℕ) : Type 0 where
+  pub reader : IsReader store seat s
+  pub possible : Possible v
+  pub watched : Watched v seat.view s
+  pub versions : List Version
+  pub chain : IsChainFrom store.layout.limits (knows seat.view s).facts rec n versions
+  pub fits : (key : ℕ) → HasKey (knows v s).facts rec key → FitInTurn None (seen_acts (knows v s) s versions)
+  pub answers : (key : ℕ) → HasKey (knows v s).facts rec key → cell_in column (row_from None (sight (knows v s) key)) ≡ cell_in column (row_from None (seen_acts (knows v s) s versions))
+
+-- k cells of those that the version at the tail makes
+pub record Fills {A : Type 0} (store : Store) (v : View) (seat : Sitting) (s tail k : ℕ) (items : List A) (target : Version → List A) : Type 0 where
+  pub reader : IsReader store seat s
+  pub watched : Watched v seat.view s
+  pub count : length items ≡ k
+  pub made : (c : Version) → IsAt v s tail c → items ≡ take k (target c)

@@ -1,0 +1,89 @@
+//! One column of a record's row.
+ghost use Rattle.std.specs.Prelude.{◌≡◌, ℕ, ◌+◌, ◌*◌, ◌<◌, ◌≤◌, true};
+ghost use Rattle.lst_core_state.specs.Cells.{record_count};
+ghost use Rattle.lst_rule.specs.Rule.{knows, hosts};
+ghost use Rattle.lst_seat.specs.Stores.{IsSeatOf};
+ghost use Rattle.lst_sights.specs.Copies.{Version};
+ghost use Rattle.lst_sights.specs.Watching.{Watched};
+ghost use Rattle.lst_walk.specs.Readers.{IsReader, IsAt, HasVersion};
+ghost use Rattle.lst_walk.specs.Walks.{IsCellOf, Tells, Told};
+
+use crate::stamps::is_seen;
+use crate::words::{back, encoding, head, tail_of, value};
+use lst_bits::{Kind, has_column};
+use lst_seat::{RecordId, Seat, Store};
+
+/// The number in a column of the row that the open transaction sees of a record: of the snapshot at its begin, with its own writes on
+/// it. None comes exactly where it sees no row. The walk goes along the chain from the newest version, to the first one that is seen and
+/// tells of the column.
+pub fn column(store: &Store, seat: &mut Seat, s: u32, rec: RecordId, c: u32) -> Option<u64>
+    requires seat { IsSeatOf store.now seat.old }
+    requires host { hosts seat.old.view s ≡ true }
+    requires own { s < seat.old.view.limits.sessions }
+    requires opened { (knows seat.old.view s).is_open ≡ true }
+    requires rec { rec.number < record_count store.now.layout.limits }
+    requires column { c < store.now.layout.limits.columns }
+    ensures seat { IsSeatOf store.now seat.new }
+    ensures watched { Watched seat.old.view seat.new.view s }
+    ensures cell { IsCellOf seat.old.view s rec.number c result }
+{
+    seat.consider();
+    let range = rec.number / 256;
+    let mut number = head(store, seat, s, rec);
+    while number > 0 {
+        if let Some(held) = held(store, seat, s, range, number, c) {
+            return held;
+        }
+        number = back(store, seat, s, tail_of(store, range, number));
+    }
+    None
+}
+
+/// What a version of a range, by the number of its tail record, tells of a column: its number, or with None in it that there is no row. None
+/// comes where the version isn't seen, or tells nothing of the column.
+fn held(
+    store: &Store,
+    seat: &mut Seat,
+    s: u32,
+    range: u32,
+    number: u32,
+    column: u32,
+) -> Option<Option<u64>>
+    requires reader { IsReader store.now seat.old s }
+    requires range { range < store.now.layout.limits.ranges }
+    requires number { (0 < number) × (number ≤ store.now.layout.limits.tails) }
+    requires version { HasVersion seat.old.view s (range * store.now.layout.limits.tails + number) }
+    requires column { column < store.now.layout.limits.columns }
+    ensures reader { IsReader store.now seat.new s }
+    ensures watched { Watched seat.old.view seat.new.view s }
+    ensures tells { (c : Version) → IsAt seat.old.view s (range * store.now.layout.limits.tails + number) c → Tells (knows seat.old.view s) s c store.now.layout.limits.columns column result }
+{
+    if is_seen(store, seat, s, range, number) {
+        told(store, seat, s, tail_of(store, range, number), column)
+    } else {
+        None
+    }
+}
+
+/// What a version that is seen tells of a column.
+fn told(store: &Store, seat: &mut Seat, s: u32, tail: u32, column: u32) -> Option<Option<u64>>
+    requires reader { IsReader store.now seat.old s }
+    requires version { HasVersion seat.old.view s tail }
+    requires column { column < store.now.layout.limits.columns }
+    ensures reader { IsReader store.now seat.new s }
+    ensures watched { Watched seat.old.view seat.new.view s }
+    ensures told { (c : Version) → IsAt seat.old.view s tail c → Told c store.now.layout.limits.columns column result }
+{
+    let encoding = encoding(store, seat, s, tail);
+    match encoding.kind {
+        Kind::Put => Some(Some(value(store, seat, s, tail, column))),
+        Kind::Set => {
+            if has_column(encoding.mask, column) {
+                Some(Some(value(store, seat, s, tail, column)))
+            } else {
+                None
+            }
+        }
+        Kind::Del => Some(None),
+    }
+}

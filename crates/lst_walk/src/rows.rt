@@ -1,0 +1,203 @@
+//! A record's row.
+ghost use Rattle.std.specs.Prelude.{◌≡◌, ℕ, ◌+◌, ◌*◌, ◌<◌, ◌≤◌, true, length, slice_index, replicate, unwrap_or, cond, None, Some};
+ghost use Rattle.lst_model.specs.Cells.{overlaid};
+ghost use Rattle.lst_core_state.specs.Cells.{record_count, patched, has_bit};
+ghost use Rattle.lst_rule.specs.Rule.{knows, hosts};
+ghost use Rattle.lst_seat.specs.Stores.{IsSeatOf};
+ghost use Rattle.lst_sights.specs.Copies.{Version};
+ghost use Rattle.lst_sights.specs.Watching.{Watched};
+ghost use Rattle.lst_walk.specs.Readers.{IsReader, IsAt, HasVersion};
+ghost use Rattle.lst_walk.specs.Patches.{newest, merged};
+ghost use Rattle.lst_walk.specs.Walks.{IsRowOf, Visited, Acted};
+
+use crate::stamps::is_seen;
+use crate::words::{back, encoding, head, tail_of, value};
+use arrayvec::ArrayVec;
+use lst_bits::{Kind, has_column};
+use lst_model::{Patch, Row};
+use lst_seat::{RecordId, Seat, Store};
+
+/// What a visit of a version comes to.
+pub(crate) enum Visit {
+    /// The row, or that there is none.
+    Done(Option<Row>),
+    /// The cells that this version and the newer ones set, on the row of the older ones.
+    Older(Patch),
+}
+
+/// The row of a record that the open transaction sees: that of the snapshot at its begin, with its own writes on it. None comes exactly where
+/// it sees no row. The walk goes along the chain from the newest version, to the first put or delete that is seen, and stamps
+/// each version that it finds committed.
+pub fn row(store: &Store, seat: &mut Seat, s: u32, rec: RecordId) -> Option<Row>
+    requires seat { IsSeatOf store.now seat.old }
+    requires host { hosts seat.old.view s ≡ true }
+    requires own { s < seat.old.view.limits.sessions }
+    requires opened { (knows seat.old.view s).is_open ≡ true }
+    requires rec { rec.number < record_count store.now.layout.limits }
+    ensures seat { IsSeatOf store.now seat.new }
+    ensures watched { Watched seat.old.view seat.new.view s }
+    ensures row { IsRowOf seat.old.view s rec.number result }
+{
+    seat.consider();
+    let range = rec.number / 256;
+    let mut patch = unset(store.layout().limits.columns);
+    let mut number = head(store, seat, s, rec);
+    while number > 0 {
+        match look(store, seat, s, range, number, patch) {
+            Visit::Done(row) => return row,
+            Visit::Older(more) => patch = more,
+        }
+        number = back(store, seat, s, tail_of(store, range, number));
+    }
+    None
+}
+
+/// A patch that sets none of this many columns.
+fn unset(columns: u32) -> Patch
+    requires { columns ≤ 8 }
+    ensures { result ≡ replicate columns None }
+{
+    let mut cells = ArrayVec::new();
+    for made in 0..columns {
+        cells.push(None);
+        let _ = made;
+    }
+    Patch::new(cells)
+}
+
+/// Looks at a version of a range, by the number of its tail record, under a patch of newer versions.
+fn look(store: &Store, seat: &mut Seat, s: u32, range: u32, number: u32, patch: Patch) -> Visit
+    requires reader { IsReader store.now seat.old s }
+    requires range { range < store.now.layout.limits.ranges }
+    requires number { (0 < number) × (number ≤ store.now.layout.limits.tails) }
+    requires version { HasVersion seat.old.view s (range * store.now.layout.limits.tails + number) }
+    requires wide { length patch ≡ store.now.layout.limits.columns }
+    ensures reader { IsReader store.now seat.new s }
+    ensures watched { Watched seat.old.view seat.new.view s }
+    ensures visited { (c : Version) → IsAt seat.old.view s (range * store.now.layout.limits.tails + number) c → Visited (knows seat.old.view s) s c store.now.layout.limits.columns patch result }
+{
+    if is_seen(store, seat, s, range, number) {
+        acted(store, seat, s, tail_of(store, range, number), patch)
+    } else {
+        Visit::Older(patch)
+    }
+}
+
+/// Looks at a version that is seen, under a patch of newer versions.
+fn acted(store: &Store, seat: &mut Seat, s: u32, tail: u32, patch: Patch) -> Visit
+    requires reader { IsReader store.now seat.old s }
+    requires version { HasVersion seat.old.view s tail }
+    requires wide { length patch ≡ store.now.layout.limits.columns }
+    ensures reader { IsReader store.now seat.new s }
+    ensures watched { Watched seat.old.view seat.new.view s }
+    ensures acted { (c : Version) → IsAt seat.old.view s tail c → Acted c store.now.layout.limits.columns patch result }
+{
+    let encoding = encoding(store, seat, s, tail);
+    match encoding.kind {
+        Kind::Put => Visit::Done(Some(put_under(store, seat, s, tail, &patch))),
+        Kind::Set => Visit::Older(set_under(store, seat, s, tail, encoding.mask, &patch)),
+        Kind::Del => Visit::Done(None),
+    }
+}
+
+/// The row of a put, with a patch of newer versions on it.
+fn put_under(store: &Store, seat: &mut Seat, s: u32, tail: u32, patch: &Patch) -> Row
+    requires reader { IsReader store.now seat.old s }
+    requires version { HasVersion seat.old.view s tail }
+    requires wide { length patch.now ≡ store.now.layout.limits.columns }
+    ensures reader { IsReader store.now seat.new s }
+    ensures watched { Watched seat.old.view seat.new.view s }
+    ensures row { (c : Version) → IsAt seat.old.view s tail c → result ≡ overlaid c.values patch.now }
+{
+    let mut cells = ArrayVec::new();
+    for column in 0..store.layout().limits.columns {
+        let newer = patch.cell(column as usize);
+        cells.push(put_cell(store, seat, s, tail, column, newer));
+    }
+    Row::new(cells)
+}
+
+/// The cell of a column of a put, or that of newer versions, where there is one.
+fn put_cell(
+    store: &Store,
+    seat: &mut Seat,
+    s: u32,
+    tail: u32,
+    column: u32,
+    newer: Option<u64>,
+) -> u64
+    requires reader { IsReader store.now seat.old s }
+    requires version { HasVersion seat.old.view s tail }
+    requires column { column < store.now.layout.limits.columns }
+    ensures reader { IsReader store.now seat.new s }
+    ensures watched { Watched seat.old.view seat.new.view s }
+    ensures cell { (c : Version) → IsAt seat.old.view s tail c → result ≡ unwrap_or newer (slice_index c.values column) }
+{
+    match newer {
+        Some(cell) => cell,
+        None => value(store, seat, s, tail, column),
+    }
+}
+
+/// The cells of a set with this mask and those of a patch of newer versions, in one patch.
+fn set_under(store: &Store, seat: &mut Seat, s: u32, tail: u32, mask: u8, patch: &Patch) -> Patch
+    requires reader { IsReader store.now seat.old s }
+    requires version { HasVersion seat.old.view s tail }
+    requires wide { length patch.now ≡ store.now.layout.limits.columns }
+    ensures reader { IsReader store.now seat.new s }
+    ensures watched { Watched seat.old.view seat.new.view s }
+    ensures patch { (c : Version) → IsAt seat.old.view s tail c → result ≡ merged patch.now (patched mask 0 c.values) }
+{
+    let mut cells = ArrayVec::new();
+    for column in 0..store.layout().limits.columns {
+        let newer = patch.cell(column as usize);
+        cells.push(set_cell(store, seat, s, tail, mask, column, newer));
+    }
+    Patch::new(cells)
+}
+
+/// The cell that newer versions set in a column, or else that of a set with this mask, if there is one.
+fn set_cell(
+    store: &Store,
+    seat: &mut Seat,
+    s: u32,
+    tail: u32,
+    mask: u8,
+    column: u32,
+    newer: Option<u64>,
+) -> Option<u64>
+    requires reader { IsReader store.now seat.old s }
+    requires version { HasVersion seat.old.view s tail }
+    requires column { column < store.now.layout.limits.columns }
+    ensures reader { IsReader store.now seat.new s }
+    ensures watched { Watched seat.old.view seat.new.view s }
+    ensures cell { (c : Version) → IsAt seat.old.view s tail c → result ≡ newest newer (cond (has_bit mask column) (Some (slice_index c.values column)) None) }
+{
+    match newer {
+        Some(cell) => Some(cell),
+        None => older_cell(store, seat, s, tail, mask, column),
+    }
+}
+
+/// The cell that a set with this mask sets in a column, if it does.
+fn older_cell(
+    store: &Store,
+    seat: &mut Seat,
+    s: u32,
+    tail: u32,
+    mask: u8,
+    column: u32,
+) -> Option<u64>
+    requires reader { IsReader store.now seat.old s }
+    requires version { HasVersion seat.old.view s tail }
+    requires column { column < store.now.layout.limits.columns }
+    ensures reader { IsReader store.now seat.new s }
+    ensures watched { Watched seat.old.view seat.new.view s }
+    ensures cell { (c : Version) → IsAt seat.old.view s tail c → result ≡ cond (has_bit mask column) (Some (slice_index c.values column)) None }
+{
+    if has_column(mask, column) {
+        Some(value(store, seat, s, tail, column))
+    } else {
+        None
+    }
+}

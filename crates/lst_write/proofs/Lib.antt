@@ -1,0 +1,13 @@
+pub mod Latching
+pub mod Keeping
+pub mod Starts
+pub mod Clocks
+pub mod Verdicts
+pub mod States
+pub mod Found
+pub mod Walking
+pub mod Encodings
+pub mod Drawing
+pub mod Storing
+pub mod Whole
+pub mod Installing

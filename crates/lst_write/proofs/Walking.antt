@@ -1,0 +1,187 @@
+-- The judge's walk down a chain.
+use Rattle.std.proofs.Common.{◌≡◌, ◌≢◌, ℕ, ◌+◌, ◌-◌, ◌*◌, ◌/◌, ◌%◌, ◌^◌, ◌<◌, ◌≤◌, List, [], ◌∷◌, ◌++◌, true, Contains, refl, sym, subst, ap, ◌∙◌, arith, inl, inr, append_assoc}
+use Rattle.lst_layout.specs.declared.limits.Limits.{Limits}
+use Rattle.lst_layout.specs.declared.place.Place.TheVariants.{CellWord}
+use Rattle.lst_core_state.specs.declared.known.Known.{Known}
+use Rattle.lst_core_state.specs.declared.known.Hold.{Hold}
+use Rattle.lst_core_state.specs.declared.facts.Fact.{Fact}
+use Rattle.lst_core_state.specs.declared.facts.Fact.TheVariants.{StateAt}
+use Rattle.lst_core_state.specs.declared.facts.Find.TheVariants.{UnfinishedVersion}
+use Rattle.lst_core_state.specs.Cells.{record_count, range_of}
+use Rattle.lst_core_state.specs.State.{rank}
+use Rattle.lst_rule.specs.declared.view.View.{View}
+use Rattle.lst_rule.specs.Rule.{knows, hosts}
+use Rattle.lst_rule.specs.Learned.{Possible}
+use Rattle.lst_rule.proofs.Knowing.{knows_own}
+use Rattle.lst_seat.specs.declared.store.Store.{Store}
+use Rattle.lst_seat.specs.Seats.{Sitting}
+use Rattle.lst_seat.specs.Stores.{IsSeatOf, Looked}
+use Rattle.lst_sights.specs.Copies.{Version, fact_of, IsVersionOf, IsChainFrom, IsCopy, Includes}
+use Rattle.lst_sights.specs.Seen.{sees, HasKey}
+use Rattle.lst_sights.specs.Judging.{IsClosed, AreClosed, IsJudged}
+use Rattle.lst_sights.specs.Watching.{Watched}
+use Rattle.lst_sights.proofs.Copying.{chains_are_walked, copies_stay, chain_stays}
+use Rattle.lst_sights.proofs.Finding.{words_are_found}
+use Rattle.lst_sights.proofs.Writing.{closed_are_passed}
+use Rattle.lst_sights.proofs.Committed.{committed_wrote}
+use Rattle.lst_sights.proofs.Watching.{looks_watch, watches_join}
+use Rattle.lst_write.specs.Holding.{HasLatch}
+use Rattle.lst_write.specs.Standings.{IsVersion, IsNewer, IsUnfinished, IsStanding, Stands}
+use Rattle.lst_write.specs.declared.standing.Standing.TheVariants.{Seen, Closed, Newer, Unfinished}
+use Rattle.lst_write.specs.Judgements.{HasChain, HasJudged, IsLinked, IsBack, FoundNewer, FoundUnfinished, Judges}
+use Rattle.lst_write.proofs.Found.{version_word}
+use Rattle.lst_write.proofs.Keeping.{Kept, kept, still_hosts, still_on, found_before, watched_same, turn_stays}
+
+-- a latch is in hand in an open transaction
+pub latched_on : (v : View) (s rec head : ℕ) → Possible v → hosts v s ≡ true → s < v.limits.sessions → HasLatch (knows v s) rec head → (knows v s).is_open ≡ true
+latched_on v s rec head p hosted low latch = let a = p.allowed in let same : knows v s ≡ p.known s = knows_own v p.words p.known p.merger a s hosted (λ e. omega arith) in
+    subst (λ (k : Known). k.is_open ≡ true) (sym same) ((a.sound.versions.hands s low).opened (subst (λ (k : Known). 0 < k.hold.latch) same (subst (λ (h : Hold). 0 < h.latch) (sym latch) (omega arith))))
+
+-- and without the turn
+pub latched_away : (v : View) (s rec head : ℕ) → Possible v → hosts v s ≡ true → s < v.limits.sessions → HasLatch (knows v s) rec head → rank (knows v s).turn ≡ 0
+latched_away v s rec head p hosted low latch = let a = p.allowed in let same : knows v s ≡ p.known s = knows_own v p.words p.known p.merger a s hosted (λ e. omega arith) in
+    subst (λ (k : Known). rank k.turn ≡ 0) (sym same) ((a.sound.versions.hands s low).away (subst (λ (k : Known). 0 < k.hold.latch) same (subst (λ (h : Hold). 0 < h.latch) (sym latch) (omega arith))))
+
+pub turn_kept : (v w : View) (s rec head : ℕ) → Possible v → hosts v s ≡ true → s < v.limits.sessions → HasLatch (knows v s) rec head → Watched v w s → (knows w s).turn ≡ (knows v s).turn
+turn_kept v w s rec head p hosted low latch watched = turn_stays (knows v s) (knows w s) (latched_away v s rec head p hosted low latch) watched.watches
+
+-- the back word of a version
+pub back_is : (v w : View) (s tail x : ℕ) → hosts v s ≡ true → Looked v w s (CellWord tail 2) x → IsBack v.limits (knows v s) tail x
+back_is v w s tail x hosted h rec c is known at = (words_are_found v w s rec 2 x c hosted is known (omega arith) (subst (λ (t : ℕ). Looked v w s (CellWord t 2) x) (sym at) h).met).back refl
+
+pub back_watched : (v w : View) (s tail x : ℕ) → hosts v s ≡ true → Looked v w s (CellWord tail 2) x → IsLinked v.limits (knows v s) tail → Watched v w s
+back_watched v w s tail x hosted h (rec, c, is, known, at, few) = looks_watch v w s x (CellWord tail 2) hosted (version_word v.limits (knows v s) tail 2 (omega arith) (rec, c, is, known, at)) tt h.met
+
+pub back_few : (v w : View) (s tail x : ℕ) → hosts v s ≡ true → Looked v w s (CellWord tail 2) x → IsLinked v.limits (knows v s) tail → x < 2 ^ 32
+back_few v w s tail x hosted h (rec, c, is, known, at, few) = let e = back_is v w s tail x hosted h rec c is known at in let a = h.met.made.told.allowed.sound.sized.tails.1 in omega arith
+
+-- ---- closed versions
+
+closed_more : (facts more : List Fact) (cs : List Version) → Includes more facts → AreClosed facts cs → AreClosed more cs
+closed_more facts more [] all closed = tt
+closed_more facts more (c ∷ cs) all closed = (all (StateAt (c.writer % 16) (c.writer / 16) 1) closed.0, closed_more facts more cs all closed.1)
+
+closed_last : (facts : List Fact) (cs : List Version) (c : Version) → AreClosed facts cs → IsClosed facts c → AreClosed facts (cs ++ c ∷ [])
+closed_last facts [] c closed last = (last, tt)
+closed_last facts (d ∷ cs) c closed last = (closed.0, closed_last facts cs c closed.1 last)
+
+-- ---- the walk
+
+-- the version at hand
+pub record Hand (l : Limits) (facts : List Fact) (rec n : ℕ) (rest : List Version) : Type 0 where
+  pub version : Version
+  pub older : List Version
+  pub split : rest ≡ version ∷ older
+  pub is : IsVersionOf l rec version
+  pub known : Contains facts (fact_of version)
+  pub at : version.tail ≡ range_of rec * l.tails + n
+  pub few : n ≤ l.tails
+  pub falls : version.back < n
+  pub leads : IsChainFrom l facts rec version.back older
+
+pub hand_of : (l : Limits) (facts : List Fact) (rec n : ℕ) (rest : List Version) → 0 < n → IsChainFrom l facts rec n rest → Hand l facts rec n rest
+hand_of l facts rec n rest some chain = let q = (chains_are_walked l facts rec n rest chain).some some in record { version = q.0; older = q.1; split = q.2; is = q.3; known = q.4; at = q.5; few = q.6; falls = q.7; leads = q.8 }
+
+pub starts_walk : (store : Store) (seat : Sitting) (s rec head : ℕ) → IsSeatOf store seat → hosts seat.view s ≡ true → (knows seat.view s).is_open ≡ true → HasChain seat.view.limits (knows seat.view s) rec head → Judges store seat.view seat s rec head head
+starts_walk store seat s rec head seat_of host is_on chain = record {
+  seat_of = seat_of;
+  host = host;
+  on = is_on;
+  watched = watched_same seat.view s;
+  passed = [];
+  rest = chain.0;
+  copy = chain.1;
+  closed = tt;
+  leads = chain.1.chain;
+}
+
+module _ (store : Store) (v : View) (seat : Sitting) (s rec head n : ℕ) (J : Judges store v seat s rec head n) where
+  abbrev u : View
+  u = seat.view
+
+  abbrev k : Known
+  k = knows seat.view s
+
+  -- the copy, judged, with more facts
+  judged_later : (w : View) → Watched seat.view w s → IsJudged (knows w s) s J.rest → HasJudged w.limits (knows w s) s rec head
+  judged_later w watched rest = let K = kept u w s watched in (
+    J.passed ++ J.rest,
+    subst (λ (l : Limits). IsCopy l (knows w s).facts rec head (J.passed ++ J.rest)) (sym watched.learns.limits) (copies_stay u.limits k.facts (knows w s).facts rec head (J.passed ++ J.rest) K.facts J.copy),
+    closed_are_passed (knows w s) s J.passed J.rest (closed_more k.facts (knows w s).facts J.passed K.facts J.closed) rest,
+  )
+
+  -- at the chain's end
+  pub walk_ends : n ≡ 0 → HasJudged seat.view.limits (knows seat.view s) s rec head
+  walk_ends e = judged_later u (watched_same u s) (subst (λ (cs : List Version). IsJudged k s cs) (sym ((chains_are_walked u.limits k.facts rec n J.rest J.leads).none e)) tt)
+
+  module _ (some : 0 < n) where
+    pub hand : Hand seat.view.limits (knows seat.view s).facts rec n J.rest
+    hand = hand_of u.limits k.facts rec n J.rest some J.leads
+
+    module _ (tail : ℕ) (at : tail ≡ range_of rec * store.layout.limits.tails + n) where
+      tail_is : hand.version.tail ≡ tail
+      tail_is = hand.at ∙ (ap (λ (l : Limits). range_of rec * l.tails + n) J.seat_of.limits ∙ sym at)
+
+      pub walk_version : IsVersion seat.view.limits (knows seat.view s) tail
+      walk_version = (rec, hand.version, hand.is, hand.known, tail_is)
+
+      module _ (w : View) (watched : Watched seat.view w s) where
+        -- a version that is seen
+        pub walk_seen : Stands seat.view w s tail Seen → HasJudged w.limits (knows w s) s rec head
+        walk_seen stands = judged_later w watched (subst (λ (cs : List Version). IsJudged (knows w s) s cs) (sym hand.split) (inl (stands rec hand.version hand.is hand.known tail_is)))
+
+        -- a newer one
+        pub walk_newer : (time : ℕ) → Possible w → Stands seat.view w s tail (Newer time) → FoundNewer (knows w s) rec time
+        walk_newer time p stands = let q = stands rec hand.version hand.is hand.known tail_is in record {
+          above = q.above;
+          wrote = λ key has. (
+            hand.version.writer,
+            committed_wrote w s rec key time hand.version p (still_hosts u w s watched J.host)
+                (subst (λ (l : Limits). IsVersionOf l rec hand.version) (sym watched.learns.limits) hand.is) ((kept u w s watched).facts (fact_of hand.version) hand.known) has
+                (let a = q.above in omega arith) q.seen q.committed,
+          );
+        }
+
+        -- an unfinished one
+        pub walk_unfinished : (j m : ℕ) → Stands seat.view w s tail (Unfinished j m) → FoundUnfinished v w s rec j m
+        walk_unfinished j m stands = let q = stands rec hand.version hand.is hand.known tail_is in record {
+          other = q.other;
+          tail = hand.version.tail;
+          found = found_before v u w s (UnfinishedVersion (rec + 1) hand.version.tail j m ((knows w s).begin + 1)) J.watched q.found;
+        }
+
+        is_later : IsVersionOf w.limits rec hand.version
+        is_later = subst (λ (l : Limits). IsVersionOf l rec hand.version) (sym watched.learns.limits) hand.is
+
+        known_later : Contains (knows w s).facts (fact_of hand.version)
+        known_later = (kept u w s watched).facts (fact_of hand.version) hand.known
+
+        pub walk_again : IsLinked w.limits (knows w s) tail
+        walk_again = (rec, hand.version, is_later, known_later, tail_is, let e = ap (λ (l : Limits). l.tails) watched.learns.limits in let a = hand.falls in let b = hand.few in omega arith)
+
+        -- a closed one, and then the one below it
+        module _ (next : Sitting) (m : ℕ) (seat_of : IsSeatOf store next) (later : Watched w next.view s) (back : IsBack w.limits (knows w s) tail m) where
+          both : Watched seat.view next.view s
+          both = watches_join u w next.view s watched later
+
+          back_of : m ≡ hand.version.back
+          back_of = back rec hand.version is_later known_later tail_is
+
+          pub walk_falls : m < n
+          walk_falls = let e = back_of in let f = hand.falls in omega arith
+
+          pub walk_on : Stands seat.view w s tail Closed → Judges store v next s rec head m
+          walk_on stands = let K = kept u next.view s both in let facts : List Fact = (knows next.view s).facts in record {
+            seat_of = seat_of;
+            host = still_hosts u next.view s both J.host;
+            on = still_on u next.view s both J.on;
+            watched = watches_join v u next.view s J.watched both;
+            passed = J.passed ++ hand.version ∷ [];
+            rest = hand.older;
+            copy = subst (λ (cs : List Version). IsCopy next.view.limits facts rec head cs) ((λ i. J.passed ++ hand.split i) ∙ sym (append_assoc J.passed (hand.version ∷ []) hand.older))
+                (subst (λ (l : Limits). IsCopy l facts rec head (J.passed ++ J.rest)) (sym both.learns.limits) (copies_stay u.limits k.facts facts rec head (J.passed ++ J.rest) K.facts J.copy));
+            closed = closed_last facts J.passed hand.version (closed_more k.facts facts J.passed K.facts J.closed)
+                ((kept w next.view s later).facts (StateAt (hand.version.writer % 16) (hand.version.writer / 16) 1) (stands rec hand.version hand.is hand.known tail_is));
+            leads = subst (λ (l : Limits). IsChainFrom l facts rec m hand.older) (sym both.learns.limits) (subst (λ (b : ℕ). IsChainFrom u.limits facts rec b hand.older) (sym back_of)
+                (chain_stays u.limits k.facts facts rec hand.version.back hand.older K.facts hand.leads));
+          }

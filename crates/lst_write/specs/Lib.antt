@@ -1,0 +1,5 @@
+pub mod Holding
+pub mod Standings
+pub mod Judgements
+pub mod Cells
+pub mod Appending

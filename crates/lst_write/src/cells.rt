@@ -1,0 +1,65 @@
+//! The words of an act in a tail.
+ghost use Rattle.std.specs.Prelude.{◌≡◌, ◌+◌, ◌<◌, ◌≤◌};
+ghost use Rattle.lst_write.specs.Cells as cells;
+ghost use Rattle.lst_write.specs.Cells.{IsActFor, mask_of_patch};
+
+use lst_bits::{Encoding, Kind, full_mask, pack_encoding};
+use lst_model::{Act, Patch};
+use lst_seat::RecordId;
+
+/// The mask of the columns that a patch sets.
+fn patch_mask(patch: &Patch) -> u8
+    ensures { result ≡ mask_of_patch patch.now }
+{
+    let cells = patch.cells();
+    let mut column = cells.len();
+    let mut mask = 0;
+    while column > 0 {
+        column -= 1;
+        mask = 2 * mask + cells[column].is_some() as u8;
+    }
+    mask
+}
+
+/// The encoding word of an act on a record.
+pub(crate) fn encoding(columns: u32, rec: RecordId, act: &Act) -> u64
+    requires columns { columns ≤ 8 }
+    requires act { IsActFor columns act.now }
+    ensures { result ≡ cells.encoding_of columns rec.number act.now }
+{
+    let (kind, mask) = match act {
+        Act::Put(_) => (Kind::Put, full_mask(columns)),
+        Act::Set(patch) => (Kind::Set, patch_mask(patch)),
+        Act::Del => (Kind::Del, 0),
+    };
+    let slot = (rec.number % 256) as u8;
+    pack_encoding(Encoding { mask, kind, slot })
+}
+
+/// The value that an act has for a column, which is 0 where it leaves the column as it is.
+fn value(columns: u32, act: &Act, column: u32) -> u64
+    requires act { IsActFor columns act.now }
+    requires column { column < columns }
+    ensures { result ≡ cells.value_of act.now column }
+{
+    let _ = columns;
+    let column = column as usize;
+    match act {
+        Act::Put(row) => row.cell(column),
+        Act::Set(patch) => patch.cell(column).unwrap_or(0),
+        Act::Del => 0,
+    }
+}
+
+/// The word at a place of a tail, but the start word.
+pub(crate) fn cell_word(columns: u32, encoding: u64, head: u32, act: &Act, place: u32) -> u64
+    requires act { IsActFor columns act.now }
+    requires place { (0 < place) × (place < 3 + columns) }
+    ensures { result ≡ cells.cell_word encoding head act.now place }
+{
+    match place {
+        1 => encoding,
+        2 => head as u64,
+        _ => value(columns, act, place - 3),
+    }
+}
