@@ -4,7 +4,13 @@
 //! judged in one walk, in which each open transaction has its sight.
 #![tactic(auto)]
 
+#[cfg(test)]
+mod drawn_tests;
 mod judging;
+#[cfg(test)]
+mod plain;
+#[cfg(test)]
+mod plain_replies;
 mod reads;
 mod sights;
 #[cfg(test)]

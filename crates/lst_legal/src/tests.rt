@@ -1,8 +1,9 @@
 //! Legal reports, and for each rule a report that breaks it.
 
 use crate::{are_sessions_below, legal};
+use arrayvec::ArrayVec;
 use lst_layout::Limits;
-use lst_model::{Call, Line};
+use lst_model::{Call, Line, Row};
 use lst_report::parse_report;
 use lst_script::parse;
 use std::alloc::Global;
@@ -46,6 +47,14 @@ fn read_lines(alloc: Global, limits: &Limits, text: &str) -> Result<Vec<Line>, F
                 session: 0,
                 call: Call::Count,
             })?;
+        } else if line == "0 find 0 7" {
+            lines.push(Line::Call {
+                session: 0,
+                call: Call::Find {
+                    column: 0,
+                    value: 7,
+                },
+            })?;
         } else {
             lines.push(read_line(alloc, limits, line)?)?;
         }
@@ -76,14 +85,25 @@ fn is_judged(
     wanted: bool,
 ) -> Result<(), Fail> {
     let lines = read_lines(alloc, limits, script)?;
+    are_lines_judged(rt, alloc, limits, lines.as_slice(), report, wanted)
+}
+
+fn are_lines_judged(
+    rt: &impl Abort,
+    alloc: Global,
+    limits: &Limits,
+    lines: &[Line],
+    report: &str,
+    wanted: bool,
+) -> Result<(), Fail> {
     let report = match parse_report(alloc, report.as_bytes(), 2) {
         Ok(report) => report,
         Err(_) => return Err(Fail::from("the report was not read")),
     };
-    if !are_sessions_below(limits.sessions, lines.as_slice()) {
+    if !are_sessions_below(limits.sessions, lines) {
         return Err(Fail::from("the script has another session"));
     }
-    let judged = legal(alloc, limits, lines.as_slice(), &report)?;
+    let judged = legal(alloc, limits, lines, &report)?;
     assert_eq!(rt; judged, wanted);
     Ok(())
 }
@@ -463,4 +483,114 @@ fn absurd_numbers_are_judged(rt: HostRuntime) -> Result<(), Fail> {
         "noframe 4000000000\nhistory 0\n",
         false,
     )
+}
+
+#[test]
+fn more_writes_than_a_range_has_tails_may_be_accepted(rt: HostRuntime) -> Result<(), Fail> {
+    let one_tail = Limits { tails: 1, ..USUAL };
+    is_judged(
+        &rt,
+        rt.alloc(),
+        &one_tail,
+        "0 begin\n0 insert 1 1 1\n0 insert 2 2 2\n0 insert 3 3 3\n",
+        "0 begun 0\n0 ok\n0 ok\n0 ok\nhistory 0\n",
+        true,
+    )
+}
+
+#[test]
+fn a_sum_does_not_wrap_at_a_word(rt: HostRuntime) -> Result<(), Fail> {
+    let alloc = rt.alloc();
+    let script =
+        "1 begin\n1 insert 1 18446744073709551615 0\n1 insert 2 18446744073709551615 0\n1 sum 0\n";
+    let front = "1 begun 0\n1 ok\n1 ok\n";
+    let whole = "1 sum 36893488147419103230\nhistory 0\n";
+    let wrapped = "1 sum 18446744073709551614\nhistory 0\n";
+    is_judged_behind(&rt, alloc, script, front, whole, true)?;
+    is_judged_behind(&rt, alloc, script, front, wrapped, false)
+}
+
+#[test]
+fn a_missing_index_is_told_to_an_open_transaction(rt: HostRuntime) -> Result<(), Fail> {
+    let alloc = rt.alloc();
+    let idle = "0 find 0 7\n";
+    is_usual(&rt, alloc, idle, "0 refused noindex\nhistory 0\n", false)?;
+    is_usual(&rt, alloc, idle, "0 refused idle\nhistory 0\n", true)?;
+    let script = "0 begin\n0 find 0 7\n";
+    let report = "0 begun 0\n0 refused noindex\nhistory 0\n";
+    is_usual(&rt, alloc, script, report, true)?;
+    let indexed = Limits {
+        indexed: 1,
+        ..USUAL
+    };
+    is_judged(&rt, alloc, &indexed, script, report, false)
+}
+
+fn insert(session: u32, key: u64) -> Line {
+    let mut cells = ArrayVec::new();
+    cells.push(key);
+    cells.push(key);
+    Line::Call {
+        session,
+        call: Call::Insert {
+            key,
+            row: Row::new(cells),
+        },
+    }
+}
+
+/// An insert of key 1000 is answered that the table is full, behind this many inserts of other keys by session 0, and behind
+/// one of that key by some session in an aborted transaction.
+fn is_full_behind(
+    rt: &impl Abort,
+    alloc: Global,
+    inserts: u64,
+    writer: u32,
+    wanted: bool,
+) -> Result<(), Fail> {
+    let one_range = Limits { ranges: 1, ..USUAL };
+    let mut lines = Vec::new(alloc);
+    lines.push(Line::Call {
+        session: writer,
+        call: Call::Begin,
+    })?;
+    lines.push(insert(writer, 1000))?;
+    lines.push(Line::Call {
+        session: writer,
+        call: Call::Abort,
+    })?;
+    lines.push(Line::Call {
+        session: 0,
+        call: Call::Begin,
+    })?;
+    let mut report = String::new(alloc);
+    report.push_str(match writer {
+        0 => "0 begun 0\n0 ok\n0 aborted\n0 begun 0\n",
+        _ => "1 begun 0\n1 ok\n1 aborted\n0 begun 0\n",
+    })?;
+    for key in 0..inserts {
+        lines.push(insert(0, key))?;
+        report.push_str("0 ok\n")?;
+    }
+    lines.push(insert(0, 1000))?;
+    report.push_str("0 full table\nhistory 0\n")?;
+    are_lines_judged(
+        rt,
+        alloc,
+        &one_range,
+        lines.as_slice(),
+        report.as_str(),
+        wanted,
+    )
+}
+
+#[test]
+fn a_table_is_full_for_a_new_key_by_its_limit(rt: HostRuntime) -> Result<(), Fail> {
+    let alloc = rt.alloc();
+    // With the aborted one there are 256 inserts, or 255.
+    is_full_behind(&rt, alloc, 255, 1, true)?;
+    is_full_behind(&rt, alloc, 254, 1, false)?;
+    // The session's own insert gave the key its record, although it was aborted.
+    is_full_behind(&rt, alloc, 255, 0, false)?;
+    is_full_behind(&rt, alloc, 300, 0, false)
 }

@@ -1,0 +1,565 @@
+//! Drawn scripts with reports, judged by the checker and by the plain one.
+
+use crate::plain::{KEYS, Run};
+use crate::plain_replies::{count_of, holds, lacks_index, sum_of};
+use crate::{are_sessions_below, legal};
+use arrayvec::ArrayVec;
+use lst_layout::Limits;
+use lst_model::{Call, Cause, KeyList, Line, OutOfMemory, Patch, Reply, Row, RowList, Table};
+use lst_report::{Replies, Report, Stamp, Stamps};
+use std::alloc::Global;
+use std::test::Fail;
+
+const SESSIONS: u64 = 3;
+
+/// Draws numbers, lines and replies from a seed.
+#[derive(Clone, Copy)]
+struct Drawer {
+    seed: u64,
+}
+
+impl Drawer {
+    /// A number below this one.
+    fn draw(&mut self, below: u64) -> u64 {
+        self.seed = self
+            .seed
+            .wrapping_mul(6364136223846793005)
+            .wrapping_add(1442695040888963407);
+        if below == 0 {
+            0
+        } else {
+            (self.seed >> 33) % below
+        }
+    }
+
+    fn pick(&mut self, below: u64) -> u32 {
+        (self.draw(below) % 4096) as u32
+    }
+
+    fn draw_limits(&mut self) -> Limits {
+        Limits {
+            columns: 2,
+            ranges: 1,
+            tails: self.pick(6).wrapping_add(3),
+            sessions: SESSIONS as u32,
+            txns: self.pick(3).wrapping_add(2),
+            spare: 1,
+            indexed: (self.draw(4) % 4) as u8,
+        }
+    }
+
+    fn draw_cell(&mut self) -> u64 {
+        match self.draw(12) {
+            0 => 18446744073709551615,
+            _ => self.draw(3),
+        }
+    }
+
+    fn draw_row(&mut self) -> Row {
+        let mut cells = ArrayVec::new();
+        cells.push(self.draw_cell());
+        cells.push(self.draw_cell());
+        Row::new(cells)
+    }
+
+    fn draw_patch(&mut self) -> Patch {
+        let mut cells = ArrayVec::new();
+        let first = match self.draw(2) {
+            0 => None,
+            _ => Some(self.draw_cell()),
+        };
+        cells.push(first);
+        cells.push(Some(self.draw_cell()));
+        Patch::new(cells)
+    }
+
+    fn draw_begin(&mut self) -> Call {
+        match self.draw(5) {
+            0 => Call::AsOf { time: self.draw(4) },
+            _ => Call::Begin,
+        }
+    }
+
+    fn draw_write(&mut self) -> Call {
+        let key = self.draw(KEYS);
+        match self.draw(4) {
+            0 => Call::Delete { key },
+            1 => Call::Update {
+                key,
+                patch: self.draw_patch(),
+            },
+            _ => Call::Insert {
+                key,
+                row: self.draw_row(),
+            },
+        }
+    }
+
+    fn draw_read(&mut self) -> Call {
+        match self.draw(6) {
+            0 => Call::Sum {
+                column: self.pick(2),
+            },
+            1 => Call::Count,
+            2 => Call::Scan,
+            3 => Call::Find {
+                column: self.pick(2),
+                value: self.draw_cell(),
+            },
+            _ => Call::Get {
+                key: self.draw(KEYS),
+            },
+        }
+    }
+
+    fn draw_call(&mut self, is_open: bool) -> Call {
+        if !is_open && self.draw(9) != 0 {
+            return self.draw_begin();
+        }
+        match self.draw(16) {
+            0 => self.draw_begin(),
+            1 => Call::Abort,
+            2 | 3 | 4 => Call::Commit,
+            5 | 6 | 7 | 8 => self.draw_read(),
+            _ => self.draw_write(),
+        }
+    }
+
+    fn draw_line(&mut self, run: &Run<'_>) -> Line {
+        match self.draw(14) {
+            0 => Line::Phase,
+            1 => Line::Merge {
+                range: 0,
+                column: self.pick(2),
+            },
+            _ => {
+                let session = self.pick(SESSIONS);
+                let is_open = run.opened(session, run.lines.len()).is_some();
+                Line::Call {
+                    session,
+                    call: self.draw_call(is_open),
+                }
+            }
+        }
+    }
+
+    fn draw_cause(&mut self) -> Cause {
+        match self.draw(13) {
+            0 => Cause::Idle,
+            1 => Cause::Active,
+            2 => Cause::ReadOnly,
+            3 => Cause::Spent,
+            4 => Cause::Future {
+                clock: self.draw(4),
+            },
+            5 => Cause::Missing,
+            6 => Cause::Exists,
+            7 => Cause::TableFull,
+            8 => Cause::Latched,
+            9 => Cause::Newer { time: self.draw(4) },
+            10 => Cause::TailFull,
+            11 => Cause::NotIndexed,
+            _ => Cause::Unfinished {
+                session: self.pick(SESSIONS + 1),
+                number: self.pick(4),
+            },
+        }
+    }
+
+    fn draw_reply(&mut self) -> Reply {
+        match self.draw(15) {
+            0 => Reply::Done,
+            1 => Reply::Row {
+                row: self.draw_row(),
+            },
+            2 => Reply::Absent,
+            3 => Reply::Committed { time: self.draw(4) },
+            4 => Reply::Ended { time: self.draw(4) },
+            5 => Reply::Begun { time: self.draw(4) },
+            6 => Reply::Sum {
+                total: u128::from(self.draw(6)),
+            },
+            7 => Reply::Count { rows: self.draw(4) },
+            8 => Reply::Merged { tps: self.pick(5) },
+            9 => Reply::NothingNew { tps: self.pick(5) },
+            10 => Reply::NoFrame {
+                session: self.pick(SESSIONS + 1),
+            },
+            _ => Reply::Refused {
+                cause: self.draw_cause(),
+            },
+        }
+    }
+
+    /// A reply near to this one.
+    fn nearby(&mut self, reply: &Reply) -> Reply {
+        let other = self.draw(5);
+        match reply {
+            Reply::Begun { time: _ } => Reply::Begun { time: other },
+            Reply::Committed { time: _ } => Reply::Committed { time: other },
+            Reply::Ended { time: _ } => Reply::Ended { time: other },
+            Reply::Row { row: _ } => Reply::Row {
+                row: self.draw_row(),
+            },
+            Reply::Sum { total } => Reply::Sum {
+                total: total.wrapping_add(1),
+            },
+            Reply::Count { rows } => Reply::Count {
+                rows: rows.wrapping_add(1),
+            },
+            Reply::Merged { tps: _ } => Reply::Merged { tps: self.pick(6) },
+            Reply::Done | Reply::Refused { .. } => Reply::Refused {
+                cause: self.draw_near_cause(),
+            },
+            _ => self.draw_reply(),
+        }
+    }
+
+    /// A cause that a write in the way of another may have.
+    fn draw_near_cause(&mut self) -> Cause {
+        match self.draw(4) {
+            0 => Cause::Latched,
+            1 => Cause::Newer { time: self.draw(4) },
+            2 => Cause::Unfinished {
+                session: self.pick(SESSIONS),
+                number: self.pick(2).wrapping_add(1),
+            },
+            _ => self.draw_cause(),
+        }
+    }
+}
+
+// ---- one thread's answers
+
+/// The first transaction of another session that is open and wrote on a key.
+fn in_the_way(run: &Run<'_>, session: u32, key: u64) -> Option<Cause> {
+    let place = run.lines.len();
+    for other in 0..SESSIONS as u32 {
+        if other != session {
+            if let Some(opened) = run.opened(other, place) {
+                if run.has_written(other, opened.place, place, Some(key)) {
+                    return Some(Cause::Unfinished {
+                        session: other,
+                        number: (opened.number % 4096) as u32,
+                    });
+                }
+            }
+        }
+    }
+    None
+}
+
+/// The first commit behind a begin that wrote on a key.
+fn newer(run: &Run<'_>, begin: u64, key: u64) -> Option<Cause> {
+    for earlier in 0..run.stamps.len() as u64 {
+        let time = earlier.wrapping_add(1);
+        if begin < time && run.commit_wrote(time, key) {
+            return Some(Cause::Newer { time });
+        }
+    }
+    None
+}
+
+fn answer_write(
+    run: &Run<'_>,
+    limits: &Limits,
+    session: u32,
+    begin: u64,
+    is_there: bool,
+    call: &Call,
+) -> Reply {
+    let (key, inserts) = match call {
+        Call::Insert { key, .. } => (*key, true),
+        Call::Update { key, .. } | Call::Delete { key } => (*key, false),
+        _ => return Reply::Done,
+    };
+    if let Some(cause) = in_the_way(run, session, key) {
+        return Reply::Refused { cause };
+    }
+    if let Some(cause) = newer(run, begin, key) {
+        return Reply::Refused { cause };
+    }
+    if inserts && is_there {
+        return Reply::Refused {
+            cause: Cause::Exists,
+        };
+    }
+    if !inserts && !is_there {
+        return Reply::Refused {
+            cause: Cause::Missing,
+        };
+    }
+    if u64::from(limits.tails) <= run.accepted(run.lines.len()) {
+        return Reply::Refused {
+            cause: Cause::TailFull,
+        };
+    }
+    Reply::Done
+}
+
+fn rows_of(alloc: Global, sight: &Table) -> Result<RowList, OutOfMemory> {
+    let mut list = RowList::new(alloc);
+    for key in 0..KEYS {
+        if let Some(row) = sight.row(key) {
+            list.push(key, row)?;
+        }
+    }
+    Ok(list)
+}
+
+fn keys_of(alloc: Global, sight: &Table, column: u32, value: u64) -> Result<KeyList, OutOfMemory> {
+    let mut list = KeyList::new(alloc);
+    for key in 0..KEYS {
+        if let Some(row) = sight.row(key) {
+            if holds(&row, column, value) {
+                list.push(key)?;
+            }
+        }
+    }
+    Ok(list)
+}
+
+fn answer_read(alloc: Global, sight: &Table, call: &Call) -> Result<Reply, OutOfMemory> {
+    let reply = match call {
+        Call::Get { key } => match sight.row(*key) {
+            Some(row) => Reply::Row { row },
+            None => Reply::Absent,
+        },
+        Call::Sum { column } => Reply::Sum {
+            total: sum_of(sight, *column),
+        },
+        Call::Count => Reply::Count {
+            rows: count_of(sight),
+        },
+        Call::Scan => Reply::Rows {
+            list: rows_of(alloc, sight)?,
+        },
+        Call::Find { column, value } => Reply::Keys {
+            list: keys_of(alloc, sight, *column, *value)?,
+        },
+        _ => Reply::Aborted,
+    };
+    Ok(reply)
+}
+
+/// The reply to a call behind the lines of a run. A begin may be told any time from the floor on.
+fn answer_call(
+    alloc: Global,
+    limits: &Limits,
+    run: &Run<'_>,
+    session: u32,
+    call: &Call,
+    drawn: u64,
+) -> Result<Reply, OutOfMemory> {
+    let place = run.lines.len();
+    let last = run.stamps.len() as u64;
+    if let Some(cause) = run.state_cause(limits, session, place, call) {
+        return Ok(Reply::Refused { cause });
+    }
+    let Some(opened) = run.opened(session, place) else {
+        return Ok(match call {
+            Call::AsOf { time } if *time > last => Reply::Refused {
+                cause: Cause::Future { clock: last },
+            },
+            Call::AsOf { time } => Reply::Begun { time: *time },
+            _ => Reply::Begun {
+                time: begin_from(run.floor(session, place), last, drawn),
+            },
+        });
+    };
+    let sight = run.sight(alloc, session, place, &opened)?;
+    match call {
+        Call::Commit if run.has_written(session, opened.place, place, None) => {
+            Ok(Reply::Committed {
+                time: last.wrapping_add(1),
+            })
+        }
+        Call::Commit => Ok(Reply::Ended { time: opened.begin }),
+        Call::Insert { key, .. } | Call::Update { key, .. } | Call::Delete { key } => {
+            let is_there = sight.row(*key).is_some();
+            Ok(answer_write(run, limits, session, opened.begin, is_there, call))
+        }
+        Call::Find { .. } if lacks_index(limits, call) => Ok(Reply::Refused {
+            cause: Cause::NotIndexed,
+        }),
+        _ => answer_read(alloc, &sight, call),
+    }
+}
+
+/// A time from a floor to the last one, mostly the last.
+fn begin_from(floor: u64, last: u64, drawn: u64) -> u64 {
+    if drawn < last && floor <= drawn {
+        drawn
+    } else {
+        last
+    }
+}
+
+fn answer_merge(run: &Run<'_>, range: u32, column: u32) -> Reply {
+    let last = run.last_merged(range, column, run.lines.len());
+    let tps = (run.accepted(run.lines.len()) % 4096) as u32;
+    if tps > last {
+        Reply::Merged { tps }
+    } else {
+        Reply::NothingNew { tps: last }
+    }
+}
+
+// ---- drawn reports
+
+/// A script with a report.
+#[derive(Drop)]
+struct Drawn {
+    lines: Vec<Line>,
+    replies: Vec<(Option<u32>, Reply)>,
+    stamps: Vec<Stamp>,
+}
+
+impl Drawn {
+    fn run(&self) -> Run<'_> {
+        Run {
+            lines: self.lines.as_slice(),
+            replies: self.replies.as_slice(),
+            stamps: self.stamps.as_slice(),
+        }
+    }
+
+    /// Adds the stamp of a commit of the session behind the lines.
+    fn stamp(&mut self, session: u32) -> Result<(), OutOfMemory> {
+        let opened = self.run().opened(session, self.lines.len());
+        if let Some(opened) = opened {
+            self.stamps.push(Stamp {
+                session,
+                number: (opened.number % 4096) as u32,
+                begin: opened.begin,
+            })?;
+        }
+        Ok(())
+    }
+
+    /// Adds a line, and one thread's answer to it.
+    fn add(
+        &mut self,
+        alloc: Global,
+        limits: &Limits,
+        line: Line,
+        drawn: u64,
+    ) -> Result<(), OutOfMemory> {
+        match &line {
+            Line::Phase => (),
+            Line::Merge { range, column } => {
+                let reply = answer_merge(&self.run(), *range, *column);
+                self.replies.push((None, reply))?;
+            }
+            Line::Call { session, call } => {
+                let reply = answer_call(alloc, limits, &self.run(), *session, call, drawn)?;
+                if let Reply::Committed { .. } = &reply {
+                    self.stamp(*session)?;
+                }
+                self.replies.push((Some(*session), reply))?;
+            }
+        }
+        self.lines.push(line)?;
+        Ok(())
+    }
+
+    /// Changes something of the report.
+    fn change(&mut self, drawer: &mut Drawer) -> Result<(), OutOfMemory> {
+        let place = drawer.draw(self.replies.len() as u64) as usize;
+        match drawer.draw(12) {
+            0 => {
+                let at = drawer.draw(self.stamps.len() as u64) as usize;
+                if let Some(stamp) = self.stamps.get_mut(at) {
+                    stamp.begin = drawer.draw(4);
+                }
+            }
+            1 => {
+                let at = drawer.draw(self.stamps.len() as u64) as usize;
+                if let Some(stamp) = self.stamps.get_mut(at) {
+                    stamp.number = drawer.pick(4);
+                }
+            }
+            2 => {
+                let _ = self.replies.pop();
+            }
+            3 => self.replies.push((Some(0), drawer.draw_reply()))?,
+            4 | 5 => {
+                if let Some(answer) = self.replies.get_mut(place) {
+                    answer.1 = drawer.draw_reply();
+                }
+            }
+            _ => {
+                if let Some(answer) = self.replies.get_mut(place) {
+                    answer.1 = drawer.nearby(&answer.1);
+                }
+            }
+        }
+        Ok(())
+    }
+}
+
+fn draw(alloc: Global, limits: &Limits, drawer: &mut Drawer) -> Result<Drawn, OutOfMemory> {
+    let mut drawn = Drawn {
+        lines: Vec::new(alloc),
+        replies: Vec::new(alloc),
+        stamps: Vec::new(alloc),
+    };
+    for _ in 0..6 + drawer.draw(20) % 20 {
+        let line = drawer.draw_line(&drawn.run());
+        let begin = drawer.draw(6);
+        drawn.add(alloc, limits, line, begin)?;
+    }
+    for _ in 0..drawer.draw(3) {
+        drawn.change(drawer)?;
+    }
+    Ok(drawn)
+}
+
+/// What the two checkers say of a drawn report.
+#[derive(Clone, Copy, PartialEq, Eq, Debug)]
+struct Verdicts {
+    plain: bool,
+    fast: bool,
+}
+
+fn judge(alloc: Global, seed: u64) -> Result<Verdicts, OutOfMemory> {
+    let mut drawer = Drawer { seed };
+    let limits = drawer.draw_limits();
+    let drawn = draw(alloc, &limits, &mut drawer)?;
+    let plain = drawn.run().is_legal(alloc, &limits)?;
+    let Drawn {
+        lines,
+        replies,
+        stamps,
+    } = drawn;
+    let report = Report {
+        replies: Replies::from_items(replies),
+        history: Stamps::from_items(stamps),
+    };
+    if !are_sessions_below(limits.sessions, lines.as_slice()) {
+        return Ok(Verdicts {
+            plain,
+            fast: !plain,
+        });
+    }
+    let fast = legal(alloc, &limits, lines.as_slice(), &report)?;
+    Ok(Verdicts { plain, fast })
+}
+
+#[test]
+fn drawn_reports_are_judged_as_the_plain_checker_judges(rt: HostRuntime) -> Result<(), Fail> {
+    let mut legal_ones = 0u64;
+    let mut others = 0u64;
+    for seed in 1..601u64 {
+        let verdicts = judge(rt.alloc(), seed.wrapping_mul(7919))?;
+        assert_eq!(rt; verdicts.plain, verdicts.fast);
+        if verdicts.fast {
+            legal_ones = legal_ones.wrapping_add(1);
+        } else {
+            others = others.wrapping_add(1);
+        }
+    }
+    // Both verdicts occur often.
+    assert!(rt; legal_ones > 150 && others > 100);
+    Ok(())
+}
