@@ -5,7 +5,7 @@ mod runs;
 
 use lst_layout::Limits;
 use lst_seat::open_store;
-use runs::{clocks, heads, turns};
+use runs::{clocks, finds, heads, turns};
 use std::io;
 
 /// A store of one session that may begin 65,535 transactions.
@@ -37,6 +37,7 @@ fn main(rt: HostRuntime) -> io::Result<()> {
         };
         let answer = match kind {
             "clocks" => clocks(&store, &mut seat, count),
+            "finds" => finds(&store, &mut seat, count),
             "heads" => heads(&store, &mut seat, count),
             "turns" => turns(&store, &mut seat, count) as u64,
             _ => 0,

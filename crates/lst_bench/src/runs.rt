@@ -1,7 +1,9 @@
 //! The runs, each a loop over one call.
 ghost use Rattle.std.specs.Prelude.{◌≡◌, ◌<◌, true};
+ghost use Rattle.lst_rule.specs.Rule.{knows};
 ghost use Rattle.lst_bench.specs.Seated.{Stays, Rests};
 
+use lst_index::{find, place};
 use lst_seat::{Seat, Store, load_clock, load_head};
 use lst_txn::{begin, close};
 
@@ -61,4 +63,23 @@ pub fn turns(store: &Store, seat: &mut Seat, count: u32) -> u32
         turn += 1;
     }
     begun
+}
+
+/// Places the key 7, and then finds it as often as asked; adds up one more than its record.
+pub fn finds(store: &Store, seat: &mut Seat, count: u32) -> u64
+    requires stays { Stays store.now seat.old }
+    requires own { 0 < seat.old.view.limits.sessions }
+    requires free { (knows seat.old.view 0).placing.hand ≡ 0 }
+    ensures { Stays store.now seat.new }
+{
+    let _ = place(store, seat, 0, 7);
+    let mut sum = 0u64;
+    let mut turn = 0;
+    while turn < count {
+        if let Some(found) = find(store, seat, 0, 7) {
+            sum = sum.wrapping_add(found.number as u64 + 1);
+        }
+        turn += 1;
+    }
+    sum
 }
