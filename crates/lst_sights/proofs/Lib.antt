@@ -3,6 +3,7 @@ pub mod Seeing
 pub mod Telling
 pub mod Turns
 pub mod Finding
+pub mod Stamps
 pub mod Watching
 pub mod Writing
 pub mod Committed

@@ -1,10 +1,11 @@
 -- What a session knows after looks.
-use Rattle.std.proofs.Common.{◌≡◌, ◌⊎◌, ℕ, ◌+◌, ◌≤◌, [], ◌∷◌, ◌++◌, cond, eqb, ◌&&◌, length, refl, sym, subst, ap, ◌∙◌, inl, inr, append_assoc, append-nil}
+use Rattle.std.proofs.Common.{◌≡◌, ◌⊎◌, ℕ, ◌+◌, ◌<◌, ◌≤◌, true, arith, [], ◌∷◌, ◌++◌, cond, eqb, ◌&&◌, length, refl, sym, subst, ap, ◌∙◌, inl, inr, append_assoc, append-nil}
 use Rattle.std.proofs.lemmas.List.{take-append-le}
 use Rattle.std.proofs.lemmas.List.Elements.{Contains-append_left}
 use Rattle.lst_layout.specs.declared.limits.Limits.{Limits}
 use Rattle.lst_layout.specs.declared.place.Place.{Place}
 use Rattle.lst_layout.specs.declared.place.Place.TheVariants.{ClockWord, CommitWord, EpochWord, RecordCounter, LogWord, BeginWord, StateWord, KeyWord, IndexWord, HeadWord, TailCounter, CellWord, DirectoryWord, FrameWord, PinWord, PostingWord}
+use Rattle.lst_layout.specs.Addresses.{address}
 use Rattle.lst_layout.specs.Words.{shown}
 use Rattle.lst_layout.proofs.Places.{addresses_are_read}
 use Rattle.lst_model.specs.Histories.{Extends}
@@ -13,15 +14,17 @@ use Rattle.lst_core_state.specs.declared.known.Stage.{Stage}
 use Rattle.lst_core_state.specs.declared.known.Stage.TheVariants.{Away, Taken, Fresh, Logged, Stated, Done}
 use Rattle.lst_core_state.specs.declared.facts.Find.TheVariants.{FreshClock, TailLoad, EmptyStart}
 use Rattle.lst_core_state.specs.Facts.{index_facts, chain_facts, state_fact, stored_fact, commit_fact, active_find, early_find}
-use Rattle.lst_core_state.specs.State.{Words, record_in, history_of}
+use Rattle.lst_core_state.specs.declared.events.Event.TheVariants.{Look}
+use Rattle.lst_core_state.specs.State.{Words, record_in, history_of, commits_of, mine}
 use Rattle.lst_core_state.specs.Step.{look_at, refreshed}
 use Rattle.lst_rule.specs.declared.view.View.{View}
 use Rattle.lst_rule.specs.Rule.{knows}
 use Rattle.lst_rule.specs.Learned.{Learns}
-use Rattle.lst_rule.proofs.Knowing.{is_seen}
-use Rattle.lst_rule.proofs.Learning.{learns_on}
-use Rattle.lst_sights.specs.Watching.{Watches, Watched, IsWatched}
+use Rattle.lst_rule.proofs.Knowing.{is_seen, knows_own}
+use Rattle.lst_rule.proofs.Learning.{learns_on, learns_same, kept_by}
+use Rattle.lst_sights.specs.Watching.{Watches, Watched, IsWatched, IsStamped}
 use Rattle.lst_sights.specs.Laws.{LooksWatch, StampsWatch, WatchesJoin, WatchersKeep, KeptBy}
+use Rattle.lst_sights.proofs.Stamps.{stamped_same, stamped_on, kept_stamped, made_stamped}
 use Rattle.lst_sights.proofs.Telling.{low, is_known, is_on_known}
 
 -- nothing new
@@ -62,20 +65,52 @@ watches_on u v w a b = record {
   stage = joined_stage u.turn a.turn b.turn a.stage (subst (λ (k : Stage). (b.turn ≡ k) ⊎ (b.turn ≡ refreshed k)) (ap (λ (k : Known). k.turn) a.is) b.stage);
 }
 
+-- nothing was looked at
+pub watched_same : (v : View) (s : ℕ) → Watched v v s
+watched_same v s = record {
+  learns = learns_same v s;
+  watches = watches_same (knows v s);
+  own = λ low. refl;
+  words = λ whole. stamped_same (shown v.limits v.words);
+}
+
 pub watches_join : WatchesJoin
 watches_join u v w s a b = record {
   learns = learns_on u v w s (knows v s) (knows w s) a.learns b.learns;
   watches = watches_on (knows u s) (knows v s) (knows w s) a.watches b.watches;
+  own = λ low. b.own (subst (λ (l : Limits). s < l.sessions) (sym a.learns.limits) low) ∙ a.own low;
+  words = λ whole. stamped_on (shown u.limits u.words) (shown v.limits v.words) (shown w.limits w.words) (a.words whole) (b.words (a.learns.whole ∙ whole));
 }
 
-watched : (v w : View) (s : ℕ) (k : Known) → Learns v w s k → Watches (knows v s) k → Watched v w s
-watched v w s k learns watches = record {
+watched : (v w : View) (s : ℕ) (k : Known) → Learns v w s k → Watches (knows v s) k → (s < v.limits.sessions → mine s k ≡ mine s (knows v s)) → (v.whole ≡ true → IsStamped (shown v.limits v.words) (shown w.limits w.words)) → Watched v w s
+watched v w s k learns watches own words = record {
   learns = record { now = refl; others = learns.others; hosted = learns.hosted; limits = learns.limits; note = learns.note; note_facts = learns.note_facts; whole = learns.whole };
   watches = subst (λ (u : Known). Watches (knows v s) u) (sym learns.now) watches;
+  own = λ low. ap (mine s) learns.now ∙ own low;
+  words = words;
 }
 
 pub stamps_watch : StampsWatch
-stamps_watch v w s range n x p made = watched v w s (knows v s) made.view (watches_same (knows v s))
+stamps_watch v w s range n x p made = watched v w s (knows v s) made.view (watches_same (knows v s)) (λ low. refl) (made_stamped v w s range n x p made)
+
+-- a look leaves what a session s has committed, which it has seen
+look_owns : (l : Limits) (w : Words) (u : Known) (s : ℕ) (p : Place) → commits_of s (history_of l w) ≡ mine s u → IsWatched p → mine s (look_at l w u p) ≡ mine s u
+look_owns l w u s ClockWord own is = own
+look_owns l w u s (StateWord j n) own is = refl
+look_owns l w u s (HeadWord r) own is = refl
+look_owns l w u s (CellWord t p) own is = refl
+look_owns l w u s CommitWord own is = absurd is
+look_owns l w u s EpochWord own is = absurd is
+look_owns l w u s RecordCounter own is = absurd is
+look_owns l w u s (LogWord t) own is = absurd is
+look_owns l w u s (BeginWord j n) own is = absurd is
+look_owns l w u s (KeyWord r) own is = absurd is
+look_owns l w u s (IndexWord q) own is = absurd is
+look_owns l w u s (TailCounter r) own is = absurd is
+look_owns l w u s (DirectoryWord r c) own is = absurd is
+look_owns l w u s (FrameWord f c) own is = absurd is
+look_owns l w u s (PinWord j) own is = absurd is
+look_owns l w u s (PostingWord c q) own is = absurd is
 
 look_watches : (l : Limits) (w : Words) (u : Known) (p : Place) → Extends (history_of l w) u.seen → IsWatched p → Watches u (look_at l w u p)
 look_watches l w u ClockWord all is = record {
@@ -137,6 +172,8 @@ pub looks_watch : LooksWatch
 looks_watch v w s x p hosted inside is m = let t = m.made.told in let W : Words = shown v.limits t.words in let k : Known = knows v s in
     watched v w s (look_at v.limits W k p) (subst (λ (q : Place). Learns v w s (look_at v.limits W k q)) ((addresses_are_read v.limits t.allowed.sound.sized).back p inside) m.made.view)
     (look_watches v.limits W k p (is_seen v t.words t.known t.merger t.allowed s hosted) is)
+    (λ low. look_owns v.limits W k s p (sym (t.allowed.sound.views s low).own ∙ ap (mine s) (sym (knows_own v t.words t.known t.merger t.allowed s hosted (λ e. omega arith)))) is)
+    (kept_stamped v w m.made.view.limits (kept_by v w (Look s (address v.limits p)) p x m))
 
 keeps : (u v : Known) → u.begin ≤ length u.seen → Watches u v → KeptBy u v
 keeps u v high watches = subst (λ (k : Known). KeptBy u k) (sym watches.is) record {

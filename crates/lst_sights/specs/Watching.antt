@@ -1,13 +1,15 @@
 -- What a session knows after it has only looked at versions, statuses and the clock.
-use Rattle.std.specs.Prelude.{◌≡◌, ◌⊎◌, ℕ, List, ◌++◌}
+use Rattle.std.specs.Prelude.{◌≡◌, ◌⊎◌, ℕ, ◌<◌, List, ◌++◌, true, eqb}
 use Rattle.lst_layout.specs.declared.place.Place.{Place}
 use Rattle.lst_layout.specs.declared.place.Place.TheVariants.{ClockWord, StateWord, HeadWord, CellWord}
+use Rattle.lst_layout.specs.Words.{Words, shown}
 use Rattle.lst_model.specs.declared.commits.Commit.{Commit}
 use Rattle.lst_core_state.specs.declared.known.Known.{Known}
 use Rattle.lst_core_state.specs.declared.known.Looks.{Looks}
 use Rattle.lst_core_state.specs.declared.known.Stage.{Stage}
 use Rattle.lst_core_state.specs.declared.facts.Fact.{Fact}
 use Rattle.lst_core_state.specs.declared.facts.Find.{Find}
+use Rattle.lst_core_state.specs.State.{writer_at, mine}
 use Rattle.lst_core_state.specs.Step.{refreshed}
 use Rattle.lst_rule.specs.declared.view.View.{View}
 use Rattle.lst_rule.specs.Rule.{knows}
@@ -23,10 +25,19 @@ pub record Watches (u v : Known) : Type 0 where
   pub is : v ≡ record u { seen = u.seen ++ later; turn = turn; facts = u.facts ++ facts; finds = u.finds ++ finds; looks = looks }
   pub stage : (turn ≡ u.turn) ⊎ (turn ≡ refreshed u.turn)
 
--- of the sessions and the merger only s has looked
+-- the words differ in stamps alone: start words of stored tails, whose transactions stay the same
+pub record IsStamped (a b : Words) : Type 0 where
+  pub rest : b ≡ record a { cells = b.cells }
+  pub others : (t p : ℕ) → 0 < p → b.cells t p ≡ a.cells t p
+  pub stored : (t : ℕ) → eqb (b.cells t 0) 0 ≡ eqb (a.cells t 0) 0
+  pub writers : (t : ℕ) → writer_at b t ≡ writer_at a t
+
+-- of the sessions and the merger only s has looked. What it has committed stays, and so do the words that the view knows, but for stamps
 pub record Watched (v w : View) (s : ℕ) : Type 0 where
   pub learns : Learns v w s (knows w s)
   pub watches : Watches (knows v s) (knows w s)
+  pub own : s < v.limits.sessions → mine s (knows w s) ≡ mine s (knows v s)
+  pub words : v.whole ≡ true → IsStamped (shown v.limits v.words) (shown w.limits w.words)
 
 -- a word of a version or a status
 abbrev pub IsWatched : Place → Type 0

@@ -39,7 +39,8 @@ pub fn words_are_found()
 {}
 
 /// A session that only looks at versions, statuses and the clock, and stamps, knows more facts, finds and commits after it, and else what
-/// it knew: it sees the same.
+/// it knew: it sees the same, and its own commits are those of before. A view that knows every word knows the same words then, but that
+/// start words of stored versions may be stamped; each version keeps its transaction.
 pub fn watchers_keep()
     ensures looks { LooksWatch }
     ensures stamps { StampsWatch }
