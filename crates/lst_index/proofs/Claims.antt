@@ -1,8 +1,9 @@
 -- The claim of a position for the record in hand.
-use Rattle.std.proofs.Common.{◌≡◌, ◌≢◌, ℕ, ◌+◌, ◌-◌, ◌<◌, ◌≤◌, List, [], ◌∷◌, ◌++◌, Bool, true, false, cond, eqb, sym, subst, ap, ◌∙◌, arith, eq-eqb, ne_eqb}
+use Rattle.std.proofs.Common.{◌≡◌, ◌≢◌, ℕ, ◌+◌, ◌-◌, ◌<◌, ◌≤◌, List, [], ◌∷◌, ◌++◌, Bool, true, false, cond, eqb, sym, subst, ap, ◌∙◌, arith, eq-eqb, ne_eqb, slice_set}
 use Rattle.std.specs.List.{Contains}
 use Rattle.lst_layout.specs.declared.limits.Limits.{Limits}
 use Rattle.lst_layout.specs.declared.place.Place.TheVariants.{IndexWord}
+use Rattle.lst_layout.specs.Addresses.{address}
 use Rattle.lst_layout.specs.Words.{Words, shown}
 use Rattle.lst_core_state.specs.declared.known.Known.{Known}
 use Rattle.lst_core_state.specs.declared.events.Event.TheVariants.{Claim}
@@ -16,8 +17,9 @@ use Rattle.lst_rule.specs.Rule.{knows, hosts}
 use Rattle.lst_rule.specs.Learned.{Learns, Met, CanStand, Possible}
 use Rattle.lst_rule.proofs.Knowing.{knows_own}
 use Rattle.lst_index.specs.Searches.{IsPlaced, Passed, Works}
-use Rattle.lst_index.specs.Visits.{Shows}
+use Rattle.lst_index.specs.Visits.{Shows, Claims}
 use Rattle.lst_index.proofs.Lists.{contains_last}
+use Rattle.lst_index.proofs.Wholes.{met_word}
 use Rattle.lst_index.proofs.Views.{works_plain}
 use Rattle.lst_index.proofs.Ending.{reaches}
 use Rattle.lst_index.proofs.Looks.{noted}
@@ -68,6 +70,12 @@ module _ (v w : View) (s q x y : ℕ) (h : Met v w (Claim s q) (IndexWord q) y x
           (subst (λ (n : ℕ). Contains (k.facts ++ IndexAt q (k.placing.hand - 1) k.placing.key ∷ []) (IndexAt q (k.placing.hand - 1) n)) is (contains_last k.facts (IndexAt q (k.placing.hand - 1) k.placing.key)))),
     )
 
+    pub won_stores : (r : ℕ) → k.placing.hand ≡ r + 1 → y ≡ cond (eqb x 0) k.placing.hand x → Claims v w s q r
+    won_stores r hand stored = record {
+      hand = hand;
+      words = h.made.words ∙ ap (slice_set v.words (address v.limits (IndexWord q))) (stored ∙ (ap (λ (b : Bool). cond b k.placing.hand x) (eq-eqb x 0 won) ∙ hand));
+    }
+
   -- another session was first
   module _ (lost : x ≢ 0) where
     loses : Learns v w s (lost_as x)
@@ -85,6 +93,10 @@ module _ (v w : View) (s q x y : ℕ) (h : Met v w (Claim s q) (IndexWord q) y x
       fact = subst (λ (fs : List Fact). Contains fs (IndexAt q (x - 1) key_there)) (sym (ap (λ (u : Known). u.facts) loses.now ∙ ap (λ (b : Bool). k.facts ++ cond b [] (IndexAt q (x - 1) key_there ∷ [])) (ne_eqb x 0 lost))) (contains_last k.facts (IndexAt q (x - 1) key_there));
       last = ap (λ (u : Known). u.looks.index) loses.now ∙ (omega arith);
     }
+
+    -- in the words of a view that knows each word
+    pub lost_taken : v.whole ≡ true → (shown v.limits v.words).index q ≢ 0
+    lost_taken whole e = lost (sym (met_word v w (Claim s q) (IndexWord q) y x h whole) ∙ e)
 
     pub lost_few : x ≤ record_count v.limits
     lost_few = let f = h.made.told.allowed.sound.index.filled q (let e : W.index q ≡ x = h.found in omega arith) in let few = f.few in let e : W.index q ≡ x = h.found in omega arith

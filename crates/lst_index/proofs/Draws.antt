@@ -1,13 +1,16 @@
 -- The draw of a record.
-use Rattle.std.proofs.Common.{◌≡◌, ℕ, ◌+◌, ◌<◌, ◌≤◌, List, [], ◌∷◌, ◌++◌, Bool, true, false, cond, nat_lt, ◌||◌, refl, sym, subst, ap, ◌∙◌, arith, lt-ltb, le-ltb}
+use Rattle.std.proofs.Common.{◌≡◌, ℕ, ◌+◌, ◌-◌, ◌%◌, ◌^◌, ◌<◌, ◌≤◌, List, [], ◌∷◌, ◌++◌, Bool, true, false, cond, nat_lt, ◌||◌, slice_set, refl, sym, subst, ap, ◌∙◌, arith, lt-ltb, le-ltb}
 use Rattle.std.specs.List.{Contains}
 use Rattle.lst_layout.specs.declared.limits.Limits.{Limits}
 use Rattle.lst_layout.specs.declared.place.Place.{Place}
-use Rattle.lst_layout.specs.declared.place.Place.TheVariants.{RecordCounter}
+use Rattle.lst_layout.specs.declared.place.Place.TheVariants.{RecordCounter, KeyWord}
+use Rattle.lst_layout.specs.Limits.{IsValid}
+use Rattle.lst_layout.specs.Addresses.{address}
+use Rattle.lst_layout.specs.Words.{Words, shown}
 use Rattle.lst_layout.specs.Areas as areas
 use Rattle.lst_core_state.specs.declared.known.Known.{Known}
 use Rattle.lst_core_state.specs.declared.known.Placing.{Placing}
-use Rattle.lst_core_state.specs.declared.events.Event.TheVariants.{DrawRecord, StoreKey}
+use Rattle.lst_core_state.specs.declared.events.Event.TheVariants.{Look, DrawRecord, StoreKey}
 use Rattle.lst_core_state.specs.declared.facts.Fact.TheVariants.{RecordsAtLeast}
 use Rattle.lst_core_state.specs.declared.facts.Find.{Find}
 use Rattle.lst_core_state.specs.declared.facts.Find.TheVariants.{FullRecords}
@@ -18,9 +21,10 @@ use Rattle.lst_rule.specs.Rule.{knows}
 use Rattle.lst_rule.specs.Learned.{Learns, Made, Met}
 use Rattle.lst_seat.specs.Stores.{Looked}
 use Rattle.lst_index.specs.Searches.{Works}
-use Rattle.lst_index.specs.Placings.{IsFull}
-use Rattle.lst_index.specs.Visits.{one, Uses, HasOne}
+use Rattle.lst_index.specs.Placings.{IsFull, drawn_words}
+use Rattle.lst_index.specs.Visits.{one, Uses, HasOne, Draws}
 use Rattle.lst_index.proofs.Lists.{contains_last}
+use Rattle.lst_index.proofs.Wholes.{met_word, made_shows}
 use Rattle.lst_index.proofs.Views.{works_of, works_on, works_plain, works_placing}
 
 or_true : (b : Bool) → (b || true) ≡ true
@@ -66,6 +70,16 @@ module _ (v w : View) (s x : ℕ) (h : Looked v w s RecordCounter x) where
   pub load_full : record_count v.limits ≤ x → IsFull w s
   load_full full = is_full v w s x learns.limits full (subst (λ (z : Known). Contains z.facts (RecordsAtLeast x)) (sym learns.now) (contains_last k.facts (RecordsAtLeast x)))
 
+  -- in the words of a view that knows each word
+  counted : v.whole ≡ true → (shown v.limits v.words).counter ≡ x
+  counted whole = met_word v w (Look s (address v.limits RecordCounter)) RecordCounter x x h.met whole
+
+  pub load_below : x < record_count v.limits → v.whole ≡ true → (shown v.limits v.words).counter < record_count v.limits
+  load_below low whole = let e = counted whole in omega arith
+
+  pub load_reached : record_count v.limits ≤ x → v.whole ≡ true → record_count v.limits ≤ (shown v.limits v.words).counter
+  load_reached full whole = let e = counted whole in omega arith
+
 -- ---- a draw
 
 module _ (v w : View) (s x y : ℕ) (h : Met v w (DrawRecord s) RecordCounter y x) where
@@ -103,6 +117,13 @@ module _ (v w : View) (s x y : ℕ) (h : Met v w (DrawRecord s) RecordCounter y 
   pub draw_full_placing : record_count v.limits ≤ x → (knows w s).placing ≡ record u.placing { counter = (knows w s).placing.counter }
   draw_full_placing full = let e : (knows w s).placing ≡ record u.placing { counter = drawn_full x } = ap (λ (z : Known). z.placing) (draws_full full).now in e ∙ (λ i. record u.placing { counter = (sym e i).counter })
 
+  -- in the words of a view that knows each word
+  pub draw_found : v.whole ≡ true → (shown v.limits v.words).counter ≡ x
+  draw_found whole = met_word v w (DrawRecord s) RecordCounter y x h whole
+
+  pub draw_reached : record_count v.limits ≤ x → v.whole ≡ true → record_count v.limits ≤ (shown v.limits v.words).counter
+  draw_reached full whole = let e = draw_found whole in omega arith
+
   -- and the store of the key
   module _ (o : View) (key : ℕ) (p : Place) (j : Made w o (StoreKey s key) p key) (low : x < record_count v.limits) where
     keyed : Learns w o s (record (knows w s) { placing = record (knows w s).placing { key = key; has_key = true } })
@@ -119,6 +140,37 @@ module _ (v w : View) (s x y : ℕ) (h : Met v w (DrawRecord s) RecordCounter y 
 
     pub drawn_uses : u.placing.has_key ≡ false → Uses u.placing (knows o s).placing 1
     drawn_uses none = subst (λ (q : Placing). Uses u.placing q 1) (sym placing_is) record { drew = x ∷ []; drawn = refl; few = let e = ap one none in omega arith }
+
+  module _ (o : View) (key : ℕ) (j : Made w o (StoreKey s key) (KeyWord ((knows w s).placing.hand - 1)) key) (low : x < record_count v.limits) (next : y ≡ (x + 1) % 2 ^ 64) where
+    limits : w.limits ≡ v.limits
+    limits = (draws_low low).limits
+
+    sum_fits : y ≡ x + 1
+    sum_fits = let sized : IsValid v.limits = h.made.told.allowed.sound.sized in let few = sized.ranges.1 in omega arith
+
+    record_is : (knows w s).placing.hand - 1 ≡ x
+    record_is = let e : (knows w s).placing.hand ≡ x + 1 = ap (λ (z : Known). z.placing.hand) (draws_low low).now in omega arith
+
+    counter_stored : w.words ≡ slice_set v.words (address v.limits RecordCounter) (x + 1)
+    counter_stored = h.made.words ∙ ap (slice_set v.words (address v.limits RecordCounter)) sum_fits
+
+    key_stored : o.words ≡ drawn_words v.limits v.words x key
+    key_stored = j.words ∙ (λ i. slice_set (counter_stored i) (address (limits i) (KeyWord (record_is i))) key)
+
+    index_stays : v.whole ≡ true → (shown v.limits o.words).index ≡ (shown v.limits v.words).index
+    index_stays whole = let drawn = made_shows v w (DrawRecord s) RecordCounter y h.made whole in
+        let keyed = made_shows w o (StoreKey s key) (KeyWord ((knows w s).placing.hand - 1)) key j ((draws_low low).whole ∙ whole) in
+        subst (λ (l : Limits). (shown l o.words).index ≡ (shown l w.words).index) limits (ap (λ (z : Words). z.index) keyed) ∙ ap (λ (z : Words). z.index) drawn
+
+    pub draw_stores : v.whole ≡ true → Draws v o s key
+    draw_stores whole = record {
+      number = x;
+      low = low;
+      next = draw_found whole;
+      hand = ap (λ (z : Known). z.placing.hand) j.view.now ∙ ap (λ (z : Known). z.placing.hand) (draws_low low).now;
+      words = key_stored;
+      index = index_stays whole;
+    }
 
 -- the limit that the program compares with is that of the view
 pub limit_is : (v : View) (l m : Limits) (n : ℕ) → n ≡ areas.record_count l → l ≡ m → v.limits ≡ m → n ≡ record_count v.limits

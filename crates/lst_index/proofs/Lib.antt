@@ -1,6 +1,7 @@
 pub mod Lists
 pub mod Hashing
 pub mod Views
+pub mod Wholes
 pub mod Ending
 pub mod Looks
 pub mod Searching
@@ -9,3 +10,4 @@ pub mod Claims
 pub mod Visiting
 pub mod Pairing
 pub mod Placed
+pub mod Leaving

@@ -20,9 +20,11 @@ use Rattle.lst_rule.specs.Learned.{Learns, Possible}
 use Rattle.lst_rule.proofs.Knowing.{is_fact, knows_own}
 use Rattle.lst_seat.specs.Stores.{Looked}
 use Rattle.lst_index.specs.Searches.{IsPlaced, Passed, Ended, Works, Keeps}
+use Rattle.lst_index.specs.Placings.{HasRecord}
 use Rattle.lst_index.specs.Visits.{Shows, Holds, HasOne}
 use Rattle.lst_index.proofs.Lists.{contains_last}
 use Rattle.lst_index.proofs.Views.{reworked, works_of, works_stay}
+use Rattle.lst_index.proofs.Wholes.{met_word}
 use Rattle.lst_index.proofs.Ending.{passed_more}
 
 -- an index word that isn't 0
@@ -68,12 +70,18 @@ module _ (v w : View) (s q x : ℕ) (h : Looked v w s (IndexWord q) x) (hosted :
   pub index_few : x ≢ 0 → x ≤ record_count v.limits
   index_few some = let f = h.met.made.told.allowed.sound.index.filled q (let e = at in omega arith) in let few = f.few in let e = at in omega arith
 
+  -- in the words of a view that knows each word
+  pub index_free : x ≡ 0 → v.whole ≡ true → (shown v.limits v.words).index q ≡ 0
+  index_free free whole = met_word v w (Look s (address v.limits (IndexWord q))) (IndexWord q) x x h.met whole ∙ free
+
   -- an empty one, after positions that hold other keys
   pub index_ends : (key n : ℕ) → x ≡ 0 → n < size v.limits → q ≡ position_of v.limits key n → Passed v.limits k.facts key n → Ended w s key
   index_ends key n free short is p = let t = h.met.made.told in let same : w.limits ≡ v.limits = h.view.limits in record {
     turn = n;
     short = subst (λ (l : Limits). n < size l) (sym same) short;
     passed = subst (λ (l : Limits). Passed l (knows w s).facts key n) (sym same) (passed_more v.limits k.facts (knows w s).facts key n (works_stay v w s [] index_works) p);
+    before = v;
+    look = subst (λ (z : ℕ). Looked v w s (IndexWord z) 0) (is ∙ ap (λ (l : Limits). position_of l key n) (sym same)) (subst (λ (y : ℕ). Looked v w s (IndexWord q) y) free h);
     words = slice_set t.words (address v.limits (IndexWord q)) x;
     known = (after (state_over v.limits t.words t.known t.merger) (Look s (address v.limits (IndexWord q)))).known;
     merger = (after (state_over v.limits t.words t.known t.merger) (Look s (address v.limits (IndexWord q)))).merger;
@@ -117,6 +125,11 @@ module _ (v w : View) (s r x : ℕ) (h : Looked v w s (KeyWord r) x) (hosted : h
       let same : u ≡ t.known s = knows_own v t.words t.known t.merger t.allowed s hosted (λ g. omega arith) in
       let same_hand : u.placing.hand ≡ (t.known s).placing.hand = ap (λ (z : Known). z.placing.hand) same in
       (t.allowed.sound.index.hands s own).out (omega arith) q (f.0 ∙ (sym e ∙ same_hand))
+
+  -- in the words of a view that knows each word
+  pub key_had : (key q : ℕ) → Shows u q r → x ≡ key → v.whole ≡ true → HasRecord v.limits v.words key r
+  key_had key q shows e whole = let t = h.met.made.told in let f = is_fact v t.words t.known t.merger t.allowed s hosted (IndexAt q r shows.key) shows.fact in
+      subst (λ (ws : List ℕ). HasRecord v.limits ws key r) (sym (t.allowed.whole whole)) (q, f.0, found ∙ e)
 
   key_learns : Learns v w s (cond (gives_up u r x) (given_up u) u)
   key_learns = subst (λ (y : ℕ). Learns v w s (cond (gives_up u r y) (given_up u) u)) found h.view

@@ -17,8 +17,8 @@ use Rattle.lst_seat.specs.Seats.{Sitting}
 use Rattle.lst_seat.specs.Stores.{IsSeatOf}
 use Rattle.lst_seat.specs.declared.records.RecordId.{RecordId}
 use Rattle.lst_index.specs.Searches.{Passed, Ended, IsUnseen, Works, Keeps}
-use Rattle.lst_index.specs.Placings.{Drew, IsFull, FoundFull, full_finds}
-use Rattle.lst_index.specs.Visits.{one, Uses, HasOne, Holds, Places}
+use Rattle.lst_index.specs.Placings.{Drew, IsFull, FoundFull, full_finds, WasUnplaced, DrawsAfterLook}
+use Rattle.lst_index.specs.Visits.{one, Uses, HasOne, Holds, Rests, Places}
 use Rattle.lst_index.proofs.Views.{works_none, works_on, works_host, uses_on, uses_one, uses_same, uses_keeps}
 use Rattle.lst_index.proofs.Ending.{ended_unseen}
 use Rattle.lst_index.proofs.Looks.{idle}
@@ -117,15 +117,31 @@ none_is {T} {P} o e h = subst (λ (z : Option T). IfNone z P) e h
 pub drew_of : (p q : Placing) (m : ℕ) → Uses p q m → Drew p q m
 drew_of p q m a = record { drew = a.drew; drawn = a.drawn; few = let e = a.few in omega arith }
 
+-- a key that is unseen after a search was before it
+unseen_before : (v w : View) (s key : ℕ) (finds : List Find) → Works v w s finds → IsUnseen (knows w s) key → IsUnseen (knows v s) key
+unseen_before v w s key finds a u = let t = subst (λ (k : Known). IsUnseen k key) a.view.now u in record { commits = t.commits; own = t.own }
+
+-- a look that found the key's run ended
+pub looked_first : (v t w : View) (s key : ℕ) → hosts v s ≡ true → s < v.limits.sessions → Works v t s [] → (knows t s).placing ≡ (knows v s).placing → Ended t s key → DrawsAfterLook v w s key
+looked_first v t w s key host low a same ended = inr record { then = t; before = a; drawn = ap (λ (p : Placing). p.drawn) same; ended = ended; unseen = unseen_before v t s key [] a (ended_unseen t s key (works_host v t s [] a host) (subst (λ (l : Limits). s < l.sessions) (sym a.view.limits) low) ended) }
+
+pub looked_on : (u v w : View) (s key : ℕ) → Works u v s [] → DrawsAfterLook u v s key → DrawsAfterLook v w s key → DrawsAfterLook u w s key
+looked_on u v w s key a (inr x) b = inr x
+looked_on u v w s key a (inl e) (inl f) = inl (f ∙ e)
+looked_on u v w s key a (inl e) (inr x) = inr record { then = x.then; before = works_on u v x.then s [] a x.before; drawn = x.drawn ∙ e; ended = x.ended; unseen = unseen_before u v s key [] a x.unseen }
+
 pub place_on : (store : Store) (v : View) (seat on : Sitting) (s key n : ℕ) → Places store v seat s key n → Works seat.view on.view s [] → IsSeatOf store on
-    → Uses (knows seat.view s).placing (knows on.view s).placing (one (knows on.view s).placing.has_key) × Holds (knows on.view s).placing key × Passed store.layout.limits (knows on.view s).facts key (n + 1) → Places store v on s key (n + 1)
-place_on store v seat on s key n p a seat_of h = record {
+    → Uses (knows seat.view s).placing (knows on.view s).placing (one (knows on.view s).placing.has_key) × Holds (knows on.view s).placing key × Passed store.layout.limits (knows on.view s).facts key (n + 1)
+    → (seat.view.whole ≡ true → (knows seat.view s).placing.hand ≡ 0 → Rests seat.view on.view s) → DrawsAfterLook seat.view on.view s key → Places store v on s key (n + 1)
+place_on store v seat on s key n p a seat_of h rests look = record {
   seat_of = seat_of;
   host = works_host seat.view on.view s [] a p.host;
   works = works_on v seat.view on.view s [] p.works a;
+  rests = λ whole. let before = p.rests whole in let now = rests (p.works.view.whole ∙ whole) before.free in record { words = now.words ∙ before.words; free = now.free };
   uses = uses_on (knows v s).placing (knows seat.view s).placing (knows on.view s).placing (one (knows on.view s).placing.has_key) p.uses h.0;
   holds = h.1;
   passed = h.2;
+  after_look = looked_on v seat.view on.view s key p.works p.after_look look;
 }
 
 pub place_first : (store : Store) (seat : Sitting) (s key : ℕ) → IsSeatOf store seat → hosts seat.view s ≡ true → s < seat.view.limits.sessions → (knows seat.view s).placing.hand ≡ 0 → Possible seat.view → Places store seat.view seat s key 0
@@ -133,9 +149,11 @@ place_first store seat s key seat_of host low free p = let none = idle seat.view
   seat_of = seat_of;
   host = host;
   works = works_none seat.view s;
+  rests = λ whole. record { words = refl; free = free };
   uses = uses_same (knows seat.view s).placing (knows seat.view s).placing (one (knows seat.view s).placing.has_key) refl (omega arith);
   holds = inl (free, none);
   passed = λ i h. absurd (omega arith);
+  after_look = inl refl;
 }
 
 -- and what a visit that ends it leaves

@@ -3,6 +3,7 @@ use Rattle.std.specs.Prelude.{◌≡◌, ◌≢◌, ◌⊎◌, ℕ, ◌<◌, Lis
 use Rattle.std.specs.List.{Contains}
 use Rattle.lst_layout.specs.declared.limits.Limits.{Limits}
 use Rattle.lst_layout.specs.Words.{shown}
+use Rattle.lst_layout.specs.declared.place.Place.TheVariants.{IndexWord}
 use Rattle.lst_model.specs.Histories.{all_acts_on}
 use Rattle.lst_core_state.specs.declared.known.Known.{Known}
 use Rattle.lst_core_state.specs.declared.known.Placing.{Placing}
@@ -14,6 +15,7 @@ use Rattle.lst_core_state.specs.State.{sight}
 use Rattle.lst_rule.specs.declared.view.View.{View}
 use Rattle.lst_rule.specs.Rule.{knows, Allowed}
 use Rattle.lst_rule.specs.Learned.{Learns}
+use Rattle.lst_seat.specs.Stores.{Looked}
 
 -- the key has this record: a position of the index holds it, for good
 abbrev pub IsPlaced : Known → ℕ → ℕ → Type 0
@@ -23,12 +25,14 @@ IsPlaced k r key = (q : ℕ) × Contains k.facts (IndexAt q r key)
 abbrev pub Passed : Limits → List Fact → ℕ → ℕ → Type 0
 Passed l facts key n = (i : ℕ) → i < n → (r k : ℕ) × Contains facts (IndexAt (position_of l key i) r k) × (k ≢ key)
 
--- the key's run was found to end without it: the positions passed hold other keys, and in a state in which the view is possible the
--- next one is empty
+-- the key's run was found to end without it: the positions passed hold other keys, and the load of the next one, by which the session s came to
+-- the view, found it empty. So it is in a state in which the view is possible
 pub record Ended (v : View) (s key : ℕ) : Type 0 where
   pub turn : ℕ
   pub short : turn < size v.limits
   pub passed : Passed v.limits (knows v s).facts key turn
+  pub before : View
+  pub look : Looked before v s (IndexWord (position_of v.limits key turn)) 0
   pub words : List ℕ
   pub known : ℕ → Known
   pub merger : Known

@@ -1,13 +1,15 @@
 //! A record for a key.
-ghost use Rattle.std.specs.Prelude.{◌≡◌, ◌≢◌, ℕ, ◌+◌, ◌-◌, ◌<◌, ◌≤◌, [], ◌∷◌, true, false, IfSome, IfNone, IfOk, IfErr, OnOk, OnErr};
+ghost use Rattle.std.specs.Prelude.{◌≡◌, ◌≢◌, ℕ, ◌+◌, ◌-◌, ◌<◌, ◌≤◌, [], ◌∷◌, true, false, IfSome, IfNone, IfOk, IfErr, IsOk, OnOk, OnErr};
+ghost use Rattle.lst_layout.specs.Words.{shown};
 ghost use Rattle.lst_core_state.specs.declared.facts.Find.TheVariants.{FullRecords};
 ghost use Rattle.lst_core_state.specs.Cells.{record_count};
 ghost use Rattle.lst_core_state.specs.Index.{size, position_of};
 ghost use Rattle.lst_rule.specs.Rule.{knows, hosts};
+ghost use Rattle.lst_rule.specs.Learned.{Kept};
 ghost use Rattle.lst_seat.specs.Stores.{IsSeatOf};
 ghost use Rattle.lst_index.specs.Searches.{IsPlaced, Passed, Works};
-ghost use Rattle.lst_index.specs.Placings.{Drew, IsFull, FoundFull, full_finds};
-ghost use Rattle.lst_index.specs.Visits.{one, Holds, HasOne, Uses, Shows};
+ghost use Rattle.lst_index.specs.Placings.{Drew, IsFull, FoundFull, full_finds, HasRecord, Leaves, LeavesFull, DrawsAfterLook};
+ghost use Rattle.lst_index.specs.Visits.{one, Holds, HasOne, Uses, Shows, Draws, Claims, Rests};
 
 use crate::positions::position;
 use crate::visits::{compare, look};
@@ -35,6 +37,9 @@ pub(crate) fn look_at_counter(store: &Store, seat: &mut Seat, s: u32) -> Result<
     ensures placing { let before = (knows seat.old.view s).placing in (knows seat.new.view s).placing ≡ record before { counter = (knows seat.new.view s).placing.counter } }
     ensures serves { OnOk result ((knows seat.new.view s).placing.counter.is_serving ≡ true) }
     ensures full { OnErr result (IsFull seat.new.view s) }
+    ensures kept { Kept seat.old.view seat.new.view }
+    ensures below { OnOk result (seat.old.view.whole ≡ true → (shown seat.old.view.limits seat.old.view.words).counter < record_count seat.old.view.limits) }
+    ensures reached { OnErr result (seat.old.view.whole ≡ true → record_count seat.old.view.limits ≤ (shown seat.old.view.limits seat.old.view.words).counter) }
 {
     if load_record_counter(store, seat, s) >= store.layout().limits.record_count() {
         return Err(TableFull);
@@ -55,6 +60,8 @@ pub(crate) fn draw(store: &Store, seat: &mut Seat, s: u32, key: Key) -> Result<(
     ensures drawn { OnOk result (HasOne (knows seat.new.view s).placing key × Uses (knows seat.old.view s).placing (knows seat.new.view s).placing 1) }
     ensures full { OnErr result (IsFull seat.new.view s) }
     ensures none { OnErr result (let before = (knows seat.old.view s).placing in (knows seat.new.view s).placing ≡ record before { counter = (knows seat.new.view s).placing.counter }) }
+    ensures stores { OnOk result (seat.old.view.whole ≡ true → Draws seat.old.view seat.new.view s key) }
+    ensures reached { OnErr result (seat.old.view.whole ≡ true → record_count seat.old.view.limits ≤ (shown seat.old.view.limits seat.old.view.words).counter) }
 {
     if step_draw_record(store, seat, s) >= store.layout().limits.record_count() {
         return Err(TableFull);
@@ -74,6 +81,9 @@ pub(crate) fn take_record(store: &Store, seat: &mut Seat, s: u32, key: Key) -> R
     ensures has { OnOk result (HasOne (knows seat.new.view s).placing key × Uses (knows seat.old.view s).placing (knows seat.new.view s).placing 1) }
     ensures full { OnErr result (IsFull seat.new.view s) }
     ensures none { OnErr result (((knows seat.new.view s).placing.hand ≡ 0) × Uses (knows seat.old.view s).placing (knows seat.new.view s).placing 0) }
+    ensures stores { OnOk result (seat.old.view.whole ≡ true → (knows seat.old.view s).placing.hand ≡ 0 → Draws seat.old.view seat.new.view s key) }
+    ensures kept { OnErr result (Kept seat.old.view seat.new.view) }
+    ensures reached { OnErr result (seat.old.view.whole ≡ true → record_count seat.old.view.limits ≤ (shown seat.old.view.limits seat.old.view.words).counter) }
 {
     if seat.rec(s).is_some() {
         return Ok(());
@@ -103,6 +113,8 @@ fn claim(
     ensures works { Works seat.old.view seat.new.view s [] }
     ensures won { IfOk result (λ r. (r.number < record_count store.now.layout.limits) × IsPlaced (knows seat.new.view s) r.number key × ((knows seat.new.view s).placing ≡ (let before = (knows seat.old.view s).placing in record before { hand = 0; has_key = false }))) }
     ensures lost { IfErr result (λ other. (other.number < record_count store.now.layout.limits) × Shows (knows seat.new.view s) position other.number × ((knows seat.new.view s).placing ≡ (knows seat.old.view s).placing)) }
+    ensures stores { IfOk result (λ r. Claims seat.old.view seat.new.view s position r.number) }
+    ensures taken { OnErr result (seat.old.view.whole ≡ true → (shown seat.old.view.limits seat.old.view.words).index position ≢ 0) }
 {
     let Some(number) = seat.rec(s) else {
         unreachable!()
@@ -140,6 +152,8 @@ pub(crate) fn settle(
     ensures drawn { (knows seat.new.view s).placing.drawn ≡ (knows seat.old.view s).placing.drawn }
     ensures placed { IfSome result (λ r. (r.number < record_count store.now.layout.limits) × IsPlaced (knows seat.new.view s) r.number key × ((knows seat.new.view s).placing.hand ≡ 0)) }
     ensures passed { IfNone result (HasOne (knows seat.new.view s).placing key × Passed store.now.layout.limits (knows seat.new.view s).facts key (turn + 1)) }
+    ensures stores { IfSome result (λ r. seat.old.view.whole ≡ true → (shown seat.old.view.limits seat.old.view.words).index position ≡ 0 → Claims seat.old.view seat.new.view s position r.number) }
+    ensures taken { IfNone result (seat.old.view.whole ≡ true → (shown seat.old.view.limits seat.old.view.words).index position ≢ 0) }
 {
     match claim(store, seat, s, key, turn, position) {
         Ok(placed) => Some(placed),
@@ -164,10 +178,14 @@ pub(crate) fn visit(
     ensures seat { IsSeatOf store.now seat.new }
     ensures works { Works seat.old.view seat.new.view s (full_finds result) }
     ensures uses { Uses (knows seat.old.view s).placing (knows seat.new.view s).placing 1 }
+    ensures after_look { IsOk result → DrawsAfterLook seat.old.view seat.new.view s key }
     ensures placed { IfOk result (λ o. IfSome o (λ r. (r.number < record_count store.now.layout.limits) × IsPlaced (knows seat.new.view s) r.number key × ((knows seat.new.view s).placing.hand ≡ 0))) }
     ensures passed { IfOk result (λ o. IfNone o (Uses (knows seat.old.view s).placing (knows seat.new.view s).placing (one (knows seat.new.view s).placing.has_key) × Holds (knows seat.new.view s).placing key × Passed store.now.layout.limits (knows seat.new.view s).facts key (turn + 1))) }
     ensures full { OnErr result (FoundFull seat.old.view seat.new.view s key) }
     ensures none { OnErr result (((knows seat.new.view s).placing.hand ≡ 0) × Uses (knows seat.old.view s).placing (knows seat.new.view s).placing 0) }
+    ensures words { IfOk result (λ o. IfSome o (λ r. seat.old.view.whole ≡ true → (knows seat.old.view s).placing.hand ≡ 0 → Leaves seat.old.view.limits seat.old.view.words seat.new.view.words key r.number)) }
+    ensures rests { IfOk result (λ o. IfNone o (seat.old.view.whole ≡ true → (knows seat.old.view s).placing.hand ≡ 0 → Rests seat.old.view seat.new.view s)) }
+    ensures kept { OnErr result (seat.old.view.whole ≡ true → LeavesFull seat.old.view.limits seat.old.view.words seat.new.view.words key) }
 {
     let at = position(store.layout(), key, turn);
     if let Some(number) = look(store, seat, s, at) {
@@ -178,10 +196,14 @@ pub(crate) fn visit(
 }
 
 /// The record of a key, which is drawn and placed if the key has none. At most one record is drawn, and none is in hand afterwards. A
-/// record that was drawn while another session placed the key stays drawn in vain.
+/// record that was drawn while another session placed the key stays drawn in vain. A record is drawn only once the key's run was found to
+/// end without it in this call.
 ///
 /// TableFull comes exactly where the key was found without a record and then the record counter at its limit; no record is drawn
 /// then.
+///
+/// To a view that knows every word: a key that has a record gets it, and no word changes. Else the next record is drawn, its key is stored,
+/// and it is put into one position that was empty; no other word changes. A refusal changes none.
 pub fn place(store: &Store, seat: &mut Seat, s: u32, key: Key) -> Result<RecordId, TableFull>
     requires seat { IsSeatOf store.now seat.old }
     requires host { hosts seat.old.view s ≡ true }
@@ -190,10 +212,15 @@ pub fn place(store: &Store, seat: &mut Seat, s: u32, key: Key) -> Result<RecordI
     ensures seat { IsSeatOf store.now seat.new }
     ensures works { Works seat.old.view seat.new.view s (full_finds result) }
     ensures drew { Drew (knows seat.old.view s).placing (knows seat.new.view s).placing 1 }
+    ensures after_look { IsOk result → DrawsAfterLook seat.old.view seat.new.view s key }
     ensures free { (knows seat.new.view s).placing.hand ≡ 0 }
     ensures ok { IfOk result (λ r. (r.number < record_count store.now.layout.limits) × IsPlaced (knows seat.new.view s) r.number key) }
     ensures full { OnErr result (FoundFull seat.old.view seat.new.view s key) }
     ensures none { OnErr result (Drew (knows seat.old.view s).placing (knows seat.new.view s).placing 0) }
+    ensures words { IfOk result (λ r. seat.old.view.whole ≡ true → Leaves seat.old.view.limits seat.old.view.words seat.new.view.words key r.number) }
+    ensures again { IfOk result (λ found. seat.old.view.whole ≡ true → (r : ℕ) → HasRecord seat.old.view.limits seat.old.view.words key r → (found.number ≡ r) × (seat.new.view.words ≡ seat.old.view.words)) }
+    ensures kept { OnErr result (seat.old.view.whole ≡ true → LeavesFull seat.old.view.limits seat.old.view.words seat.new.view.words key) }
+    ensures missed { OnErr result (seat.old.view.whole ≡ true → (r : ℕ) → ¬ (HasRecord seat.old.view.limits seat.old.view.words key r)) }
 {
     seat.consider();
     let all = store.layout().index_positions() as u32;

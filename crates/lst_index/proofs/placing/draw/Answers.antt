@@ -1,7 +1,7 @@
-use Rattle.std.proofs.Common.{◌<◌, ◌≤◌, ℕ, subst, ap}
+use Rattle.std.proofs.Common.{◌<◌, ◌≤◌, ℕ, refl, subst, ap}
 use Rattle.lst_layout.specs.declared.layout.Layout.{Layout}
 use Rattle.lst_core_state.specs.Cells.{record_count}
-use Rattle.lst_index.proofs.Draws.{draw_full_works, draw_full_is, draw_full_placing, drawn_works, drawn_has, drawn_uses, limit_is}
+use Rattle.lst_index.proofs.Draws.{draw_full_works, draw_full_is, draw_full_placing, drawn_works, drawn_has, drawn_uses, draw_stores, limit_is}
 use Rattle.lst_index.proofs.placing.draw.Goals as goal
 
 pub returns-then-step_draw_record-record_count-clause-works : goal.returns-then-step_draw_record-record_count-clause-works
@@ -24,3 +24,8 @@ pub returns-clause-drawn : goal.returns-clause-drawn
 returns-clause-drawn c = let low : c.step_draw_record.result < record_count c.args.seat.now.view.limits =
     subst (λ (n : ℕ). c.step_draw_record.result < n) (limit_is c.args.seat.now.view c.layout.result.now.limits c.args.store.now.layout.limits c.record_count.result c.record_count.ensures.count (ap (λ (y : Layout). y.limits) c.layout.ensures) c.requires.seat.limits) c.if-step_draw_record-record_count.false in
     (drawn_has _ _ _ _ _ c.step_draw_record.ensures.met _ _ _ c.step_store_key.ensures.made low, drawn_uses _ _ _ _ _ c.step_draw_record.ensures.met _ _ _ c.step_store_key.ensures.made low c.requires.keyless)
+
+pub returns-clause-stores : goal.returns-clause-stores
+returns-clause-stores c = draw_stores _ _ _ _ _ c.step_draw_record.ensures.met _ _ c.step_store_key.ensures.made
+    (subst (λ (n : ℕ). c.step_draw_record.result < n) (limit_is c.args.seat.now.view c.layout.result.now.limits c.args.store.now.layout.limits c.record_count.result c.record_count.ensures.count (ap (λ (y : Layout). y.limits) c.layout.ensures) c.requires.seat.limits) c.if-step_draw_record-record_count.false)
+    refl

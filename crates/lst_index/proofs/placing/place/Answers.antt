@@ -1,11 +1,12 @@
-use Rattle.std.proofs.Common.{List, subst, ap}
+use Rattle.std.proofs.Common.{List, refl, subst, ap}
 use Rattle.lst_layout.specs.declared.layout.Layout.{Layout}
 use Rattle.lst_core_state.specs.declared.facts.Find.{Find}
 use Rattle.lst_index.specs.Searches.{Works}
 use Rattle.lst_index.proofs.Views.{works_on}
 use Rattle.lst_index.proofs.Ending.{endless}
 use Rattle.lst_index.proofs.Searching.{turn_short, turns_over}
-use Rattle.lst_index.proofs.Visiting.{none_is, on_err, finds_of_err, place_on, place_first, place_drew, full_on}
+use Rattle.lst_index.proofs.Visiting.{none_is, on_err, finds_of_err, place_on, place_first, place_drew, full_on, looked_on}
+use Rattle.lst_index.proofs.Leaving.{place_leaves, place_full, placed_again, never_full}
 use Rattle.lst_index.proofs.placing.place.Goals as goal
 
 pub loop-turn-init : goal.loop-turn-init
@@ -33,8 +34,24 @@ pub returns-in-Some-clause-drew : goal.returns-in-Some-clause-drew
 returns-in-Some-clause-drew c = place_drew _ _ c.loop-turn.seat c.visit.new.seat.view _ _ _ 1 c.loop-turn.invariant c.in_ok-placed.ensures.uses
 
 pub loop-turn-preserved : goal.loop-turn-preserved
-loop-turn-preserved c = place_on _ _ c.loop-turn.seat c.visit.new.seat _ _ _ c.loop-turn.invariant c.in_ok-placed.ensures.works c.visit.ensures.seat (none_is c.in_ok-placed.field-0 c.in_default.is c.in_ok-placed.ensures.passed)
+loop-turn-preserved c = place_on _ _ c.loop-turn.seat c.visit.new.seat _ _ _ c.loop-turn.invariant c.in_ok-placed.ensures.works c.visit.ensures.seat (none_is c.in_ok-placed.field-0 c.in_default.is c.in_ok-placed.ensures.passed) (none_is c.in_ok-placed.field-0 c.in_default.is c.in_ok-placed.ensures.rests) (c.in_ok-placed.ensures.after_look refl)
 
 pub unreachable-requires : goal.unreachable-requires
 unreachable-requires c = endless c.args.store.now.layout.limits c.loop-turn.seat.view c.args.s c.args.key c.loop-turn.turn c.loop-turn.invariant.seat_of.limits c.loop-turn.invariant.host c.consider-2.ensures c.loop-turn.invariant.passed
     (turns_over c.layout.result.now.limits c.args.store.now.layout.limits c.index_positions-all.result c.loop-turn.turn c.loop-turn-test.false c.index_positions-all.ensures.count (ap (λ (y : Layout). y.limits) c.layout.ensures))
+
+pub returns-in-Some-clause-words : goal.returns-in-Some-clause-words
+returns-in-Some-clause-words c = place_leaves _ _ c.loop-turn.seat _ _ _ c.loop-turn.invariant c.visit.new.seat.view.words c.in_ok-placed.field-0 c.in-Some.placed c.in-Some.is c.in_ok-placed.ensures.words
+
+pub returns-in-Some-clause-again : goal.returns-in-Some-clause-again
+returns-in-Some-clause-again c = λ whole r had. placed_again c.args.seat.now.view c.consider.ensures whole c.args.key r had c.visit.new.seat.view.words c.in-Some.placed.number
+    (place_leaves _ _ c.loop-turn.seat _ _ _ c.loop-turn.invariant c.visit.new.seat.view.words c.in_ok-placed.field-0 c.in-Some.placed c.in-Some.is c.in_ok-placed.ensures.words whole)
+
+pub returns-in_err-placed-clause-kept : goal.returns-in_err-placed-clause-kept
+returns-in_err-placed-clause-kept c = on_err c.from_residual.result (place_full _ _ c.loop-turn.seat _ _ _ c.loop-turn.invariant c.visit.new.seat.view.words c.in_err-placed.ensures.kept)
+
+pub returns-in_err-placed-clause-missed : goal.returns-in_err-placed-clause-missed
+returns-in_err-placed-clause-missed c = on_err c.from_residual.result (λ whole r had. never_full c.args.seat.now.view c.consider.ensures whole c.args.key r had c.visit.new.seat.view.words (place_full _ _ c.loop-turn.seat _ _ _ c.loop-turn.invariant c.visit.new.seat.view.words c.in_err-placed.ensures.kept whole))
+
+pub returns-in-Some-clause-after_look : goal.returns-in-Some-clause-after_look
+returns-in-Some-clause-after_look c = λ is. looked_on c.args.seat.now.view c.loop-turn.seat.view c.visit.new.seat.view c.args.s c.args.key c.loop-turn.invariant.works c.loop-turn.invariant.after_look (c.in_ok-placed.ensures.after_look refl)

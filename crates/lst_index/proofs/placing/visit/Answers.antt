@@ -1,12 +1,14 @@
-use Rattle.std.proofs.Common.{List, subst, ap, ◌∙◌}
+use Rattle.std.proofs.Common.{List, ◌<◌, inl, subst, sym, ap, ◌∙◌}
 use Rattle.lst_layout.specs.declared.layout.Layout.{Layout}
-use Rattle.lst_core_state.specs.Index.{position_of}
-use Rattle.lst_index.proofs.Views.{works_on}
+use Rattle.lst_layout.specs.declared.limits.Limits.{Limits}
+use Rattle.lst_core_state.specs.Index.{size, position_of}
+use Rattle.lst_index.proofs.Views.{works_on, works_host}
 use Rattle.lst_index.proofs.Searching.{passed_on}
 use Rattle.lst_core_state.specs.declared.facts.Find.{Find}
 use Rattle.lst_rule.specs.Rule.{knows}
 use Rattle.lst_index.specs.Searches.{Works}
-use Rattle.lst_index.proofs.Visiting.{found_full, finds_of_err, on_err, look_passed, look_drawn, settled_uses, settled_passed}
+use Rattle.lst_index.proofs.Visiting.{found_full, finds_of_err, on_err, keeps_drawn, looked_first, look_passed, look_drawn, settled_uses, settled_passed}
+use Rattle.lst_index.proofs.Leaving.{found_leaves, refused_full, settled_leaves}
 use Rattle.lst_index.proofs.placing.visit.Goals as goal
 
 pub returns-in-Some-clause-works : goal.returns-in-Some-clause-works
@@ -38,3 +40,26 @@ returns-clause-uses c = settled_uses (knows c.args.seat.now.view c.args.s).placi
 pub returns-clause-passed : goal.returns-clause-passed
 returns-clause-passed c = settled_passed c.args.store.now.layout.limits c.args.seat.now.view c.take_record.new.seat.view c.settle.new.seat.view c.args.s c.args.key c.args.turn c.settle.result
     (look_drawn (knows c.args.seat.now.view c.args.s).placing (knows c.look.new.seat.view c.args.s).placing (knows c.take_record.new.seat.view c.args.s).placing c.look.ensures.placing 1 c.in_ok-take_record.ensures.has.1) c.settle.ensures.drawn c.settle.ensures.passed
+
+pub returns-in-Some-clause-words : goal.returns-in-Some-clause-words
+returns-in-Some-clause-words c = found_leaves c.args.seat.now.view c.look.new.seat.view c.args.s c.args.key c.look.ensures.works.view.limits c.look.ensures.works.view.whole c.look.ensures.kept c.look.ensures.placing c.compare.new.seat.view c.compare.result c.compare.ensures.kept c.compare.ensures.had
+
+pub returns-in_err-take_record-clause-kept : goal.returns-in_err-take_record-clause-kept
+returns-in_err-take_record-clause-kept c = on_err c.from_residual.result (refused_full c.args.seat.now.view c.look.new.seat.view c.args.s c.args.key c.look.ensures.works.view.limits c.look.ensures.works.view.whole c.look.ensures.kept c.look.ensures.placing
+    (works_host _ _ _ _ c.look.ensures.works c.requires.host)
+    (c.in_default.ensures.none c.args.key c.args.turn c.requires.turn (c.position-at.ensures.position ∙ ap (λ (y : Layout). position_of y.limits c.args.key c.args.turn) c.layout.ensures) c.requires.passed)
+    c.take_record.new.seat.view c.in_err-take_record.ensures.kept c.in_err-take_record.ensures.reached)
+
+pub returns-clause-words : goal.returns-clause-words
+returns-clause-words c = settled_leaves c.args.seat.now.view c.look.new.seat.view c.args.s c.args.key c.look.ensures.works.view.limits c.look.ensures.works.view.whole c.look.ensures.kept c.look.ensures.placing
+    (works_host _ _ _ _ c.look.ensures.works c.requires.host)
+    (c.in_default.ensures.none c.args.key c.args.turn c.requires.turn (c.position-at.ensures.position ∙ ap (λ (y : Layout). position_of y.limits c.args.key c.args.turn) c.layout.ensures) c.requires.passed)
+    c.take_record.new.seat.view c.settle.new.seat.view c.position-at.result (subst (λ (l : Limits). c.position-at.result < size l) (ap (λ (y : Layout). y.limits) c.layout.ensures ∙ sym c.requires.seat.limits) c.position-at.ensures.below)
+    c.in_ok-take_record.ensures.works.view.limits c.in_ok-take_record.ensures.works.view.whole c.in_default.ensures.free c.in_ok-take_record.ensures.stores c.settle.result c.settle.ensures.stores
+
+pub returns-in-Some-clause-after_look : goal.returns-in-Some-clause-after_look
+returns-in-Some-clause-after_look c = λ is. inl (keeps_drawn (knows c.args.seat.now.view c.args.s).placing (knows c.look.new.seat.view c.args.s).placing (knows c.compare.new.seat.view c.args.s).placing c.look.ensures.placing c.compare.ensures.keeps)
+
+pub returns-clause-after_look : goal.returns-clause-after_look
+returns-clause-after_look c = λ is. looked_first c.args.seat.now.view c.look.new.seat.view c.settle.new.seat.view c.args.s c.args.key c.requires.host c.requires.own c.look.ensures.works c.look.ensures.placing
+    (c.in_default.ensures.none c.args.key c.args.turn c.requires.turn (c.position-at.ensures.position ∙ ap (λ (y : Layout). position_of y.limits c.args.key c.args.turn) c.layout.ensures) c.requires.passed)
