@@ -1,23 +1,26 @@
 -- What a load of the clock tells of commit times.
-use Rattle.std.proofs.Common.{◌≡◌, ◌≢◌, ℕ, ◌+◌, ◌-◌, ◌*◌, ◌/◌, ◌%◌, ◌<◌, ◌≤◌, List, [], ◌∷◌, ◌++◌, Bool, true, false, cond, eqb, nat_lt, length, Contains, refl, sym, subst, ap, ◌∙◌, arith, lt-ltb}
-use Rattle.std.proofs.lemmas.List.Elements.{Contains-append_right}
+use Rattle.std.proofs.Common.{◌≡◌, ◌≢◌, ℕ, ◌+◌, ◌*◌, ◌/◌, ◌%◌, ◌<◌, ◌≤◌, List, [], ◌∷◌, true, cond, nat_lt, length, Contains, refl, sym, subst, ap, ◌∙◌, arith, lt-ltb, inr}
+use Rattle.lst_layout.specs.declared.place.Place.{Place}
+use Rattle.lst_layout.specs.declared.place.Place.TheVariants.{ClockWord}
+use Rattle.lst_layout.specs.Addresses.{address}
 use Rattle.lst_layout.specs.Words.{Words, shown}
-use Rattle.lst_model.specs.declared.commits.Commit.{Commit}
+use Rattle.lst_core_state.specs.declared.events.Event.TheVariants.{Look}
 use Rattle.lst_core_state.specs.declared.known.Known.{Known}
 use Rattle.lst_core_state.specs.declared.facts.Fact.TheVariants.{StateAt, CommitAt}
 use Rattle.lst_core_state.specs.declared.facts.Find.{Find}
 use Rattle.lst_core_state.specs.declared.facts.Find.TheVariants.{FreshClock, UnfinishedVersion}
-use Rattle.lst_core_state.specs.Facts.{IsFact, early_find, unfinished}
+use Rattle.lst_core_state.specs.Facts.{early_find, unfinished}
 use Rattle.lst_core_state.specs.State.{name_of}
 use Rattle.lst_rule.specs.declared.view.View.{View}
 use Rattle.lst_rule.specs.Rule.{knows, hosts, Allowed}
 use Rattle.lst_rule.proofs.Knowing.{is_fact}
-use Rattle.lst_seat.specs.Stores.{Clocked}
+use Rattle.lst_seat.specs.Stores.{Looked, Clocked}
 use Rattle.lst_sights.specs.Copies.{Version}
 use Rattle.lst_sights.specs.Loads.{StartFound}
 use Rattle.lst_sights.proofs.Finding.{unfinished_is_about}
-use Rattle.lst_sights.proofs.Telling.{low, is_known, is_on_known}
-use Rattle.lst_write.specs.Standings.{IsStamp, IsOther, FoundSince, FoundCommitted}
+use Rattle.lst_sights.proofs.Stamps.{made_words}
+use Rattle.lst_sights.proofs.Telling.{low, is_known}
+use Rattle.lst_write.specs.Standings.{IsStamp, IsOther, FoundSince, FoundCommitted, IsLive}
 
 -- the words of a name
 pub name_parts : (j n x : ℕ) → j < 16 → x ≡ name_of j n → (x % 16 ≡ j) × (x / 16 ≡ n)
@@ -52,6 +55,16 @@ pub above_other : (v w : View) (s x j n time : ℕ) → hosts v s ≡ true → (
 above_other v w s x j n time hosted is_on some clock other fact high same = let t = clock.looked.met.made.told in let f = is_fact v t.words t.known t.merger t.allowed s hosted (StateAt j n (time + 1)) fact in
     let W : Words = shown v.limits t.words in let state : W.states s n ≡ time + 1 = ap (λ (i : ℕ). W.states i n) (sym same) ∙ f.1 in let e : W.clock ≡ x = clock.looked.met.found in
     let q = own_done v t.words t.known t.merger t.allowed s hosted is_on n some (other.begun same) (λ z. other.name (λ i. name_of (same i) (z i))) in let most = q.1 in omega arith
+
+-- the words that a view knows after a load are those that were met
+pub looked_words : (v w : View) (s x : ℕ) (p : Place) (h : Looked v w s p x) → w.whole ≡ true → shown w.limits w.words ≡ shown v.limits h.met.made.told.words
+looked_words v w s x p h whole = let known = sym h.view.whole ∙ whole in made_words v w (Look s (address v.limits p)) p x h.met.made known ∙ ap (shown v.limits) (h.met.made.told.allowed.whole known)
+
+-- and they say that it is above the clock
+pub above_live : (v w : View) (s x j n time : ℕ) → hosts v s ≡ true → Clocked v w s x → Contains (knows v s).facts (StateAt j n (time + 1)) → x < time → w.whole ≡ true → IsLive (shown w.limits w.words) j n
+above_live v w s x j n time hosted clock fact high whole = let t = clock.looked.met.made.told in let f = is_fact v t.words t.known t.merger t.allowed s hosted (StateAt j n (time + 1)) fact in
+    let W : Words = shown v.limits t.words in let e : W.clock ≡ x = clock.looked.met.found in let state : W.states j n ≡ time + 1 = f.1 in
+    subst (λ (u : Words). IsLive u j n) (sym (looked_words v w s x ClockWord clock.looked whole)) (inr (omega arith))
 
 -- and is found unfinished
 pub above_found : (v w : View) (s x j n time rec : ℕ) (c : Version) → (knows v s).is_open ≡ true → j < 16 → Clocked v w s x → FoundCommitted (knows v s) j n time → x < time → StartFound (knows v s) rec c (1 + 2 * c.writer) → c.writer ≡ name_of j n

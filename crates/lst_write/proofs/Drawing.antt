@@ -1,5 +1,5 @@
 -- The draw of a tail.
-use Rattle.std.proofs.Common.{◌≡◌, ◌≢◌, ◌⊎◌, ℕ, ◌+◌, ◌-◌, ◌*◌, ◌/◌, ◌%◌, ◌^◌, ◌<◌, ◌≤◌, List, [], ◌∷◌, ◌++◌, Bool, true, false, cond, nat_lt, ◌||◌, set, slice_index_or, length, replicate, refl, sym, subst, ap, ◌∙◌, arith, inl, inr, ⊎_elim, append_assoc, lt-ltb, get_or-set_same}
+use Rattle.std.proofs.Common.{◌≡◌, ℕ, ◌+◌, ◌-◌, ◌*◌, ◌/◌, ◌%◌, ◌<◌, ◌≤◌, List, [], ◌∷◌, ◌++◌, Bool, true, false, cond, nat_lt, set, slice_index_or, length, replicate, refl, sym, subst, ap, ◌∙◌, arith, inl, inr, ⊎_elim, append_assoc, lt-ltb, get_or-set_same}
 use Rattle.std.proofs.lemmas.Bool.Decides.{Decides-ltb}
 use Rattle.std.proofs.lemmas.List.Elements.{Contains-append_left}
 use Rattle.lst_layout.specs.declared.limits.Limits.{Limits}
@@ -9,29 +9,28 @@ use Rattle.lst_versions.proofs.Sights.{or_right}
 use Rattle.lst_core_state.specs.declared.known.Known.{Known}
 use Rattle.lst_core_state.specs.declared.known.Counter.{Counter}
 use Rattle.lst_core_state.specs.declared.known.Hold.{Hold}
-use Rattle.lst_core_state.specs.declared.facts.Fact.{Fact}
 use Rattle.lst_core_state.specs.declared.facts.Fact.TheVariants.{TailsAtLeast, StateAt}
-use Rattle.lst_core_state.specs.declared.facts.Find.{Find}
 use Rattle.lst_core_state.specs.declared.facts.Find.TheVariants.{CountedTails, FullTails}
 use Rattle.lst_core_state.specs.declared.events.Event.TheVariants.{DrawTail}
-use Rattle.lst_core_state.specs.Cells.{record_count, range_of}
+use Rattle.lst_core_state.specs.Cells.{range_of}
 use Rattle.lst_core_state.specs.State.{counter_of, no_counter}
 use Rattle.lst_core_state.specs.Step.{Enabled, served, spent, drawn_full, tail_drawn, tails_full}
 use Rattle.lst_rule.specs.declared.view.View.{View}
 use Rattle.lst_rule.specs.Rule.{knows, hosts}
-use Rattle.lst_rule.specs.Learned.{Learns, CanStand, Met}
+use Rattle.lst_rule.specs.Learned.{Learns, Kept, CanStand, Met}
 use Rattle.lst_rule.proofs.Knowing.{knows_own}
 use Rattle.lst_rule.proofs.Learning.{learns_on}
 use Rattle.lst_seat.specs.Stores.{Looked}
-use Rattle.lst_sights.specs.Copies.{Version, IsChainFrom, IsCopy, Includes}
+use Rattle.lst_sights.specs.Copies.{Version, IsChainFrom, Includes}
 use Rattle.lst_sights.specs.Seen.{sees, SeesAlike}
 use Rattle.lst_sights.specs.Judging.{IsClosed, IsJudged}
 use Rattle.lst_sights.proofs.Copying.{copies_stay}
 use Rattle.lst_sights.proofs.Seeing.{same_sees}
+use Rattle.lst_sights.proofs.Stamps.{made_words}
 use Rattle.lst_sights.proofs.Writing.{judged_may_draw}
 use Rattle.lst_write.specs.Holding.{HasLatch, latch_of}
 use Rattle.lst_write.specs.Judgements.{HasJudged}
-use Rattle.lst_write.specs.Appending.{Counts, FindsFull, Draws, tail_of}
+use Rattle.lst_write.specs.Appending.{with_count, known_words, Counts, FindsFull, Draws}
 
 -- what is judged stays so with more facts
 pub judged_more : (k m : Known) (s : ℕ) (cs : List Version) → SeesAlike k m → Includes m.facts k.facts → IsJudged k s cs → IsJudged m s cs
@@ -71,7 +70,11 @@ module _ (v w : View) (s range x : ℕ) (h : Looked v w s (TailCounter range) x)
   counter_left low = record { counters = set k.counters range (served v.limits.tails x (counter_of k range)); facts = TailsAtLeast range x ∷ []; view = learns true (lt-ltb x v.limits.tails low) }
 
   pub counter_full : v.limits.tails ≤ x → FindsFull v w s range
-  counter_full high = record { count = x; counts = record { counters = set k.counters range (served v.limits.tails x (counter_of k range)); facts = TailsAtLeast range x ∷ []; view = learns false (not_below x v.limits.tails high) } }
+  counter_full high = record { count = x; counts = record { counters = set k.counters range (served v.limits.tails x (counter_of k range)); facts = TailsAtLeast range x ∷ []; view = learns false (not_below x v.limits.tails high) }; kept = h.kept }
+
+  -- to a view that knows each word
+  pub counter_below : x < v.limits.tails → v.whole ≡ true → (known_words v).counts range < v.limits.tails
+  counter_below low whole = let t = h.met.made.told in let e : (known_words v).counts range ≡ x = ap (λ (ws : List ℕ). (shown v.limits ws).counts range) (t.allowed.whole whole) ∙ h.met.found in omega arith
 
   -- below the limit it serves a draw
   pub counter_serves : hosts v s ≡ true → s < v.limits.sessions → range < v.limits.ranges → x < v.limits.tails → (counter_of (knows w s) range).is_serving ≡ true
@@ -123,8 +126,16 @@ module _ (v u : View) (s rec head count : ℕ) (latch : HasLatch (knows v s) rec
     outcome : (b : Bool) → nat_lt x u.limits.tails ≡ b → Learns v w s (cond b (tail_drawn u.limits W' (knows u s) (rec / 256)) (tails_full W' (knows u s) (rec / 256)))
     outcome b e = learns_on v u w s _ _ c.view (subst (λ (z : Bool). Learns u w s (cond z (tail_drawn u.limits W' (knows u s) (rec / 256)) (tails_full W' (knows u s) (rec / 256)))) (ap (λ (z : ℕ). nat_lt z u.limits.tails) h.found ∙ e) h.made.view)
 
-    pub draw_won : x < v.limits.tails → Draws v w s rec head (x + 1)
-    draw_won low = let k : Known = knows v s in let l : Limits = v.limits in let same : u.limits ≡ v.limits = c.view.limits in record {
+    -- to a view that knows each word, it is the counter's
+    counts_found : v.whole ≡ true → Kept v u → (known_words v).counts (rec / 256) ≡ x
+    counts_found whole kept = (λ i. (shown (sym c.view.limits i) ((sym (kept.words whole) ∙ h.made.told.allowed.whole (c.view.whole ∙ whole)) i)).counts (rec / 256)) ∙ h.found
+
+    drawn_words : v.whole ≡ true → Kept v u → known_words w ≡ with_count (known_words v) (rec / 256) (x + 1)
+    drawn_words whole kept = let r : ℕ = rec / 256 in made_words u w (DrawTail s r) (TailCounter r) y h.made (c.view.whole ∙ whole)
+        ∙ ((λ i. let a : Words = shown (c.view.limits i) (kept.words whole i) in with_count a r (a.counts r + 1)) ∙ ap (λ (n : ℕ). with_count (known_words v) r (n + 1)) (counts_found whole kept))
+
+    pub draw_won : Kept v u → x < v.limits.tails → Draws v w s rec head (x + 1)
+    draw_won kept low = let k : Known = knows v s in let l : Limits = v.limits in let same : u.limits ≡ v.limits = c.view.limits in record {
       some = omega arith;
       few = omega arith;
       count = count;
@@ -140,10 +151,11 @@ module _ (v u : View) (s rec head count : ℕ) (latch : HasLatch (knows v s) rec
             finds = k.finds ++ CountedTails (rec / 256) count ∷ [];
           }))
           (outcome true (lt-ltb x u.limits.tails (let e = ap (λ (z : Limits). z.tails) same in omega arith)));
+      words = λ whole. (let e = counts_found whole kept in omega arith, drawn_words whole kept);
     }
 
-    pub draw_full : v.limits.tails ≤ x → FindsFull v w s (range_of rec)
-    draw_full high = let k : Known = knows v s in let same : u.limits ≡ v.limits = c.view.limits in record {
+    pub draw_full : Kept v u → (v.whole ≡ true → (known_words v).counts (rec / 256) < v.limits.tails) → v.limits.tails ≤ x → FindsFull v w s (range_of rec)
+    draw_full kept left high = let k : Known = knows v s in let same : u.limits ≡ v.limits = c.view.limits in record {
       count = count;
       counts = record {
         counters = set c.counters (rec / 256) (drawn_full x);
@@ -157,4 +169,5 @@ module _ (v u : View) (s rec head count : ℕ) (latch : HasLatch (knows v s) rec
             }))
             (outcome false (not_below x u.limits.tails (let e = ap (λ (z : Limits). z.tails) same in omega arith)));
       };
+      kept = record { words = λ whole. absurd (let e = counts_found whole kept in let below = left whole in omega arith) };
     }

@@ -1,15 +1,14 @@
 -- The words of an act say the act.
-use Rattle.std.proofs.Common.{◌≡◌, ◌≢◌, ◌⊎◌, ℕ, zero, suc, ◌+◌, ◌-◌, ◌*◌, ◌/◌, ◌%◌, ◌^◌, ◌<◌, ◌≤◌, List, [], ◌∷◌, Bool, true, false, cond, eqb, Option, Some, None, length, drop, slice_index, slice_index_or, slice_get, refl, sym, subst, ap, ◌∙◌, arith, inl, inr, eq-eqb, ne_eqb, true≢false}
+use Rattle.std.proofs.Common.{◌≡◌, ℕ, zero, suc, ◌+◌, ◌-◌, ◌*◌, ◌/◌, ◌%◌, ◌^◌, ◌<◌, ◌≤◌, List, [], ◌∷◌, Bool, true, false, cond, eqb, Option, Some, None, length, drop, slice_index, slice_index_or, slice_get, refl, sym, subst, ap, ◌∙◌, arith, inl, inr, eq-eqb, ne_eqb, true≢false}
 use Rattle.std.proofs.lemmas.Bool.{eqb-false}
 use Rattle.std.specs.Option.{IsSome}
-use Rattle.std.specs.List.{Any}
 use Rattle.std.proofs.lemmas.List.{length-drop}
 use Rattle.std.proofs.Math.Nat.{pow-le-pow_right, pow-suc, pow-succ', div-div-eq-div-mul}
 use mir.Val.{bool_byte}
 use Rattle.lst_model.specs.declared.acts.Act.{Act}
 use Rattle.lst_model.specs.declared.acts.Act.TheVariants.{Put, Set, Del}
 use Rattle.lst_core_state.specs.Cells.{mask_of, kind_of, slot_of, has_bit, listed, patched, act_of, IsCell}
-use Rattle.lst_write.specs.Cells.{IsActFor, mask_of_patch, kind_and_mask, encoding_of, cell_or_0, value_of, cell_word}
+use Rattle.lst_write.specs.Cells.{IsActFor, mask_of_patch, encoding_of, cell_or_0, value_of}
 
 -- ---- masks of patches
 

@@ -1,9 +1,8 @@
 -- What a load of a version's start word tells of it.
-use Rattle.std.proofs.Common.{◌≡◌, ◌≢◌, ℕ, ◌+◌, ◌-◌, ◌*◌, ◌/◌, ◌%◌, ◌^◌, ◌<◌, ◌≤◌, List, Bool, true, false, eqb, Contains, refl, sym, subst, ap, ◌∙◌, arith, eq-eqb}
+use Rattle.std.proofs.Common.{◌≡◌, ◌≢◌, ℕ, ◌+◌, ◌/◌, ◌%◌, ◌<◌, ◌≤◌, true, eqb, Contains, sym, subst, ◌∙◌, arith, eq-eqb}
 use Rattle.lst_layout.specs.declared.limits.Limits.{Limits}
 use Rattle.lst_layout.specs.declared.place.Place.TheVariants.{StateWord, CellWord}
 use Rattle.lst_layout.specs.Addresses.{IsWithin}
-use Rattle.lst_layout.specs.Words.{shown}
 use Rattle.lst_versions.proofs.Sights.{or_right}
 use Rattle.lst_bits.specs.Starts.{IsStartWord, start_word}
 use Rattle.lst_bits.specs.declared.starts.Start.TheVariants.{Empty, By, At}
@@ -16,15 +15,15 @@ use Rattle.lst_rule.specs.Learned.{Possible}
 use Rattle.lst_rule.proofs.Knowing.{is_fact, clock_is}
 use Rattle.lst_seat.specs.Stores.{Looked}
 use Rattle.lst_sights.specs.Copies.{Version, fact_of, IsVersionOf}
-use Rattle.lst_sights.specs.Seen.{is_early, sees}
+use Rattle.lst_sights.specs.Seen.{is_early}
 use Rattle.lst_sights.specs.Loads.{StartFound}
 use Rattle.lst_sights.specs.Watching.{Watched}
 use Rattle.lst_sights.proofs.Finding.{starts_are_found}
 use Rattle.lst_sights.proofs.Watching.{looks_watch}
-use Rattle.lst_sights.proofs.Telling.{low, is_known, is_on_known}
+use Rattle.lst_sights.proofs.Telling.{low, is_known}
 use Rattle.lst_write.specs.declared.standing.Standing.{Standing}
 use Rattle.lst_write.specs.declared.standing.Standing.TheVariants.{Seen}
-use Rattle.lst_write.specs.Standings.{IsVersion, IsStamp, IsOther, IsStanding, Stands, StandsAt, StandsBy}
+use Rattle.lst_write.specs.Standings.{IsVersion, IsStamp, IsOther, Stands, StandsAt, StandsBy}
 use Rattle.lst_write.proofs.Starts.{start_word_few}
 use Rattle.lst_write.proofs.Keeping.{kept, still_hosts, still_on}
 use Rattle.lst_write.proofs.States.{stood_before}

@@ -1,20 +1,16 @@
 -- The install of a tail that is whole.
-use Rattle.std.proofs.Common.{◌≡◌, ℕ, ◌+◌, ◌-◌, ◌*◌, ◌/◌, ◌<◌, ◌≤◌, List, [], ◌∷◌, ◌++◌, Bool, true, refl, sym, subst, ap, ◌∙◌, arith, append_assoc, Contains, take}
-use Rattle.lst_layout.specs.declared.limits.Limits.{Limits}
-use Rattle.lst_layout.specs.declared.place.Place.{Place}
+use Rattle.std.proofs.Common.{◌≡◌, ℕ, ◌+◌, ◌-◌, ◌*◌, ◌<◌, List, [], ◌∷◌, ◌++◌, true, sym, subst, ap, ◌∙◌, arith, append_assoc, take}
 use Rattle.lst_layout.specs.declared.place.Place.TheVariants.{HeadWord}
 use Rattle.lst_layout.specs.Words.{Words, shown}
 use Rattle.lst_model.specs.declared.acts.Act.{Act}
-use Rattle.lst_model.specs.declared.acts.Write.{Write}
 use Rattle.lst_model.specs.Histories.{joined, acts_on, all_acts_on}
 use Rattle.lst_versions.specs.Writes.{write, Rising}
-use Rattle.lst_versions.proofs.Writes.{rising_from, line_joined-here}
+use Rattle.lst_versions.proofs.Writes.{line_joined-here}
 use Rattle.lst_core_state.specs.declared.known.Known.{Known}
 use Rattle.lst_core_state.specs.declared.known.Hold.{Hold}
-use Rattle.lst_core_state.specs.declared.known.Done.{Done}
 use Rattle.lst_core_state.specs.declared.facts.Fact.TheVariants.{CellIs, IndexAt}
 use Rattle.lst_core_state.specs.declared.events.Event.TheVariants.{Install}
-use Rattle.lst_core_state.specs.Cells.{range_of, act_of, listed}
+use Rattle.lst_core_state.specs.Cells.{range_of, act_of}
 use Rattle.lst_core_state.specs.Facts.{IsFact}
 use Rattle.lst_core_state.specs.State.{sight, no_hold, name_of, act_in}
 use Rattle.lst_core_state.specs.Step.{Enabled, number_in}
@@ -23,7 +19,7 @@ use Rattle.lst_rule.specs.Rule.{knows, hosts, Allowed}
 use Rattle.lst_rule.specs.Learned.{Learns, CanStand, Made}
 use Rattle.lst_rule.proofs.Knowing.{is_fact, knows_own}
 use Rattle.lst_sights.specs.Seen.{HasKey}
-use Rattle.lst_write.specs.Appending.{HasWhole, Installs, InstallsHeld, tail_of}
+use Rattle.lst_write.specs.Appending.{HasWhole, Installs}
 
 one_less : (r : ℕ) → r + 1 - 1 ≡ r
 one_less r = omega arith

@@ -1,24 +1,17 @@
 -- What stays while a session only looks.
-use Rattle.std.proofs.Common.{◌≡◌, ◌⊎◌, ℕ, ◌+◌, ◌≤◌, List, ◌++◌, Bool, true, refl, sym, subst, ap, ◌∙◌, arith, length, length-append, false, inl, inr, ⊎_elim, append_assoc, slice_index_or}
-use Rattle.std.specs.List.{Contains}
+use Rattle.std.proofs.Common.{◌≡◌, ℕ, ◌≤◌, List, ◌++◌, Bool, true, refl, sym, subst, ap, ◌∙◌, arith, length, length-append, false, ⊎_elim, append_assoc, slice_index_or}
 use Rattle.std.proofs.lemmas.List.Elements.{Contains-append_left, Contains-append_right}
-use Rattle.lst_layout.specs.declared.limits.Limits.{Limits}
-use Rattle.lst_model.specs.declared.acts.Write.{Write}
 use Rattle.lst_model.specs.declared.commits.Commit.{Commit}
 use Rattle.lst_core_state.specs.declared.known.Known.{Known}
-use Rattle.lst_core_state.specs.declared.known.Hold.{Hold}
 use Rattle.lst_core_state.specs.declared.known.Stage.{Stage}
 use Rattle.lst_core_state.specs.declared.known.Stage.TheVariants.{Away, Taken, Fresh, Logged, Stated, Done}
-use Rattle.lst_core_state.specs.declared.facts.Fact.{Fact}
 use Rattle.lst_core_state.specs.declared.facts.Find.{Find}
 use Rattle.lst_core_state.specs.State.{rank}
 use Rattle.lst_core_state.specs.Step.{refreshed}
 use Rattle.lst_rule.specs.declared.view.View.{View}
 use Rattle.lst_rule.specs.Rule.{knows, hosts}
 use Rattle.lst_sights.specs.Copies.{Includes}
-use Rattle.lst_sights.specs.Seen.{HasKey}
 use Rattle.lst_sights.specs.Watching.{Watches, Watched}
-use Rattle.lst_sights.proofs.Watching.{watches_same}
 use Rattle.lst_write.specs.Standings.{FoundSince}
 
 -- what a session that has looked knows as before
@@ -85,10 +78,3 @@ turn_stays u v away watches = ap (λ (k : Known). k.turn) watches.is ∙ ⊎_eli
     (λ (e : watches.turn ≡ u.turn). e)
     (λ (e : watches.turn ≡ refreshed u.turn). e ∙ refreshed_away u.turn away)
     watches.stage
-
--- a view that nothing happens to
-pub watched_same : (v : View) (s : ℕ) → Watched v v s
-watched_same v s = record {
-  learns = record { now = refl; others = λ t other. refl; hosted = refl; limits = refl; note = refl; note_facts = refl; whole = refl };
-  watches = watches_same (knows v s);
-}

@@ -11,3 +11,4 @@ pub mod Drawing
 pub mod Storing
 pub mod Whole
 pub mod Installing
+pub mod Freeing

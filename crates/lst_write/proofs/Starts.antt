@@ -1,9 +1,7 @@
 -- What a start word and a state word say.
-use Rattle.std.proofs.Common.{◌≡◌, ◌≢◌, ℕ, ◌+◌, ◌*◌, ◌/◌, ◌%◌, ◌^◌, ◌<◌, ◌≤◌, Bool, true, false, cond, eqb, refl, sym, subst, ap, ◌∙◌, arith, eqb-true}
+use Rattle.std.proofs.Common.{◌≡◌, ℕ, ◌/◌, ◌%◌, ◌^◌, ◌<◌, Bool, true, false, eqb, refl, arith, eqb-true}
 use Rattle.std.proofs.lemmas.Bool.{eqb-false}
-use Rattle.lst_bits.specs.declared.starts.Start.{Start}
-use Rattle.lst_bits.specs.declared.starts.Start.TheVariants.{Empty, By, At}
-use Rattle.lst_bits.specs.Starts.{start_of, start_word, IsStart, IsStartWord}
+use Rattle.lst_bits.specs.Starts.{IsStartWord}
 use Rattle.lst_core_state.specs.declared.known.Known.{Known}
 use Rattle.lst_layout.specs.declared.limits.Limits.{Limits}
 use Rattle.lst_layout.specs.Limits.{IsValid}

@@ -1,5 +1,5 @@
 -- What a load of a state word tells of its transaction's versions.
-use Rattle.std.proofs.Common.{◌≡◌, ◌≢◌, ℕ, ◌+◌, ◌-◌, ◌*◌, ◌/◌, ◌%◌, ◌<◌, ◌≤◌, List, [], ◌∷◌, ◌++◌, Bool, true, false, cond, eqb, length, Contains, refl, sym, subst, ap, ◌∙◌, arith, eq-eqb, ne_eqb}
+use Rattle.std.proofs.Common.{◌≡◌, ℕ, ◌+◌, ◌*◌, ◌/◌, ◌%◌, ◌<◌, ◌≤◌, List, [], ◌∷◌, ◌++◌, Bool, true, cond, eqb, length, Contains, refl, sym, subst, ap, ◌∙◌, arith, eq-eqb, ne_eqb, inl}
 use Rattle.std.proofs.lemmas.List.Elements.{Contains-append_right}
 use Rattle.lst_layout.specs.declared.limits.Limits.{Limits}
 use Rattle.lst_layout.specs.Words.{Words, shown}
@@ -22,9 +22,9 @@ use Rattle.lst_sights.specs.Watching.{Watched}
 use Rattle.lst_sights.proofs.Watching.{looks_watch}
 use Rattle.lst_write.specs.declared.standing.Standing.{Standing}
 use Rattle.lst_write.specs.declared.standing.Standing.TheVariants.{Seen, Closed, Newer, Unfinished}
-use Rattle.lst_write.specs.Standings.{IsOther, FoundSince, FoundCommitted, IsNewer, IsUnfinished, IsStanding, StandsBy, standing_at}
+use Rattle.lst_write.specs.Standings.{IsOther, FoundCommitted, IsStanding, StandsBy, standing_at}
 use Rattle.lst_write.proofs.Keeping.{kept, still_hosts, found_before}
-use Rattle.lst_write.proofs.Clocks.{name_parts, seen_all, own_done, find_is, above_other, above_found}
+use Rattle.lst_write.proofs.Clocks.{name_parts, seen_all, own_done, find_is, looked_words, above_other, above_found, above_live}
 use Rattle.lst_write.proofs.Verdicts.{logged_stands}
 
 -- what was found in a later part of a call was found in the call
@@ -37,6 +37,7 @@ stood_before u v w s rec c (Unfinished j n) watched h = record {
   number = h.number;
   other = h.other;
   found = found_before u v w s (UnfinishedVersion (rec + 1) c.tail j n ((knows w s).begin + 1)) watched h.found;
+  live = h.live;
 }
 
 -- a start word that was loaded last stays so while other words are loaded
@@ -107,6 +108,7 @@ module _ (v w : View) (s j n x : ℕ) (hosted : hosts v s ≡ true) (is_on : (kn
           (find_is k rec j n c is_on small start name ∙ (λ i. UnfinishedVersion (rec + 1) c.tail j n (ap (λ (u : Known). u.begin + 1) (sym h.view.now) i)))
           (0, omega arith, refl);
     };
+    live = λ whole. inl (ap (λ (u : Words). u.states j n) (looked_words v w s x (StateWord j n) h whole) ∙ (found ∙ e));
   }
 
 -- ---- a state word that tells a commit time
@@ -136,6 +138,7 @@ module _ (v : View) (s j n time : ℕ) (hosted : hosts v s ≡ true) (is_on : (k
       number = sym q.1;
       other = above_other v w s x j n time hosted is_on place.1 clock other f.fact high;
       found = above_found v w s x j n time rec c is_on (let a = place.0 in omega arith) clock f high start name;
+      live = λ whole. above_live v w s x j n time hosted clock f.fact high whole;
     }
 
     -- by the clock

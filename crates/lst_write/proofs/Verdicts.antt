@@ -1,29 +1,21 @@
 -- How versions stand, by what was found of their transactions.
-use Rattle.std.proofs.Common.{◌≡◌, ◌≢◌, ◌⊎◌, ℕ, ◌+◌, ◌*◌, ◌/◌, ◌%◌, ◌<◌, ◌≤◌, List, [], ◌∷◌, ◌++◌, Bool, true, false, cond, eqb, nat_lt, nat_le, ◌||◌, length, refl, sym, subst, ap, ◌∙◌, arith, inl, inr, ⊎_elim, leb-true, leb-false, true≢false}
+use Rattle.std.proofs.Common.{◌≡◌, ℕ, ◌+◌, ◌/◌, ◌%◌, ◌<◌, ◌≤◌, Bool, true, false, cond, eqb, nat_le, length, refl, sym, subst, ◌∙◌, arith, inl, inr, ⊎_elim, leb-false}
 use Rattle.std.specs.List.{Contains}
-use Rattle.lst_layout.specs.Words.{Words, shown}
-use Rattle.lst_layout.specs.declared.limits.Limits.{Limits}
-use Rattle.lst_layout.specs.declared.place.Place.{Place}
-use Rattle.lst_layout.specs.declared.place.Place.TheVariants.{ClockWord, StateWord, CellWord}
-use Rattle.lst_layout.specs.Addresses.{IsWithin}
-use Rattle.lst_versions.proofs.Sights.{or_left, or_right}
+use Rattle.lst_versions.proofs.Sights.{or_left}
 use Rattle.lst_core_state.specs.declared.known.Known.{Known}
-use Rattle.lst_core_state.specs.declared.facts.Fact.{Fact}
 use Rattle.lst_core_state.specs.declared.facts.Fact.TheVariants.{StateAt, CommitAt}
-use Rattle.lst_core_state.specs.declared.facts.Find.{Find}
-use Rattle.lst_core_state.specs.Facts.{IsFact}
 use Rattle.lst_core_state.specs.State.{name_of}
 use Rattle.lst_rule.specs.declared.view.View.{View}
-use Rattle.lst_rule.specs.Rule.{knows, hosts, Allowed}
+use Rattle.lst_rule.specs.Rule.{knows, hosts}
 use Rattle.lst_rule.specs.Learned.{Possible}
 use Rattle.lst_rule.proofs.Knowing.{is_fact}
-use Rattle.lst_sights.specs.Copies.{Version, fact_of, IsVersionOf}
-use Rattle.lst_sights.specs.Seen.{is_early, sees}
-use Rattle.lst_sights.specs.Judging.{IsClosed, IsCommittedAt}
+use Rattle.lst_sights.specs.Copies.{Version}
+use Rattle.lst_sights.specs.Seen.{is_early}
+use Rattle.lst_sights.specs.Judging.{IsCommittedAt}
 use Rattle.lst_sights.specs.Laws.{Statuses}
-use Rattle.lst_sights.proofs.Telling.{statuses_tell, low, is_known, is_on_known}
+use Rattle.lst_sights.proofs.Telling.{statuses_tell}
 use Rattle.lst_write.specs.declared.standing.Standing.TheVariants.{Seen, Newer}
-use Rattle.lst_write.specs.Standings.{IsStanding, IsNewer, standing_at}
+use Rattle.lst_write.specs.Standings.{IsStanding, standing_at}
 
 -- a time below or above the begin
 above : (time begin : ℕ) → nat_le time begin ≡ false → begin < time

@@ -1,5 +1,5 @@
 -- The judge's walk down a chain.
-use Rattle.std.proofs.Common.{◌≡◌, ◌≢◌, ℕ, ◌+◌, ◌-◌, ◌*◌, ◌/◌, ◌%◌, ◌^◌, ◌<◌, ◌≤◌, List, [], ◌∷◌, ◌++◌, true, Contains, refl, sym, subst, ap, ◌∙◌, arith, inl, inr, append_assoc}
+use Rattle.std.proofs.Common.{◌≡◌, ℕ, ◌+◌, ◌*◌, ◌/◌, ◌%◌, ◌^◌, ◌<◌, ◌≤◌, List, [], ◌∷◌, ◌++◌, true, Contains, refl, sym, subst, ap, ◌∙◌, arith, inl, append_assoc}
 use Rattle.lst_layout.specs.declared.limits.Limits.{Limits}
 use Rattle.lst_layout.specs.declared.place.Place.TheVariants.{CellWord}
 use Rattle.lst_core_state.specs.declared.known.Known.{Known}
@@ -7,7 +7,7 @@ use Rattle.lst_core_state.specs.declared.known.Hold.{Hold}
 use Rattle.lst_core_state.specs.declared.facts.Fact.{Fact}
 use Rattle.lst_core_state.specs.declared.facts.Fact.TheVariants.{StateAt}
 use Rattle.lst_core_state.specs.declared.facts.Find.TheVariants.{UnfinishedVersion}
-use Rattle.lst_core_state.specs.Cells.{record_count, range_of}
+use Rattle.lst_core_state.specs.Cells.{range_of}
 use Rattle.lst_core_state.specs.State.{rank}
 use Rattle.lst_rule.specs.declared.view.View.{View}
 use Rattle.lst_rule.specs.Rule.{knows, hosts}
@@ -17,20 +17,19 @@ use Rattle.lst_seat.specs.declared.store.Store.{Store}
 use Rattle.lst_seat.specs.Seats.{Sitting}
 use Rattle.lst_seat.specs.Stores.{IsSeatOf, Looked}
 use Rattle.lst_sights.specs.Copies.{Version, fact_of, IsVersionOf, IsChainFrom, IsCopy, Includes}
-use Rattle.lst_sights.specs.Seen.{sees, HasKey}
 use Rattle.lst_sights.specs.Judging.{IsClosed, AreClosed, IsJudged}
 use Rattle.lst_sights.specs.Watching.{Watched}
 use Rattle.lst_sights.proofs.Copying.{chains_are_walked, copies_stay, chain_stays}
 use Rattle.lst_sights.proofs.Finding.{words_are_found}
 use Rattle.lst_sights.proofs.Writing.{closed_are_passed}
 use Rattle.lst_sights.proofs.Committed.{committed_wrote}
-use Rattle.lst_sights.proofs.Watching.{looks_watch, watches_join}
+use Rattle.lst_sights.proofs.Watching.{looks_watch, watched_same, watches_join}
 use Rattle.lst_write.specs.Holding.{HasLatch}
-use Rattle.lst_write.specs.Standings.{IsVersion, IsNewer, IsUnfinished, IsStanding, Stands}
+use Rattle.lst_write.specs.Standings.{IsVersion, Stands}
 use Rattle.lst_write.specs.declared.standing.Standing.TheVariants.{Seen, Closed, Newer, Unfinished}
-use Rattle.lst_write.specs.Judgements.{HasChain, HasJudged, IsLinked, IsBack, FoundNewer, FoundUnfinished, Judges}
+use Rattle.lst_write.specs.Judgements.{HasChain, HasJudged, IsLinked, IsBack, Stops, FoundNewer, FoundUnfinished, Judges}
 use Rattle.lst_write.proofs.Found.{version_word}
-use Rattle.lst_write.proofs.Keeping.{Kept, kept, still_hosts, still_on, found_before, watched_same, turn_stays}
+use Rattle.lst_write.proofs.Keeping.{kept, still_hosts, still_on, found_before, turn_stays}
 
 -- a latch is in hand in an open transaction
 pub latched_on : (v : View) (s rec head : ℕ) → Possible v → hosts v s ≡ true → s < v.limits.sessions → HasLatch (knows v s) rec head → (knows v s).is_open ≡ true
@@ -130,24 +129,40 @@ module _ (store : Store) (v : View) (seat : Sitting) (s rec head n : ℕ) (J : J
         pub walk_seen : Stands seat.view w s tail Seen → HasJudged w.limits (knows w s) s rec head
         walk_seen stands = judged_later w watched (subst (λ (cs : List Version). IsJudged (knows w s) s cs) (sym hand.split) (inl (stands rec hand.version hand.is hand.known tail_is)))
 
+        -- the versions with those that were passed
+        stops : Stops w.limits (knows w s) rec head J.passed hand.version hand.older
+        stops = let K = kept u w s watched in record {
+          copy = subst (λ (cs : List Version). IsCopy w.limits (knows w s).facts rec head (J.passed ++ cs)) hand.split
+              (subst (λ (l : Limits). IsCopy l (knows w s).facts rec head (J.passed ++ J.rest)) (sym watched.learns.limits) (copies_stay u.limits k.facts (knows w s).facts rec head (J.passed ++ J.rest) K.facts J.copy));
+          closed = closed_more k.facts (knows w s).facts J.passed K.facts J.closed;
+        }
+
         -- a newer one
-        pub walk_newer : (time : ℕ) → Possible w → Stands seat.view w s tail (Newer time) → FoundNewer (knows w s) rec time
+        pub walk_newer : (time : ℕ) → Possible w → Stands seat.view w s tail (Newer time) → FoundNewer w.limits (knows w s) rec head time
         walk_newer time p stands = let q = stands rec hand.version hand.is hand.known tail_is in record {
+          passed = J.passed;
+          version = hand.version;
+          older = hand.older;
+          stops = stops;
           above = q.above;
-          wrote = λ key has. (
-            hand.version.writer,
-            committed_wrote w s rec key time hand.version p (still_hosts u w s watched J.host)
-                (subst (λ (l : Limits). IsVersionOf l rec hand.version) (sym watched.learns.limits) hand.is) ((kept u w s watched).facts (fact_of hand.version) hand.known) has
-                (let a = q.above in omega arith) q.seen q.committed,
-          );
+          seen = q.seen;
+          committed = q.committed;
+          wrote = λ key has. committed_wrote w s rec key time hand.version p (still_hosts u w s watched J.host)
+              (subst (λ (l : Limits). IsVersionOf l rec hand.version) (sym watched.learns.limits) hand.is) ((kept u w s watched).facts (fact_of hand.version) hand.known) has
+              (let a = q.above in omega arith) q.seen q.committed;
         }
 
         -- an unfinished one
-        pub walk_unfinished : (j m : ℕ) → Stands seat.view w s tail (Unfinished j m) → FoundUnfinished v w s rec j m
+        pub walk_unfinished : (j m : ℕ) → Stands seat.view w s tail (Unfinished j m) → FoundUnfinished v w s rec head j m
         walk_unfinished j m stands = let q = stands rec hand.version hand.is hand.known tail_is in record {
+          passed = J.passed;
+          version = hand.version;
+          older = hand.older;
+          stops = stops;
+          writer = let a = q.session in let b = q.number in omega arith;
           other = q.other;
-          tail = hand.version.tail;
           found = found_before v u w s (UnfinishedVersion (rec + 1) hand.version.tail j m ((knows w s).begin + 1)) J.watched q.found;
+          live = q.live;
         }
 
         is_later : IsVersionOf w.limits rec hand.version

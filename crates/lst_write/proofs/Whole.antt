@@ -1,5 +1,5 @@
 -- The last word of a tail in hand: its start word makes it whole.
-use Rattle.std.proofs.Common.{◌≡◌, ◌≢◌, ℕ, zero, suc, ◌+◌, ◌-◌, ◌*◌, ◌/◌, ◌%◌, ◌^◌, ◌<◌, ◌≤◌, List, [], ◌∷◌, ◌++◌, Bool, true, false, cond, eqb, bit_or, set, length, replicate, slice_index, slice_index_or, refl, sym, subst, ap, ◌∙◌, arith, eq-eqb, ne_eqb, append_assoc, Contains}
+use Rattle.std.proofs.Common.{◌≡◌, ◌≢◌, ℕ, zero, suc, ◌+◌, ◌-◌, ◌*◌, ◌%◌, ◌^◌, ◌<◌, ◌≤◌, List, [], ◌∷◌, ◌++◌, Bool, true, false, cond, eqb, set, slice_index, slice_index_or, refl, sym, subst, ap, ◌∙◌, arith, ne_eqb, append_assoc, Contains}
 use Rattle.std.proofs.lemmas.List.{length-replicate}
 use Rattle.std.proofs.lemmas.List.Elements.{Contains-append_left, Contains-append_right}
 use Rattle.lst_layout.specs.declared.limits.Limits.{Limits}
@@ -10,17 +10,15 @@ use Rattle.lst_layout.proofs.Functions.{put_in_row, put_here, put_in_else}
 use Rattle.lst_model.specs.declared.acts.Act.{Act}
 use Rattle.lst_core_state.specs.declared.known.Known.{Known}
 use Rattle.lst_core_state.specs.declared.known.Counter.{Counter}
-use Rattle.lst_core_state.specs.declared.known.Draft.{Draft}
 use Rattle.lst_core_state.specs.declared.known.Hold.{Hold}
 use Rattle.lst_core_state.specs.declared.facts.Fact.{Fact}
 use Rattle.lst_core_state.specs.declared.facts.Fact.TheVariants.{CellIs, IndexAt}
-use Rattle.lst_core_state.specs.declared.facts.Find.{Find}
 use Rattle.lst_core_state.specs.declared.facts.Find.TheVariants.{CountedTails}
 use Rattle.lst_core_state.specs.declared.events.Event.TheVariants.{StoreCell}
-use Rattle.lst_core_state.specs.Cells.{record_count, range_of, tail_range, record_of, slot_of, has_bit, mask_of, listed, act_of, IsCell}
+use Rattle.lst_core_state.specs.Cells.{range_of, tail_range, record_of, slot_of, listed, act_of, IsCell}
 use Rattle.lst_core_state.specs.Facts.{cell_fact}
 use Rattle.lst_core_state.specs.State.{writer, name_of, sight, FitsAfter, record_in, act_in}
-use Rattle.lst_core_state.specs.Step.{Enabled, ComesLast, IsDrafted, cell_started, word_stored}
+use Rattle.lst_core_state.specs.Step.{Enabled, IsDrafted, cell_started}
 use Rattle.lst_core_state.proofs.CellsKept.{tail_range-is}
 use Rattle.lst_core_state.proofs.Steps.{writer_odd}
 use Rattle.lst_rule.specs.declared.view.View.{View}
@@ -28,9 +26,9 @@ use Rattle.lst_rule.specs.Rule.{knows, hosts, Allowed}
 use Rattle.lst_rule.specs.Learned.{Learns, CanStand, Made}
 use Rattle.lst_rule.proofs.Knowing.{is_fact, knows_own}
 use Rattle.lst_rule.proofs.Learning.{learns_on}
-use Rattle.lst_sights.specs.Seen.{HasKey}
 use Rattle.lst_write.specs.Cells.{IsActFor, encoding_of, value_of, cell_word}
-use Rattle.lst_write.specs.Appending.{FitsSight, HasWhole, Draws, IsDraft, Appends, tail_of}
+use Rattle.lst_write.specs.Appending.{FitsSight, HasWhole, ChangesTail, with_count, known_words, Draws, IsDraft, Appends, tail_of}
+use Rattle.lst_write.proofs.Storing.{changes_next}
 use Rattle.lst_write.proofs.Encodings.{slot_is, act_says, is_cell}
 
 -- ---- words by place
@@ -103,10 +101,11 @@ pub record Filled (v z : View) (s rec head n : ℕ) (act : Act) : Type 0 where
     finds = (knows v s).finds ++ CountedTails (range_of rec) count ∷ [];
   })
   pub draft : IsDraft v.limits.columns (knows z s).draft (cell_word (encoding_of v.limits.columns rec act) head act) (3 + v.limits.columns)
+  pub words : v.whole ≡ true → (n ≡ (known_words v).counts (range_of rec) + 1) × ChangesTail (with_count (known_words v) (range_of rec) n) (known_words z) (range_of rec * v.limits.tails + n)
 
 pub filled : (v u z : View) (s rec head n columns encoding : ℕ) (act : Act) → columns ≡ v.limits.columns → encoding ≡ encoding_of columns rec act → Draws v u s rec head n → Learns u z s (record (knows u s) { draft = (knows z s).draft })
-    → IsDraft columns (knows z s).draft (cell_word encoding head act) (3 + columns) → Filled v z s rec head n act
-filled v u z s rec head n columns encoding act same is d learns draft = record {
+    → IsDraft columns (knows z s).draft (cell_word encoding head act) (3 + columns) → (u.whole ≡ true → ChangesTail (known_words u) (known_words z) (knows u s).hold.tail) → Filled v z s rec head n act
+filled v u z s rec head n columns encoding act same is d learns draft words = record {
   some = d.some;
   few = d.few;
   count = d.count;
@@ -114,6 +113,11 @@ filled v u z s rec head n columns encoding act same is d learns draft = record {
   facts = d.facts;
   view = subst (λ (k : Known). Learns v z s k) (λ i. record (d.view.now i) { draft = (knows z s).draft }) (learns_on v u z s _ _ d.view learns);
   draft = subst (λ (m : ℕ). IsDraft m (knows z s).draft (cell_word (encoding_of m rec act) head act) (3 + m)) same (subst (λ (e : ℕ). IsDraft columns (knows z s).draft (cell_word e head act) (3 + columns)) is draft);
+  words = λ whole. let q = d.words whole in (
+    q.0,
+    subst (λ (t : ℕ). ChangesTail (with_count (known_words v) (range_of rec) n) (known_words z) t) (ap (λ (k : Known). k.hold.tail) d.view.now)
+        (subst (λ (a : Words). ChangesTail a (known_words z) (knows u s).hold.tail) q.1 (words (d.view.whole ∙ whole))),
+  );
 }
 
 -- the tail that was drawn has no words yet
@@ -265,4 +269,5 @@ module _ (v z : View) (s rec head n : ℕ) (act : Act) (F : Filled v z s rec hea
       facts = F.facts ++ fact ∷ [];
       view = learns;
       whole = subst (λ (m : Limits). HasWhole m (knows w s) s rec head n act) (sym learns.limits) whole;
+      words = λ knows_words. let q = F.words knows_words in (q.0, changes_next (with_count (known_words v) (range_of rec) n) z w s 0 x T at (F.view.whole ∙ knows_words) (ap (λ (h : Hold). h.tail) hold_is) q.1 made);
     }

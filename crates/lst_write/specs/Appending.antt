@@ -1,7 +1,9 @@
 -- How a session comes to a tail that holds its act.
-use Rattle.std.specs.Prelude.{◌≡◌, ℕ, ◌+◌, ◌-◌, ◌*◌, ◌^◌, ◌<◌, ◌≤◌, List, [], ◌∷◌, ◌++◌, Bool, true, false, length, replicate, slice_index}
+use Rattle.std.specs.Prelude.{◌≡◌, ◌≢◌, ℕ, ◌+◌, ◌-◌, ◌*◌, ◌^◌, ◌<◌, ◌≤◌, List, [], ◌∷◌, ◌++◌, Bool, true, false, length, replicate, slice_index}
 use Rattle.std.specs.List.{Contains}
 use Rattle.lst_layout.specs.declared.limits.Limits.{Limits}
+use Rattle.lst_layout.specs.Functions.{put}
+use Rattle.lst_layout.specs.Words.{Words, shown}
 use Rattle.lst_model.specs.declared.acts.Act.{Act}
 use Rattle.lst_model.specs.Histories.{joined}
 use Rattle.lst_versions.specs.Writes.{write}
@@ -17,7 +19,7 @@ use Rattle.lst_core_state.specs.Cells.{range_of, act_of}
 use Rattle.lst_core_state.specs.State.{name_of, sight as sight_of, FitsAfter, no_hold}
 use Rattle.lst_rule.specs.declared.view.View.{View}
 use Rattle.lst_rule.specs.Rule.{knows, hosts}
-use Rattle.lst_rule.specs.Learned.{Learns}
+use Rattle.lst_rule.specs.Learned.{Learns, Kept}
 use Rattle.lst_sights.specs.Seen.{HasKey}
 use Rattle.lst_seat.specs.declared.store.Store.{Store}
 use Rattle.lst_seat.specs.Seats.{Sitting}
@@ -39,6 +41,21 @@ pub record HasWhole (l : Limits) (k : Known) (s rec head n : ℕ) (act : Act) : 
   pub stored : Contains k.facts (CellIs (range_of rec * l.tails + n) (name_of s k.number) encoding head values)
   pub says : act_of encoding values ≡ act
 
+-- ---- words of tails
+
+-- of the words only those of one tail differ
+pub record ChangesTail (a b : Words) (tail : ℕ) : Type 0 where
+  pub rest : b ≡ record a { cells = b.cells }
+  pub others : (t p : ℕ) → t ≢ tail → b.cells t p ≡ a.cells t p
+
+-- the tail counter of the range is n
+abbrev pub with_count : Words → ℕ → ℕ → Words
+with_count w range n = record w { counts = put w.counts range n }
+
+-- the words that the view knows
+abbrev pub known_words : View → Words
+known_words v = shown v.limits v.words
+
 -- ---- the draw of a tail
 
 -- the session s has found the range's tail counter below its limit, or at it or above
@@ -47,10 +64,11 @@ pub record Counts (v w : View) (s range count : ℕ) (finds : List Find) : Type 
   pub facts : List Fact
   pub view : Learns v w s (record (knows v s) { counters = counters; facts = (knows v s).facts ++ facts; finds = (knows v s).finds ++ CountedTails range count ∷ finds })
 
--- no tail was drawn, since the range's tail counter was found full
+-- no tail was drawn, since the range's tail counter was found full. Where the view knows each word, none has changed
 pub record FindsFull (v w : View) (s range : ℕ) : Type 0 where
   pub count : ℕ
   pub counts : Counts v w s range count (FullTails range ∷ [])
+  pub kept : Kept v w
 
 -- the session s has drawn the tail with the number n in the record's range, and found no counter full
 pub record Draws (v w : View) (s rec head n : ℕ) : Type 0 where
@@ -66,8 +84,10 @@ pub record Draws (v w : View) (s rec head n : ℕ) : Type 0 where
     facts = (knows v s).facts ++ facts;
     finds = (knows v s).finds ++ CountedTails (range_of rec) count ∷ [];
   })
+  -- the number is the next one of the range, which the counter has then
+  pub words : v.whole ≡ true → (n ≡ (known_words v).counts (range_of rec) + 1) × (known_words w ≡ with_count (known_words v) (range_of rec) n)
 
--- ---- the words of a tail
+-- ---- the stores of a tail
 
 -- the words at the places from 1 to below p are stored, and are these
 pub record IsDraft (columns : ℕ) (d : Draft) (word : ℕ → ℕ) (p : ℕ) : Type 0 where
@@ -83,6 +103,7 @@ pub record Stores (store : Store) (v : View) (seat : Sitting) (s : ℕ) (word : 
   pub some : 0 < p
   pub low : p ≤ 3 + store.layout.limits.columns
   pub draft : IsDraft store.layout.limits.columns (knows seat.view s).draft word p
+  pub words : v.whole ≡ true → ChangesTail (known_words v) (known_words seat.view) (knows v s).hold.tail
 
 -- ---- both
 
@@ -102,6 +123,8 @@ pub record Appends (v w : View) (s rec head n : ℕ) (act : Act) : Type 0 where
     finds = (knows v s).finds ++ CountedTails (range_of rec) count ∷ [];
   })
   pub whole : HasWhole w.limits (knows w s) s rec head n act
+  -- the number is the next one of the range, which the counter has then. Beside it only words of that tail were stored
+  pub words : v.whole ≡ true → (n ≡ (known_words v).counts (range_of rec) + 1) × ChangesTail (with_count (known_words v) (range_of rec) n) (known_words w) (range_of rec * v.limits.tails + n)
 
 -- ---- the install
 

@@ -1,21 +1,23 @@
 -- What a session finds of a record's chain before it writes.
-use Rattle.std.specs.Prelude.{◌≡◌, ◌≢◌, ℕ, ◌+◌, ◌<◌, ◌≤◌, List, ◌++◌, true}
+use Rattle.std.specs.Prelude.{◌≡◌, ◌≢◌, ℕ, ◌+◌, ◌<◌, ◌≤◌, List, ◌∷◌, ◌++◌, true, length}
 use Rattle.std.specs.List.{Contains}
 use Rattle.lst_layout.specs.declared.limits.Limits.{Limits}
+use Rattle.lst_layout.specs.Words.{shown}
 use Rattle.lst_core_state.specs.declared.known.Known.{Known}
 use Rattle.lst_core_state.specs.declared.facts.Find.TheVariants.{UnfinishedVersion}
+use Rattle.lst_core_state.specs.State.{name_of}
 use Rattle.lst_rule.specs.declared.view.View.{View}
 use Rattle.lst_rule.specs.Rule.{knows, hosts}
 use Rattle.lst_sights.specs.Copies.{Version, fact_of, IsVersionOf, IsChainFrom, IsCopy}
 use Rattle.lst_sights.specs.Seen.{HasKey}
-use Rattle.lst_sights.specs.Judging.{AreClosed, IsJudged, WroteAt}
+use Rattle.lst_sights.specs.Judging.{AreClosed, IsJudged, IsCommittedAt, WroteAt}
 use Rattle.lst_sights.specs.Watching.{Watched}
 use Rattle.lst_seat.specs.declared.store.Store.{Store}
 use Rattle.lst_seat.specs.Seats.{Sitting}
 use Rattle.lst_seat.specs.Stores.{IsSeatOf}
 use Rattle.lst_write.specs.declared.judgement.JudgeFault.{JudgeFault}
 use Rattle.lst_write.specs.declared.judgement.JudgeFault.TheVariants.{Newer, Unfinished}
-use Rattle.lst_write.specs.Standings.{FoundSince}
+use Rattle.lst_write.specs.Standings.{FoundSince, IsLive}
 
 -- the facts have a copy of the record's chain, whose newest version has this number in its range
 abbrev pub HasChain : Limits → Known → ℕ → ℕ → Type 0
@@ -33,21 +35,38 @@ IsLinked l k tail = (rec : ℕ) × (c : Version) × IsVersionOf l rec c × Conta
 abbrev pub IsBack : Limits → Known → ℕ → ℕ → Type 0
 IsBack l k tail n = (rec : ℕ) (c : Version) → IsVersionOf l rec c → Contains k.facts (fact_of c) → c.tail ≡ tail → n ≡ c.back
 
--- what was seen has at this time, which is above the begin, a commit that wrote the record's key
-pub record FoundNewer (k : Known) (rec time : ℕ) : Type 0 where
+-- these are all versions of the record's chain, newest first: the transactions of those before c are closed
+pub record Stops (l : Limits) (k : Known) (rec head : ℕ) (passed : List Version) (c : Version) (older : List Version) : Type 0 where
+  pub copy : IsCopy l k.facts rec head (passed ++ c ∷ older)
+  pub closed : AreClosed k.facts passed
+
+-- the newest version that isn't closed was committed at this time, which is above the begin. What was seen has that commit there, which
+-- wrote the record's key
+pub record FoundNewer (l : Limits) (k : Known) (rec head time : ℕ) : Type 0 where
+  pub passed : List Version
+  pub version : Version
+  pub older : List Version
+  pub stops : Stops l k rec head passed version older
   pub above : k.begin < time
-  pub wrote : (key : ℕ) → HasKey k.facts rec key → (name : ℕ) × WroteAt k.seen time name key
+  pub seen : time ≤ length k.seen
+  pub committed : IsCommittedAt k.facts version time
+  pub wrote : (key : ℕ) → HasKey k.facts rec key → WroteAt k.seen time version.writer key
 
--- since the view was v, the session s found a version of the record by the transaction n of another session j, which was neither
--- closed nor committed by the clock
-pub record FoundUnfinished (v w : View) (s rec j n : ℕ) : Type 0 where
+-- the newest version that isn't closed is one by the transaction n of another session j, which the session s has found neither closed nor
+-- committed by the clock since the view was v. Where the view knows each word, they say so
+pub record FoundUnfinished (v w : View) (s rec head j n : ℕ) : Type 0 where
+  pub passed : List Version
+  pub version : Version
+  pub older : List Version
+  pub stops : Stops w.limits (knows w s) rec head passed version older
+  pub writer : version.writer ≡ name_of j n
   pub other : j ≢ s
-  pub tail : ℕ
-  pub found : FoundSince v w s (UnfinishedVersion (rec + 1) tail j n ((knows w s).begin + 1))
+  pub found : FoundSince v w s (UnfinishedVersion (rec + 1) version.tail j n ((knows w s).begin + 1))
+  pub live : w.whole ≡ true → IsLive (shown w.limits w.words) j n
 
-abbrev pub FaultIs : View → View → ℕ → ℕ → JudgeFault → Type 0
-FaultIs v w s rec (Newer time) = FoundNewer (knows w s) rec time
-FaultIs v w s rec (Unfinished j n) = FoundUnfinished v w s rec j n
+abbrev pub FaultIs : View → View → ℕ → ℕ → ℕ → JudgeFault → Type 0
+FaultIs v w s rec head (Newer time) = FoundNewer w.limits (knows w s) rec head time
+FaultIs v w s rec head (Unfinished j n) = FoundUnfinished v w s rec head j n
 
 -- the judge of the record's chain has passed some versions, which are closed, and comes to the one with the number n. It began with the
 -- view v

@@ -1,5 +1,5 @@
 -- How a version of a record stands to the open transaction of a session that is to write above it.
-use Rattle.std.specs.Prelude.{◌≡◌, ◌≢◌, ℕ, ◌+◌, ◌*◌, ◌/◌, ◌%◌, ◌<◌, ◌≤◌, List, ◌++◌, true, cond, nat_le, length}
+use Rattle.std.specs.Prelude.{◌≡◌, ◌≢◌, ◌⊎◌, ℕ, ◌+◌, ◌*◌, ◌/◌, ◌%◌, ◌<◌, ◌≤◌, List, ◌++◌, true, cond, nat_le, length}
 use Rattle.std.specs.List.{Contains}
 use Rattle.lst_core_state.specs.declared.known.Known.{Known}
 use Rattle.lst_core_state.specs.declared.facts.Fact.TheVariants.{StateAt, CommitAt}
@@ -7,6 +7,7 @@ use Rattle.lst_core_state.specs.declared.facts.Find.{Find}
 use Rattle.lst_core_state.specs.declared.facts.Find.TheVariants.{UnfinishedVersion}
 use Rattle.lst_core_state.specs.State.{name_of}
 use Rattle.lst_layout.specs.declared.limits.Limits.{Limits}
+use Rattle.lst_layout.specs.Words.{Words, shown}
 use Rattle.lst_rule.specs.declared.view.View.{View}
 use Rattle.lst_rule.specs.Rule.{knows}
 use Rattle.lst_sights.specs.Copies.{Version, fact_of, IsVersionOf}
@@ -28,12 +29,18 @@ pub record IsNewer (k : Known) (c : Version) (time : ℕ) : Type 0 where
   pub seen : time ≤ length k.seen
   pub committed : IsCommittedAt k.facts c time
 
--- the version's transaction, number n of another session j, was found neither closed nor committed by the clock since the view was v
+-- the transaction, number n of the session j, is neither closed nor committed by the clock
+abbrev pub IsLive : Words → ℕ → ℕ → Type 0
+IsLive w j n = (w.states j n ≡ 0) ⊎ (w.clock + 1 < w.states j n)
+
+-- the version's transaction, number n of another session j, was found neither closed nor committed by the clock since the view was v.
+-- Where the view knows each word, they say so
 pub record IsUnfinished (v w : View) (s rec : ℕ) (c : Version) (j n : ℕ) : Type 0 where
   pub session : j ≡ c.writer % 16
   pub number : n ≡ c.writer / 16
   pub other : j ≢ s
   pub found : FoundSince v w s (UnfinishedVersion (rec + 1) c.tail j n ((knows w s).begin + 1))
+  pub live : w.whole ≡ true → IsLive (shown w.limits w.words) j n
 
 -- how the version c of the record stands, as found since the view was v
 abbrev pub IsStanding : View → View → ℕ → ℕ → Version → Standing → Type 0

@@ -46,8 +46,9 @@ fn version_below(store: &Store, seat: &mut Seat, s: u32, tail: u32) -> u32
 /// Looks whether the session may write on a record whose latch it has: it walks from the newest version past closed ones to the first other
 /// one, which has to be of its own transaction, or committed by its begin.
 ///
-/// Newer names the commit time of that version, which is above the begin; the session has then seen that commit. Unfinished comes only
-/// where that version was found unfinished in this call. Nothing else changes than what the session has found and seen.
+/// Newer names the commit time of that version, which is above the begin; the session has then seen that commit. Unfinished names that
+/// version's transaction, and comes only where it was found unfinished in this call. Nothing else changes than what the session has found
+/// and seen.
 pub fn judge(
     store: &Store,
     seat: &mut Seat,
@@ -65,7 +66,7 @@ pub fn judge(
     ensures keeps { KeptBy (knows seat.old.view s) (knows seat.new.view s) }
     ensures turn { (knows seat.new.view s).turn ≡ (knows seat.old.view s).turn }
     ensures ok { IfOk result (λ _. HasJudged seat.new.view.limits (knows seat.new.view s) s rec.number head) }
-    ensures err { IfErr result (λ fault. FaultIs seat.old.view seat.new.view s rec.number fault) }
+    ensures err { IfErr result (λ fault. FaultIs seat.old.view seat.new.view s rec.number head fault) }
 {
     seat.consider();
     let mut number = head;

@@ -1,17 +1,17 @@
 //! A tail that holds an act, and how it comes onto a record's chain.
-ghost use Rattle.std.specs.Prelude.{◌≡◌, ℕ, ◌+◌, ◌-◌, ◌*◌, ◌<◌, ◌≤◌, [], ◌∷◌, ◌++◌, true, false, IfOk, OnOk, OnErr};
+ghost use Rattle.std.specs.Prelude.{◌≡◌, ℕ, ◌+◌, ◌-◌, ◌*◌, ◌<◌, ◌≤◌, [], ◌∷◌, ◌++◌, true, false, length, IfOk, OnOk, OnErr};
 ghost use Rattle.lst_core_state.specs.declared.facts.Find.TheVariants.{FullTails};
 ghost use Rattle.lst_core_state.specs.Cells.{range_of};
 ghost use Rattle.lst_core_state.specs.State.{counter_of};
 ghost use Rattle.lst_rule.specs.Rule.{knows, hosts};
-ghost use Rattle.lst_rule.specs.Learned.{Learns, Made};
+ghost use Rattle.lst_rule.specs.Learned.{Learns, Kept, Made};
 ghost use Rattle.lst_layout.specs.declared.place.Place.TheVariants.{HeadWord};
 ghost use Rattle.lst_core_state.specs.declared.events.Event.TheVariants.{Install};
 ghost use Rattle.lst_seat.specs.Stores.{IsSeatOf};
-ghost use Rattle.lst_write.specs.Holding.{HasLatch};
+ghost use Rattle.lst_write.specs.Holding.{MayLatch, HasLatch};
 ghost use Rattle.lst_write.specs.Judgements.{HasJudged};
 ghost use Rattle.lst_write.specs.Cells as cells;
-ghost use Rattle.lst_write.specs.Appending.{FitsSight, Counts, FindsFull, Draws, IsDraft, Appends, HasWhole, InstallsHeld};
+ghost use Rattle.lst_write.specs.Appending.{FitsSight, ChangesTail, known_words, Counts, FindsFull, Draws, IsDraft, Appends, HasWhole, InstallsHeld};
 
 use crate::cells::{cell_word, encoding};
 use lst_bits::{Start, pack_start};
@@ -33,6 +33,8 @@ fn look_at_counter(store: &Store, seat: &mut Seat, s: u32, range: u32) -> Result
     ensures seat { IsSeatOf store.now seat.new }
     ensures ok { OnOk result ((count : ℕ) × Counts seat.old.view seat.new.view s range count []) }
     ensures serves { OnOk result ((counter_of (knows seat.new.view s) range).is_serving ≡ true) }
+    ensures left { OnOk result (seat.old.view.whole ≡ true → (known_words seat.old.view).counts range < seat.old.view.limits.tails) }
+    ensures kept { Kept seat.old.view seat.new.view }
     ensures err { OnErr result (FindsFull seat.old.view seat.new.view s range) }
 {
     if load_tail_counter(store, seat, s, range) >= store.layout().limits.tails as u64 {
@@ -74,6 +76,7 @@ fn store_words(store: &Store, seat: &mut Seat, s: u32, encoding: u64, head: u32,
     ensures seat { IsSeatOf store.now seat.new }
     ensures view { Learns seat.old.view seat.new.view s (record (knows seat.old.view s) { draft = (knows seat.new.view s).draft }) }
     ensures draft { IsDraft store.now.layout.limits.columns (knows seat.new.view s).draft (cells.cell_word encoding head act.now) (3 + store.now.layout.limits.columns) }
+    ensures words { seat.old.view.whole ≡ true → ChangesTail (known_words seat.old.view) (known_words seat.new.view) (knows seat.old.view s).hold.tail }
 {
     let columns = store.layout().limits.columns;
     let mut place = 1;
@@ -88,8 +91,11 @@ fn store_words(store: &Store, seat: &mut Seat, s: u32, encoding: u64, head: u32,
 /// row that the transaction sees. It answers the tail's number in the range; the tail is whole then, and in hand. The start word is
 /// stored last. At most one tail is drawn.
 ///
+/// To a view that knows every word, the number is one more than the range's tail counter was, which has it then, and beside it only words
+/// of that tail have changed.
+///
 /// TailFull comes exactly where the range's tail counter was found at its limit or above in this call. Nothing else than what the session
-/// has found changes then.
+/// has found changes then, and, of a view that knows every word, no word.
 pub fn append(
     store: &Store,
     seat: &mut Seat,
@@ -129,6 +135,8 @@ pub fn install(store: &Store, seat: &mut Seat, s: u32, rec: RecordId, tail: u32)
     requires whole { (head : ℕ) × (act : Act) × HasWhole seat.old.view.limits (knows seat.old.view s) s rec.number head tail act }
     ensures seat { IsSeatOf store.now seat.new }
     ensures installs { InstallsHeld seat.old.view seat.new.view s rec.number tail }
+    ensures free { MayLatch (knows seat.new.view s) }
+    ensures writes { 0 < length (knows seat.new.view s).own }
     ensures word { Made seat.old.view seat.new.view (Install s) (HeadWord rec.number) (2 * tail) }
 {
     let _ = (rec, tail);

@@ -1,4 +1,4 @@
-use Rattle.std.proofs.Common.{◌+◌, ◌*◌, ◌≤◌, ◌≡◌, arith}
+use Rattle.std.proofs.Common.{arith}
 use Rattle.lst_write.proofs.Encodings.{mask_fits, byte_low}
 use Rattle.lst_write.proofs.cells.patch_mask.Goals as goal
 

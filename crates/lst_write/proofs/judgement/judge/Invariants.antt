@@ -1,4 +1,3 @@
-use Rattle.std.proofs.Common.{ℕ}
 use Rattle.lst_write.specs.Judgements.{Judges}
 use Rattle.lst_write.proofs.judgement.judge.Given as goal
 

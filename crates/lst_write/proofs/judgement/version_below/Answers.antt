@@ -1,4 +1,4 @@
-use Rattle.std.proofs.Common.{◌+◌, ◌<◌, ◌≤◌, arith}
+use Rattle.std.proofs.Common.{arith}
 use Rattle.lst_rule.specs.Rule.{knows}
 use Rattle.lst_write.proofs.Found.{version_word}
 use Rattle.lst_write.proofs.Walking.{back_is, back_watched, back_few}

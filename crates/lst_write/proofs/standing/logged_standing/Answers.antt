@@ -1,8 +1,8 @@
-use Rattle.std.proofs.Common.{sym, subst, ◌≡◌, ◌≤◌, ◌<◌, arith}
+use Rattle.std.proofs.Common.{sym, subst, arith}
 use Rattle.lst_core_state.specs.State.{name_of}
 use Rattle.lst_write.specs.declared.standing.Standing.{Standing}
 use Rattle.lst_write.specs.Standings.{StandsBy}
-use Rattle.lst_write.proofs.Keeping.{watched_same}
+use Rattle.lst_sights.proofs.Watching.{watched_same}
 use Rattle.lst_write.proofs.States.{clock_watched, logged_early, logged_above, logged_late}
 use Rattle.lst_write.proofs.standing.logged_standing.Goals as goal
 

@@ -1,7 +1,6 @@
-use Rattle.std.proofs.Common.{refl, true≢false, sym, subst, ◌≡◌, ◌+◌, ◌<◌, ◌≤◌, arith}
+use Rattle.std.proofs.Common.{refl, true≢false, sym, arith}
 use Rattle.lst_sights.proofs.Watching.{watches_join}
 use Rattle.lst_rule.specs.Rule.{knows}
-use Rattle.lst_write.proofs.Keeping.{still_on}
 use Rattle.lst_write.proofs.Found.{version_word, start_watched, start_is_word, start_some, start_stamp, stamp_stands, own_stands, name_place, name_other, name_stands}
 use Rattle.lst_write.proofs.standing.standing_of.Goals as goal
 

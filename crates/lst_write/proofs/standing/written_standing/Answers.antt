@@ -1,6 +1,4 @@
-use Rattle.std.proofs.Common.{ℕ, ◌+◌, ◌≡◌, ◌≤◌, ◌<◌, sym, ap, ◌∙◌, arith}
-use Rattle.lst_bits.specs.States.{state_word}
-use Rattle.lst_bits.specs.declared.states.State.{State}
+use Rattle.std.proofs.Common.{sym}
 use Rattle.lst_write.proofs.Keeping.{kept}
 use Rattle.lst_write.proofs.States.{state_watched, state_closed, state_committed, state_active, state_start, state_stands, other_later}
 use Rattle.lst_sights.proofs.Watching.{watches_join}

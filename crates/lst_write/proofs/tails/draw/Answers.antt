@@ -1,4 +1,4 @@
-use Rattle.std.proofs.Common.{◌≡◌, ℕ, ◌/◌, ◌<◌, ◌≤◌, ap, ◌∙◌, sym, arith}
+use Rattle.std.proofs.Common.{ap, arith}
 use Rattle.lst_layout.specs.declared.layout.Layout.{Layout}
 use Rattle.lst_layout.specs.declared.limits.Limits.{Limits}
 use Rattle.lst_rule.specs.Rule.{knows}
@@ -16,8 +16,8 @@ step_draw_tail-found-requires-clause-stands c = let counts = c.in_ok-look_at_cou
 
 pub returns-then-found-layout-clause-err : goal.returns-then-found-layout-clause-err
 returns-then-found-layout-clause-err c = let counts = c.in_ok-look_at_counter.ensures.ok in let same = ap (λ (l : Layout). l.limits.tails) c.layout.ensures in let e = ap (λ (l : Limits). l.tails) c.requires.seat.limits in
-    draw_full _ _ _ _ _ counts.0 c.requires.latch counts.1 _ _ _ c.step_draw_tail-found.ensures.met (let h = c.if-found-layout.true in omega arith)
+    draw_full _ _ _ _ _ counts.0 c.requires.latch counts.1 _ _ _ c.step_draw_tail-found.ensures.met c.in_ok-look_at_counter.ensures.kept c.in_ok-look_at_counter.ensures.left (let h = c.if-found-layout.true in omega arith)
 
 pub returns-clause-ok : goal.returns-clause-ok
 returns-clause-ok c = let counts = c.in_ok-look_at_counter.ensures.ok in let same = ap (λ (l : Layout). l.limits.tails) c.layout.ensures in let e = ap (λ (l : Limits). l.tails) c.requires.seat.limits in
-    draw_won _ _ _ _ _ counts.0 c.requires.latch counts.1 _ _ _ c.step_draw_tail-found.ensures.met (let h = c.if-found-layout.false in omega arith)
+    draw_won _ _ _ _ _ counts.0 c.requires.latch counts.1 _ _ _ c.step_draw_tail-found.ensures.met c.in_ok-look_at_counter.ensures.kept (let h = c.if-found-layout.false in omega arith)

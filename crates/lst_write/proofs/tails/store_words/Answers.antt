@@ -1,6 +1,5 @@
-use Rattle.std.proofs.Common.{◌≡◌, ℕ, ◌+◌, ◌<◌, ◌≤◌, ap, ◌∙◌, sym, subst, arith}
+use Rattle.std.proofs.Common.{◌≡◌, ℕ, ◌+◌, ap, subst, arith}
 use Rattle.lst_layout.specs.declared.layout.Layout.{Layout}
-use Rattle.lst_layout.specs.declared.limits.Limits.{Limits}
 use Rattle.lst_rule.specs.Rule.{knows}
 use Rattle.lst_write.specs.Cells.{cell_word}
 use Rattle.lst_write.specs.Appending.{IsDraft}
