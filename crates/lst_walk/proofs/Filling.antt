@@ -8,7 +8,8 @@ use Rattle.lst_sights.specs.Copies.{Version}
 use Rattle.lst_sights.specs.Watching.{Watched}
 use Rattle.lst_walk.specs.Readers.{IsReader, IsAt}
 use Rattle.lst_walk.specs.Walks.{Fills}
-use Rattle.lst_walk.proofs.Reading.{watched_same, watched_on}
+use Rattle.lst_sights.proofs.Watching.{watched_same}
+use Rattle.lst_walk.proofs.Reading.{watched_on}
 use Rattle.lst_walk.proofs.Lists.{take_more, take_whole}
 
 module _ {A : Type 0} (store : Store) (s tail : ℕ) (target : Version → List A) where

@@ -7,3 +7,4 @@ pub mod Stamping
 pub mod Filling
 pub mod Walking
 pub mod Acting
+pub mod Pairing

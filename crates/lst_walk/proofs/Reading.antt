@@ -1,5 +1,5 @@
 -- What a reader keeps from one load to the next.
-use Rattle.std.proofs.Common.{◌≡◌, ℕ, ◌+◌, ◌<◌, List, Bool, true, Contains, refl, sym, subst, ap, ◌∙◌}
+use Rattle.std.proofs.Common.{◌≡◌, ℕ, ◌+◌, ◌<◌, List, Bool, true, Contains, sym, subst, ap, ◌∙◌}
 use Rattle.std.proofs.lemmas.List.Elements.{Contains-append_left}
 use Rattle.lst_layout.specs.declared.limits.Limits.{Limits}
 use Rattle.lst_layout.specs.declared.place.Place.{Place}
@@ -19,17 +19,10 @@ use Rattle.lst_sights.specs.Copies.{Version, fact_of, IsVersionOf, Includes}
 use Rattle.lst_sights.specs.Seen.{sees}
 use Rattle.lst_sights.specs.Loads.{WordFound, StartFound}
 use Rattle.lst_sights.specs.Watching.{Watched, IsWatched}
-use Rattle.lst_sights.proofs.Watching.{looks_watch, watches_same, watchers_keep, watches_join}
+use Rattle.lst_sights.proofs.Watching.{looks_watch, watchers_keep, watches_join}
 use Rattle.lst_sights.proofs.Finding.{words_are_found, starts_are_found}
 use Rattle.lst_sights.proofs.Seeing.{same_sees}
 use Rattle.lst_walk.specs.Readers.{IsReader, IsAt, HasVersion}
-
--- nothing was looked at
-pub watched_same : (v : View) (s : ℕ) → Watched v v s
-watched_same v s = record {
-  learns = record { now = refl; others = λ _ _. refl; hosted = refl; limits = refl; note = refl; note_facts = refl; whole = refl };
-  watches = watches_same (knows v s);
-}
 
 pub watched_on : (u v w : View) (s : ℕ) → Watched u v s → Watched v w s → Watched u w s
 watched_on = watches_join

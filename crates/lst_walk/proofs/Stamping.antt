@@ -32,10 +32,10 @@ use Rattle.lst_sights.specs.Laws.{TailFound, Statuses}
 use Rattle.lst_sights.proofs.Finding.{tails_are_found}
 use Rattle.lst_sights.proofs.Telling.{statuses_tell}
 use Rattle.lst_sights.proofs.Committed.{committed_may_be_stamped}
-use Rattle.lst_sights.proofs.Watching.{stamps_watch}
+use Rattle.lst_sights.proofs.Watching.{stamps_watch, watched_same}
 use Rattle.lst_walk.specs.Readers.{IsReader, IsAt, HasVersion, IsStatus, Timed, Untimed, Stamped}
 use Rattle.lst_walk.specs.declared.statuses.Status.TheVariants.{Unfinished, Closed, Committed}
-use Rattle.lst_walk.proofs.Reading.{watched_same, watched_on, at_on, facts_on, sees_on, start_found, looked_possible}
+use Rattle.lst_walk.proofs.Reading.{watched_on, at_on, facts_on, sees_on, start_found, looked_possible}
 
 -- ---- tails by range and number
 

@@ -1,3 +1,4 @@
 pub mod Readers
 pub mod Patches
 pub mod Walks
+pub mod Pairs

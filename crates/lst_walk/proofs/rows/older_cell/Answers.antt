@@ -1,4 +1,4 @@
-use Rattle.lst_walk.proofs.Reading.{watched_same}
+use Rattle.lst_sights.proofs.Watching.{watched_same}
 use Rattle.lst_walk.proofs.rows.older_cell.Goals as goal
 
 pub returns-else-has_column-clause-watched : goal.returns-else-has_column-clause-watched

@@ -1,4 +1,4 @@
-use Rattle.lst_walk.proofs.Reading.{watched_same}
+use Rattle.lst_sights.proofs.Watching.{watched_same}
 use Rattle.lst_walk.proofs.rows.set_cell.Goals as goal
 
 pub returns-in-Some-clause-watched : goal.returns-in-Some-clause-watched
