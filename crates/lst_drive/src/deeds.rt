@@ -1,0 +1,145 @@
+//! Deeds, each made where the session's stage allows it.
+ghost use Rattle.std.specs.Prelude.{◌≡◌, [], ◌∷◌};
+ghost use Rattle.lst_model.specs.declared.acts.Act.TheVariants.{Put};
+ghost use Rattle.lst_drive.specs.Driving.{IsCrew, IsDriven, Drives};
+
+use crate::stages::{Answer, Deed, Stage};
+use arrayvec::ArrayVec;
+use lst_index::place;
+use lst_model::{Act, Key, Row};
+use lst_seat::{RecordId, Seat, Store};
+use lst_txn::{begin, close, take_turn};
+use lst_write::{append, install, judge, latch, release};
+
+fn begins(store: &Store, seat: &mut Seat, s: u32, stage: Stage) -> (Answer, Stage)
+    requires crew { IsCrew store.now seat.old }
+    requires driven { IsDriven seat.old s stage }
+    requires out { IsDriven seat.old s Stage.Out }
+    ensures { Drives store.now seat.old seat.new s result.1 }
+{
+    match begin(store, seat, s) {
+        Ok(time) => (Answer::Began { time }, Stage::In),
+        Err(fault) => (Answer::NotBegun { fault }, stage),
+    }
+}
+
+fn latches(store: &Store, seat: &mut Seat, s: u32, key: Key) -> (Answer, Stage)
+    requires crew { IsCrew store.now seat.old }
+    requires driven { IsDriven seat.old s Stage.In }
+    ensures { Drives store.now seat.old seat.new s result.1 }
+{
+    let Ok(placed) = place(store, seat, s, key) else {
+        return (Answer::TableFull, Stage::In);
+    };
+    let rec = placed.number;
+    match latch(store, seat, s, placed) {
+        Ok(head) => (Answer::Head { head }, Stage::Latching { rec, head }),
+        Err(_) => (Answer::Latched, Stage::In),
+    }
+}
+
+fn judges(store: &Store, seat: &mut Seat, s: u32, rec: u32, head: u32) -> (Answer, Stage)
+    requires crew { IsCrew store.now seat.old }
+    requires driven { IsDriven seat.old s (Stage.Latching rec head) }
+    ensures { Drives store.now seat.old seat.new s result.1 }
+{
+    match judge(store, seat, s, RecordId { number: rec }, head) {
+        Ok(()) => (Answer::Judged, Stage::Judged { rec, head }),
+        Err(fault) => (Answer::NotJudged { fault }, Stage::Latching { rec, head }),
+    }
+}
+
+/// A put of 10 20.
+fn a_put() -> Act
+    ensures { result ≡ Put (10 ∷ 20 ∷ []) }
+{
+    let mut cells = ArrayVec::new();
+    cells.push(10);
+    cells.push(20);
+    Act::Put(Row::new(cells))
+}
+
+fn appends(store: &Store, seat: &mut Seat, s: u32, rec: u32, head: u32) -> (Answer, Stage)
+    requires crew { IsCrew store.now seat.old }
+    requires driven { IsDriven seat.old s (Stage.Judged rec head) }
+    ensures { Drives store.now seat.old seat.new s result.1 }
+{
+    seat.consider();
+    if seat.begin(s) > 0 || seat.has_writes(s) {
+        return (Answer::Skipped, Stage::Judged { rec, head });
+    }
+    match append(store, seat, s, RecordId { number: rec }, head, &a_put()) {
+        Ok(tail) => (Answer::Tail { tail }, Stage::Whole { rec, tail }),
+        Err(_) => (Answer::TailFull, Stage::Judged { rec, head }),
+    }
+}
+
+fn installs(store: &Store, seat: &mut Seat, s: u32, rec: u32, tail: u32) -> (Answer, Stage)
+    requires crew { IsCrew store.now seat.old }
+    requires driven { IsDriven seat.old s (Stage.Whole rec tail) }
+    ensures { Drives store.now seat.old seat.new s result.1 }
+{
+    install(store, seat, s, RecordId { number: rec }, tail);
+    (Answer::Installed, Stage::In)
+}
+
+fn releases(store: &Store, seat: &mut Seat, s: u32, rec: u32, head: u32) -> (Answer, Stage)
+    requires crew { IsCrew store.now seat.old }
+    requires driven { IsDriven seat.old s (Stage.Latching rec head) }
+    ensures { Drives store.now seat.old seat.new s result.1 }
+{
+    release(store, seat, s, RecordId { number: rec }, head);
+    (Answer::Released, Stage::In)
+}
+
+fn commits(store: &Store, seat: &mut Seat, s: u32, stage: Stage) -> (Answer, Stage)
+    requires crew { IsCrew store.now seat.old }
+    requires driven { IsDriven seat.old s stage }
+    requires out { IsDriven seat.old s Stage.Out }
+    ensures { Drives store.now seat.old seat.new s result.1 }
+{
+    if seat.is_open(s) && !seat.has_writes(s) {
+        return (Answer::Skipped, stage);
+    }
+    match take_turn(store, seat, s) {
+        Ok(turn) => {
+            let time = turn.commit(store, seat);
+            (Answer::Committed { time }, Stage::Out)
+        }
+        Err(fault) => (Answer::NotCommitted { fault }, Stage::Out),
+    }
+}
+
+fn closes(store: &Store, seat: &mut Seat, s: u32) -> (Answer, Stage)
+    requires crew { IsCrew store.now seat.old }
+    requires out { IsDriven seat.old s Stage.Out }
+    ensures { Drives store.now seat.old seat.new s result.1 }
+{
+    match close(store, seat, s) {
+        Ok(()) => (Answer::Closed, Stage::Out),
+        Err(_) => (Answer::Idle, Stage::Out),
+    }
+}
+
+/// Makes a deed of a session where its stage allows it, and answers what it came to, and the session's stage then.
+pub fn step(store: &Store, seat: &mut Seat, s: u32, stage: Stage, deed: Deed) -> (Answer, Stage)
+    requires crew { IsCrew store.now seat.old }
+    requires driven { IsDriven seat.old s stage }
+    ensures { Drives store.now seat.old seat.new s result.1 }
+{
+    match (deed, stage) {
+        (Deed::Begin, Stage::Out) => begins(store, seat, s, stage),
+        (Deed::Begin, Stage::In) => begins(store, seat, s, stage),
+        (Deed::Latch { key }, Stage::In) => latches(store, seat, s, key),
+        (Deed::Judge, Stage::Latching { rec, head }) => judges(store, seat, s, rec, head),
+        (Deed::Append, Stage::Judged { rec, head }) => appends(store, seat, s, rec, head),
+        (Deed::Install, Stage::Whole { rec, tail }) => installs(store, seat, s, rec, tail),
+        (Deed::Release, Stage::Latching { rec, head }) => releases(store, seat, s, rec, head),
+        (Deed::Release, Stage::Judged { rec, head }) => releases(store, seat, s, rec, head),
+        (Deed::Commit, Stage::Out) => commits(store, seat, s, stage),
+        (Deed::Commit, Stage::In) => commits(store, seat, s, stage),
+        (Deed::Close, Stage::Out) => closes(store, seat, s),
+        (Deed::Close, Stage::In) => closes(store, seat, s),
+        _ => (Answer::Skipped, stage),
+    }
+}
