@@ -1,11 +1,17 @@
 //! Counts of instructions: each line of the input is a kind of run and how often it goes, and is answered by what the run came to.
 #![tactic(auto)]
 
+ghost use Rattle.std.specs.Prelude.{◌<◌};
+
+mod making;
+mod reports;
 mod runs;
 
-use lst_layout::Limits;
+use lst_layout::{Layout, Limits};
 use lst_seat::open_store;
+use reports::{Task, reports};
 use runs::{clocks, finds, heads, turns};
+use std::alloc::Global;
 use std::io;
 
 /// A store of one session that may begin 65,535 transactions.
@@ -19,6 +25,34 @@ const LIMITS: Limits = Limits {
     indexed: 0,
 };
 
+/// What the kind of run came to, or None for want of memory. A kind that there isn't comes to 0.
+fn answer(alloc: Global, layout: &Layout, kind: &str, count: u32) -> Option<u64> {
+    let task = match kind {
+        "made" => Task::Make,
+        "printed" => Task::Print,
+        "read" => Task::Read,
+        "reports" => Task::Judge,
+        _ => return seated(alloc, layout, kind, count),
+    };
+    reports(alloc, task, count).ok()
+}
+
+/// The same of a kind that runs on a store's seat.
+fn seated(alloc: Global, layout: &Layout, kind: &str, count: u32) -> Option<u64>
+    requires { 0 < layout.now.limits.sessions }
+{
+    let Ok((store, mut seat)) = open_store(alloc, layout) else {
+        return None;
+    };
+    Some(match kind {
+        "clocks" => clocks(&store, &mut seat, count),
+        "finds" => finds(&store, &mut seat, count),
+        "heads" => heads(&store, &mut seat, count),
+        "turns" => turns(&store, &mut seat, count) as u64,
+        _ => 0,
+    })
+}
+
 fn main(rt: HostRuntime) -> io::Result<()> {
     let Ok(layout) = LIMITS.check() else {
         return Ok(());
@@ -31,16 +65,9 @@ fn main(rt: HostRuntime) -> io::Result<()> {
         let Ok(count) = count.parse::<u32>() else {
             continue;
         };
-        let Ok((store, mut seat)) = open_store(rt.alloc(), &layout) else {
+        let Some(answer) = answer(rt.alloc(), &layout, kind, count) else {
             println!(rt; "out of memory")?;
             return Ok(());
-        };
-        let answer = match kind {
-            "clocks" => clocks(&store, &mut seat, count),
-            "finds" => finds(&store, &mut seat, count),
-            "heads" => heads(&store, &mut seat, count),
-            "turns" => turns(&store, &mut seat, count) as u64,
-            _ => 0,
         };
         println!(rt; "{kind} {count}: {answer}")?;
     }
