@@ -1,0 +1,11 @@
+pub mod Counts
+pub mod Keys
+pub mod Owns
+pub mod Rivals
+pub mod Openings
+pub mod Stamped
+pub mod Began
+pub mod Ended
+pub mod DrawnTails
+pub mod PlacedKeys
+pub mod Written

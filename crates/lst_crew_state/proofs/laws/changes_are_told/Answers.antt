@@ -1,0 +1,31 @@
+use Rattle.lst_crew_state.proofs.Openings.{opening_is_told, transactions_are_told}
+use Rattle.lst_crew_state.proofs.Stamped.{stamps_tell_nothing}
+use Rattle.lst_crew_state.proofs.Began.{begins_are_told}
+use Rattle.lst_crew_state.proofs.Ended.{closes_are_told, commits_are_told}
+use Rattle.lst_crew_state.proofs.PlacedKeys.{places_are_told}
+use Rattle.lst_crew_state.proofs.Written.{writes_are_told}
+use Rattle.lst_crew_state.proofs.laws.changes_are_told.Goals as goal
+
+pub returns-clause-opening : goal.returns-clause-opening
+returns-clause-opening c = opening_is_told
+
+pub returns-clause-stamps : goal.returns-clause-stamps
+returns-clause-stamps c = stamps_tell_nothing
+
+pub returns-clause-transactions : goal.returns-clause-transactions
+returns-clause-transactions c = transactions_are_told
+
+pub returns-clause-begins : goal.returns-clause-begins
+returns-clause-begins c = begins_are_told
+
+pub returns-clause-closes : goal.returns-clause-closes
+returns-clause-closes c = closes_are_told
+
+pub returns-clause-commits : goal.returns-clause-commits
+returns-clause-commits c = commits_are_told
+
+pub returns-clause-places : goal.returns-clause-places
+returns-clause-places c = places_are_told
+
+pub returns-clause-writes : goal.returns-clause-writes
+returns-clause-writes c = writes_are_told

@@ -1,0 +1,60 @@
+-- What the calls of a crew do to the words, and to what a session knows of its transactions.
+use Rattle.std.specs.Prelude.{◌≡◌, ◌≢◌, ℕ, ◌+◌, ◌*◌, ◌<◌, Bool, true, false, eqb}
+use Rattle.lst_layout.specs.declared.limits.Limits.{Limits}
+use Rattle.lst_layout.specs.Functions.{put, put_in}
+use Rattle.lst_model.specs.declared.acts.Act.{Act}
+use Rattle.lst_core_state.specs.declared.known.Known.{Known}
+use Rattle.lst_core_state.specs.Cells.{range_of}
+use Rattle.lst_core_state.specs.State.{Words, writer_at, record_in, act_in, name_of}
+
+-- the session's transactions are the same
+pub record SameTransactions (u k : Known) : Type 0 where
+  pub number : k.number ≡ u.number
+  pub begin : k.begin ≡ u.begin
+  pub read_only : k.read_only ≡ u.read_only
+  pub is_open : k.is_open ≡ u.is_open
+
+-- those of every session below n but s, where there is one
+abbrev pub SameBut : ℕ → ℕ → (ℕ → Known) → (ℕ → Known) → Type 0
+SameBut n s u k = (t : ℕ) → t < n → t ≢ s → SameTransactions (u t) (k t)
+
+-- the session has begun its next transaction
+pub record HasBegun (u k : Known) (begin : ℕ) (read_only : Bool) : Type 0 where
+  pub number : k.number ≡ u.number + 1
+  pub begin_is : k.begin ≡ begin
+  pub kind : k.read_only ≡ read_only
+  pub is_open : k.is_open ≡ true
+
+-- the session's transaction is over
+pub record HasEnded (u k : Known) : Type 0 where
+  pub number : k.number ≡ u.number
+  pub is_open : k.is_open ≡ false
+
+-- the words once the transaction n of the session s has begun, with the begin b
+abbrev pub begun_words : Words → ℕ → ℕ → ℕ → Words
+begun_words w s n b = record w { begins = put_in w.begins s n (b + 1) }
+
+-- once it is closed
+abbrev pub closed_words : Words → ℕ → ℕ → Words
+closed_words w s n = record w { states = put_in w.states s n 1 }
+
+-- once it is committed, at the time above the clock
+abbrev pub committed_words : Words → ℕ → ℕ → Words
+committed_words w s n = record w { clock = w.clock + 1; turn = 0; log = put w.log (w.clock + 1) (name_of s n); states = put_in w.states s n (w.clock + 2) }
+
+-- once the next record is drawn for the key, and stands at the position q of the index
+abbrev pub placed_words : Words → ℕ → ℕ → Words
+placed_words w key q = record w { counter = w.counter + 1; keys = put w.keys w.counter key; index = put w.index q (w.counter + 1) }
+
+-- an act by the transaction x on the record, in the tail with the number n in the record's range, is on the record's chain; of the other tails
+-- stamps alone differ
+pub record IsWritten (l : Limits) (a b : Words) (rec n x : ℕ) (act : Act) : Type 0 where
+  pub rest : b ≡ record a { counts = put a.counts (range_of rec) n; heads = put a.heads rec (2 * n); cells = b.cells }
+  pub next : n ≡ a.counts (range_of rec) + 1
+  pub others : (t p : ℕ) → t ≢ range_of rec * l.tails + n → 0 < p → b.cells t p ≡ a.cells t p
+  pub stored : (t : ℕ) → t ≢ range_of rec * l.tails + n → eqb (b.cells t 0) 0 ≡ eqb (a.cells t 0) 0
+  pub writers : (t : ℕ) → t ≢ range_of rec * l.tails + n → writer_at b t ≡ writer_at a t
+  pub here : 0 < b.cells (range_of rec * l.tails + n) 0
+  pub by : writer_at b (range_of rec * l.tails + n) ≡ x
+  pub on : record_in l b.cells (range_of rec * l.tails + n) ≡ rec
+  pub made : act_in l b.cells (range_of rec * l.tails + n) ≡ act

@@ -1,0 +1,102 @@
+-- What the machine of one thread says of the state that a crew's store tells: its answers are those of the chains, and each call of the crew
+-- moves it to its next state.
+use Rattle.std.specs.Prelude.{◌≡◌, ◌≢◌, ℕ, ◌+◌, ◌-◌, ◌/◌, ◌%◌, ◌<◌, ◌≤◌, List, [], ◌∷◌, ◌++◌, Bool, true, false, Option, Some, None, length}
+use Rattle.lst_layout.specs.declared.limits.Limits.{Limits}
+use Rattle.lst_layout.specs.Limits.{IsValid}
+use Rattle.lst_layout.specs.Words as layout
+use Rattle.lst_model.specs.declared.acts.Act.{Act}
+use Rattle.lst_model.specs.declared.replies.Cause.{Cause}
+use Rattle.lst_model.specs.declared.replies.Cause.TheVariants.{Newer, Unfinished}
+use Rattle.lst_model.specs.Tables.{row_of}
+use Rattle.lst_model.specs.Histories.{row_from}
+use Rattle.lst_versions.specs.Lists.{Has}
+use Rattle.lst_machine.specs.State.{Store, opening_store}
+use Rattle.lst_machine.specs.Writes.{place_of, range_of, own_writes, sight_of, conflict_of}
+use Rattle.lst_machine.specs.Calls.{with_opened, with_closed, with_commit, with_placed, with_accepted}
+use Rattle.lst_core_state.specs.declared.known.Known.{Known}
+use Rattle.lst_core_state.specs.Cells.{record_count}
+use Rattle.lst_core_state.specs.Index.{size, is_placed}
+use Rattle.lst_core_state.specs.State.{Words, Core, newcomer, writer_at, state_at, name_of, line, sight}
+use Rattle.lst_sights.specs.Watching.{IsStamped}
+use Rattle.lst_crew_state.specs.Crews.{IsCrew}
+use Rattle.lst_crew_state.specs.Telling.{told_store, told}
+use Rattle.lst_crew_state.specs.Effects.{SameTransactions, SameBut, HasBegun, HasEnded, begun_words, closed_words, committed_words, placed_words, IsWritten}
+
+-- ---- what the state says
+
+-- the clock is the number of commits, the record counter that of the placed keys, and each tail counter that of its range's accepted writes
+pub record CountsOf (c : Core) : Type 0 where
+  pub clock : length (told c).history ≡ c.words.clock
+  pub records : length (told c).placed ≡ c.words.counter
+  pub tails : (range : ℕ) → length ((told c).accepted range) ≡ c.words.counts range
+
+abbrev pub CountsAreTold : Type 0
+CountsAreTold = (c : Core) → IsCrew c → CountsOf c
+
+-- a key has its record's place, and a key of no record in the index has none
+abbrev pub KeysArePlaced : Type 0
+KeysArePlaced = (c : Core) → IsCrew c → (r : ℕ) → r < record_count c.limits → is_placed c.limits c.words.index r ≡ true → place_of (told c).placed (c.words.keys r) ≡ Some r
+
+abbrev pub OthersAreUnplaced : Type 0
+OthersAreUnplaced = (c : Core) → IsCrew c → (key : ℕ) → ((r : ℕ) → r < record_count c.limits → is_placed c.limits c.words.index r ≡ true → c.words.keys r ≢ key) → place_of (told c).placed key ≡ None
+
+-- the open transaction's own writes, and what it sees
+abbrev pub OwnWritesAreTold : Type 0
+OwnWritesAreTold = (c : Core) → IsCrew c → (s : ℕ) → s < c.limits.sessions → (c.known s).is_open ≡ true → own_writes c.limits (told c) s ≡ (c.known s).own
+
+abbrev pub SightsAreTold : Type 0
+SightsAreTold = (c : Core) → IsCrew c → (s key : ℕ) → s < c.limits.sessions → (c.known s).is_open ≡ true → row_of (sight_of c.limits (told c) s (c.known s).begin) key ≡ row_from None (sight (c.known s) key)
+
+-- what stands in the way of a write of the session s on the record, whose chain is `passed`, all closed, and then `rest`
+abbrev pub AllClosed : Words → List ℕ → Type 0
+AllClosed w ts = (t : ℕ) → Has t ts → state_at w t ≡ 1
+
+pub record Conflicts (c : Core) (s r : ℕ) (passed rest : List ℕ) (answer : Option Cause) : Type 0 where
+  -- nothing, where the chain ends
+  pub none : rest ≡ [] → answer ≡ None
+  -- nor where the newest version that isn't closed is its own, or was committed by its begin
+  pub own : (t : ℕ) (older : List ℕ) → rest ≡ t ∷ older → writer_at c.words t ≡ name_of s (c.known s).number → answer ≡ None
+  pub seen : (t time : ℕ) (older : List ℕ) → rest ≡ t ∷ older → 0 < time → state_at c.words t ≡ time + 1 → time ≤ (c.known s).begin → answer ≡ None
+  -- else its commit time, or its transaction
+  pub newer : (t time : ℕ) (older : List ℕ) → rest ≡ t ∷ older → state_at c.words t ≡ time + 1 → (c.known s).begin < time → answer ≡ Some (Newer time)
+  pub unfinished : (t : ℕ) (older : List ℕ) → rest ≡ t ∷ older → state_at c.words t ≡ 0 → writer_at c.words t % 16 ≢ s → answer ≡ Some (Unfinished (writer_at c.words t % 16) (writer_at c.words t / 16))
+
+abbrev pub ConflictsAreTold : Type 0
+ConflictsAreTold = (c : Core) → IsCrew c → (s r : ℕ) (passed rest : List ℕ) → s < c.limits.sessions → (c.known s).is_open ≡ true → r < record_count c.limits → is_placed c.limits c.words.index r ≡ true
+    → line c.limits c.words r ≡ passed ++ rest → AllClosed c.words passed → Conflicts c s r passed rest (conflict_of (told c) s (c.known s).begin (c.words.keys r))
+
+-- ---- how it changes
+
+-- at the opening there is nothing
+abbrev pub OpeningIsTold : Type 0
+OpeningIsTold = (l : Limits) → IsValid l → told_store l (layout.opening l) (λ s. newcomer l) ≡ opening_store
+
+-- stamps change nothing, nor does what sessions know of anything but their transactions
+abbrev pub StampsTellNothing : Type 0
+StampsTellNothing = (l : Limits) (a b : Words) (known : ℕ → Known) → IsStamped a b → told_store l b known ≡ told_store l a known
+
+abbrev pub TransactionsAreTold : Type 0
+TransactionsAreTold = (l : Limits) (w : Words) (u k : ℕ → Known) → ((s : ℕ) → s < l.sessions → SameTransactions (u s) (k s)) → told_store l w k ≡ told_store l w u
+
+-- a transaction begins, is closed, is committed
+abbrev pub BeginsAreTold : Type 0
+BeginsAreTold = (c : Core) → IsCrew c → (s begin : ℕ) (read_only : Bool) (k : ℕ → Known) → s < c.limits.sessions → (c.known s).is_open ≡ false → SameBut c.limits.sessions s c.known k → HasBegun (c.known s) (k s) begin read_only
+    → told_store c.limits (begun_words c.words s ((c.known s).number + 1) begin) k ≡ with_opened (told c) s begin read_only
+
+abbrev pub ClosesAreTold : Type 0
+ClosesAreTold = (c : Core) → IsCrew c → (s : ℕ) (k : ℕ → Known) → s < c.limits.sessions → (c.known s).is_open ≡ true → SameBut c.limits.sessions s c.known k → HasEnded (c.known s) (k s)
+    → told_store c.limits (closed_words c.words s (c.known s).number) k ≡ with_closed (told c) s
+
+abbrev pub CommitsAreTold : Type 0
+CommitsAreTold = (c : Core) → IsCrew c → (s : ℕ) (k : ℕ → Known) → s < c.limits.sessions → (c.known s).is_open ≡ true → 0 < length (c.known s).own → SameBut c.limits.sessions s c.known k → HasEnded (c.known s) (k s)
+    → told_store c.limits (committed_words c.words s (c.known s).number) k ≡ with_commit (told c) s record { begin = (c.known s).begin; read_only = (c.known s).read_only } (c.known s).own
+
+-- a key without a record gets one, at a position of the index that was empty
+abbrev pub PlacesAreTold : Type 0
+PlacesAreTold = (c : Core) → IsCrew c → (key q : ℕ) → c.words.counter < record_count c.limits → q < size c.limits → c.words.index q ≡ 0 → place_of (told c).placed key ≡ None
+    → told_store c.limits (placed_words c.words key q) c.known ≡ with_placed (told c) key
+
+-- a write is accepted
+abbrev pub WritesAreTold : Type 0
+WritesAreTold = (c : Core) → IsCrew c → (s rec n : ℕ) (act : Act) (b : Words) → s < c.limits.sessions → (c.known s).is_open ≡ true → rec < record_count c.limits → is_placed c.limits c.words.index rec ≡ true → n ≤ c.limits.tails
+    → IsWritten c.limits c.words b rec n (name_of s (c.known s).number) act → told_store c.limits b c.known ≡ with_accepted (told c) s (c.words.keys rec) act

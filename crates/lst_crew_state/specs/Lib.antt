@@ -1,0 +1,4 @@
+pub mod Crews
+pub mod Telling
+pub mod Effects
+pub mod Laws
