@@ -1,0 +1,217 @@
+-- What a session's calls answer, and what they leave of what the session knows.
+use Rattle.std.specs.Prelude.{◌≡◌, ◌≢◌, ◌⊎◌, ℕ, ◌+◌, ◌<◌, ◌≤◌, List, [], ◌∷◌, ◌++◌, Bool, true, false, length, Option}
+use Rattle.lst_layout.specs.declared.limits.Limits.{Limits}
+use Rattle.lst_model.specs.declared.acts.Act.{Act}
+use Rattle.lst_model.specs.declared.commits.Commit.{Commit}
+use Rattle.lst_model.specs.Cells.{Cell}
+use Rattle.lst_model.specs.Tables.{row_of}
+use Rattle.lst_model.specs.Histories.{Extends, snapshot, joined}
+use Rattle.lst_model.specs.Soundness.{Fits}
+use Rattle.lst_versions.specs.Writes.{write, commit}
+use Rattle.lst_core_state.specs.declared.known.Known.{Known}
+use Rattle.lst_core_state.specs.declared.facts.Find.{Find}
+use Rattle.lst_core_state.specs.declared.facts.Find.TheVariants.{FreshClock, HeldTurn, LatchedRecord, UnfinishedVersion, FullTails}
+use Rattle.lst_core_state.specs.Cells.{range_of}
+use Rattle.lst_core_state.specs.State.{mine, name_of}
+use Rattle.lst_rule.specs.declared.view.View.{View}
+use Rattle.lst_rule.specs.Rule.{knows}
+use Rattle.lst_rule.specs.Learned.{Learns}
+use Rattle.lst_sights.specs.Copies.{Version, Includes}
+use Rattle.lst_sights.specs.Seen.{HasKey}
+use Rattle.lst_sights.specs.Judging.{WroteAt}
+use Rattle.lst_index.specs.Searches.{Ended, Works}
+use Rattle.lst_index.specs.Placings.{Drew, DrawsAfterLook, FoundFull}
+use Rattle.lst_write.specs.Standings.{FoundSince}
+use Rattle.lst_write.specs.Judgements.{HasJudged, Stops, FoundNewer}
+use Rattle.lst_crew_state.specs.Effects.{SameTransactions, HasBegun, HasEnded}
+use Rattle.lst_calls.specs.Traces.{is_put, misfit_of, MayWrite}
+use Rattle.lst_calls.specs.declared.kinds.WriteRefusal.{WriteRefusal}
+use Rattle.lst_calls.specs.declared.kinds.WriteRefusal.TheVariants.{Idle, ReadOnly, Missing, Exists, TableFull, Latched, Newer, Unfinished, TailFull}
+
+-- ---- every call
+
+-- of the sessions and the merger only s learnt something. What it has seen, its facts and what it has found only grow
+pub record Called (v w : View) (s : ℕ) : Type 0 where
+  pub learns : Learns v w s (knows w s)
+  pub seen : Extends (knows w s).seen (knows v s).seen
+  pub facts : Includes (knows w s).facts (knows v s).facts
+  pub finds : (more : List Find) × ((knows w s).finds ≡ (knows v s).finds ++ more)
+
+-- the transaction, its own writes and the session's commits stay
+pub record SameWork (s : ℕ) (u k : Known) : Type 0 where
+  pub transaction : SameTransactions u k
+  pub own : k.own ≡ u.own
+  pub mine : mine s k ≡ mine s u
+
+-- and so do the lists of what the session ever drew, latched and wrote
+pub record SameLists (u k : Known) : Type 0 where
+  pub drawn : k.placing.drawn ≡ u.placing.drawn
+  pub latched : k.latched ≡ u.latched
+  pub done : k.done ≡ u.done
+
+-- what the open transaction sees of a key: the row in the snapshot at its begin, of what the session has seen, with its own writes on it
+abbrev pub row_seen : Known → ℕ → Option (List Cell)
+row_seen k key = row_of (snapshot k.seen k.begin k.own) key
+
+-- ---- begins
+
+-- the next transaction is open, with this begin and of this kind, without own writes. The clock was loaded in the call, and found at least
+-- what the session had seen, which it has seen then
+pub record Begins (v w : View) (s clock begin : ℕ) (read_only : Bool) : Type 0 where
+  pub called : Called v w s
+  pub lists : SameLists (knows v s) (knows w s)
+  pub begun : HasBegun (knows v s) (knows w s) begin read_only
+  pub own : (knows w s).own ≡ []
+  pub mine : mine s (knows w s) ≡ mine s (knows v s)
+  pub fresh : FoundSince v w s (FreshClock clock)
+  pub least : length (knows v s).seen ≤ clock
+  pub seen : length (knows w s).seen ≡ clock
+  pub early : begin ≤ clock
+
+-- the clock was loaded in the call, and found below the time
+pub record IsAhead (v w : View) (s clock time : ℕ) : Type 0 where
+  pub called : Called v w s
+  pub same : SameWork s (knows v s) (knows w s)
+  pub lists : SameLists (knows v s) (knows w s)
+  pub fresh : FoundSince v w s (FreshClock clock)
+  pub least : length (knows v s).seen ≤ clock
+  pub seen : length (knows w s).seen ≡ clock
+  pub below : clock < time
+
+-- ---- reads
+
+pub record Gets (v w : View) (s key : ℕ) (row : Option (List Cell)) : Type 0 where
+  pub called : Called v w s
+  pub same : SameWork s (knows v s) (knows w s)
+  pub lists : SameLists (knows v s) (knows w s)
+  pub is : row ≡ row_seen (knows w s) key
+
+-- ---- writes
+
+-- the transaction is open and may write; the act on the key is one more of its own writes, and fits what it saw. At most so many records
+-- were drawn, and only where the key was found without one before
+pub record Accepts (v w : View) (s key most : ℕ) (act : Act) : Type 0 where
+  pub may : MayWrite v s
+  pub called : Called v w s
+  pub transaction : SameTransactions (knows v s) (knows w s)
+  pub fits : Fits (row_seen (knows v s) key) act
+  pub own : (knows w s).own ≡ joined (knows v s).own (write key act)
+  pub mine : mine s (knows w s) ≡ mine s (knows v s)
+  pub drew : Drew (knows v s).placing (knows w s).placing most
+  pub after_look : DrawsAfterLook v w s key
+  pub rec : ℕ
+  pub tail : ℕ
+  pub placed : HasKey (knows w s).facts rec key
+  pub latched : (knows w s).latched ≡ (knows v s).latched ++ rec ∷ []
+  pub done : (knows w s).done ≡ (knows v s).done ++ record { number = (knows v s).number; rec = rec; tail = tail } ∷ []
+
+-- nothing was written. At most so many records were drawn, and only where the key was found without one before
+pub record Refuses (v w : View) (s key most : ℕ) : Type 0 where
+  pub called : Called v w s
+  pub same : SameWork s (knows v s) (knows w s)
+  pub done : (knows w s).done ≡ (knows v s).done
+  pub drew : Drew (knows v s).placing (knows w s).placing most
+  pub after_look : DrawsAfterLook v w s key
+
+-- the key's record was latched
+pub record HasLatched (v w : View) (s key : ℕ) : Type 0 where
+  pub rec : ℕ
+  pub placed : HasKey (knows w s).facts rec key
+  pub latched : (knows w s).latched ≡ (knows v s).latched ++ rec ∷ []
+
+-- no record was
+abbrev pub HasNotLatched : View → View → ℕ → Type 0
+HasNotLatched v w s = (knows w s).latched ≡ (knows v s).latched
+
+-- by that the session found that the key had no record: its run ended without it
+pub record HasNoRecord (v w : View) (s key : ℕ) : Type 0 where
+  pub works : Works v w s []
+  pub ended : Ended w s key
+
+-- the key's record was found latched
+pub record FindsLatch (v w : View) (s key : ℕ) : Type 0 where
+  pub rec : ℕ
+  pub placed : HasKey (knows w s).facts rec key
+  pub found : FoundSince v w s (LatchedRecord rec)
+
+-- the chain of the key's record was judged: its newest version that isn't closed is one that the open transaction of s sees. The facts
+-- that say so stay, whatever comes after
+pub record WasJudged (l : Limits) (k : Known) (s key : ℕ) : Type 0 where
+  pub rec : ℕ
+  pub head : ℕ
+  pub placed : HasKey k.facts rec key
+  pub judged : HasJudged l k s rec head
+
+-- the newest version of the key's record that isn't closed was found committed at the time, which is above the begin
+pub record FindsNewer (l : Limits) (k : Known) (key time : ℕ) : Type 0 where
+  pub rec : ℕ
+  pub head : ℕ
+  pub placed : HasKey k.facts rec key
+  pub newer : FoundNewer l k rec head time
+
+-- the newest version of the key's record that isn't closed was found unfinished, by the transaction n of another session j
+pub record FindsUnfinished (v w : View) (s key j n : ℕ) : Type 0 where
+  pub other : j ≢ s
+  pub rec : ℕ
+  pub head : ℕ
+  pub placed : HasKey (knows w s).facts rec key
+  pub passed : List Version
+  pub version : Version
+  pub older : List Version
+  pub stops : Stops w.limits (knows w s) rec head passed version older
+  pub writer : version.writer ≡ name_of j n
+  pub found : FoundSince v w s (UnfinishedVersion (rec + 1) version.tail j n ((knows v s).begin + 1))
+
+-- every tail of the range of the key's record was found drawn
+pub record FindsTails (v w : View) (s key : ℕ) : Type 0 where
+  pub rec : ℕ
+  pub placed : HasKey (knows w s).facts rec key
+  pub found : FoundSince v w s (FullTails (range_of rec))
+
+-- the act doesn't fit what the transaction sees
+abbrev pub IsMisfit : View → ℕ → ℕ → Act → WriteRefusal → Type 0
+IsMisfit v s key act refusal = ¬ Fits (row_seen (knows v s) key) act × (refusal ≡ misfit_of act)
+
+-- why a write is refused: where no transaction is open, or the open one is read-only, nothing was done at all; any other refusal is of one
+-- that is open and may write. Whether the act fits, and whether a tail is left, is asked only where the chain was judged
+abbrev pub Cause : View → View → ℕ → ℕ → Act → WriteRefusal → Type 0
+Cause v w s key act Idle = (w ≡ v) × ((knows v s).is_open ≡ false)
+Cause v w s key act ReadOnly = (w ≡ v) × ((knows v s).is_open ≡ true) × ((knows v s).read_only ≡ true)
+Cause v w s key act Missing = MayWrite v s × IsMisfit v s key act Missing × ((HasNotLatched v w s × HasNoRecord v w s key) ⊎ (HasLatched v w s key × WasJudged w.limits (knows w s) s key))
+Cause v w s key act Exists = MayWrite v s × IsMisfit v s key act Exists × HasLatched v w s key × WasJudged w.limits (knows w s) s key
+Cause v w s key act TableFull = MayWrite v s × (is_put act ≡ true) × FoundFull v w s key × HasNotLatched v w s × ((knows w s).placing.drawn ≡ (knows v s).placing.drawn)
+Cause v w s key act Latched = MayWrite v s × FindsLatch v w s key × HasNotLatched v w s
+Cause v w s key act (Newer time) = MayWrite v s × ((knows v s).begin < time) × ((name : ℕ) × WroteAt (knows w s).seen time name key) × HasLatched v w s key × FindsNewer w.limits (knows w s) key time
+Cause v w s key act (Unfinished j n) = MayWrite v s × FindsUnfinished v w s key j n × HasLatched v w s key
+Cause v w s key act TailFull = MayWrite v s × Fits (row_seen (knows v s) key) act × FindsTails v w s key × HasLatched v w s key × WasJudged w.limits (knows w s) s key
+
+-- ---- ends
+
+-- the transaction is the commit at the time, above all that the session had seen
+pub record Commits (v w : View) (s time : ℕ) : Type 0 where
+  pub called : Called v w s
+  pub lists : SameLists (knows v s) (knows w s)
+  pub ended : HasEnded (knows v s) (knows w s)
+  pub wrote : 0 < length (knows v s).own
+  pub own : (knows w s).own ≡ []
+  pub above : length (knows v s).seen < time
+  pub before : List Commit
+  pub place : length before + 1 ≡ time
+  pub seen : let k = knows v s in (knows w s).seen ≡ before ++ commit s k.number k.begin k.own ∷ []
+  pub mine : let k = knows v s in mine s (knows w s) ≡ mine s k ++ commit s k.number k.begin k.own ∷ []
+
+-- the transaction is over, without a commit
+pub record Ends (v w : View) (s : ℕ) : Type 0 where
+  pub called : Called v w s
+  pub lists : SameLists (knows v s) (knows w s)
+  pub ended : HasEnded (knows v s) (knows w s)
+  pub own : (knows w s).own ≡ []
+  pub mine : mine s (knows w s) ≡ mine s (knows v s)
+
+-- the commit word was found held
+pub record FindsHeld (v w : View) (s : ℕ) : Type 0 where
+  pub called : Called v w s
+  pub same : SameWork s (knows v s) (knows w s)
+  pub lists : SameLists (knows v s) (knows w s)
+  pub wrote : 0 < length (knows v s).own
+  pub found : FoundSince v w s HeldTurn

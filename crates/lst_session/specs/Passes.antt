@@ -1,0 +1,14 @@
+-- A session's pass: when its calls may be made, and what each answers.
+use Rattle.std.specs.Prelude.{◌≡◌, ◌<◌, true}
+use Rattle.lst_rule.specs.Rule.{knows, hosts}
+use Rattle.lst_seat.specs.declared.store.Store.{Store}
+use Rattle.lst_seat.specs.Stores.{IsSeatOf}
+use Rattle.lst_crew_state.specs.Crews.{IsIdle}
+use Rattle.lst_session.specs.declared.session.Session.{Session}
+
+-- the session's seat is one of the store and hosts it, and it has nothing in hand
+pub record IsReady (store : Store) (session : Session) : Type 0 where
+  pub seat_of : IsSeatOf store session.seat
+  pub host : hosts session.seat.view session.number ≡ true
+  pub own : session.number < session.seat.view.limits.sessions
+  pub idle : IsIdle (knows session.seat.view session.number)
