@@ -1,0 +1,62 @@
+-- The commits with the writes of the first tails, and which commit the write of a tail is of.
+use Rattle.std.specs.Prelude.{◌≡◌, ℕ, zero, suc, ◌<◌, ◌≤◌, List, [], ◌∷◌, false, eqb}
+use Rattle.lst_layout.specs.declared.limits.Limits.{Limits}
+use Rattle.lst_model.specs.declared.acts.Act.{Act}
+use Rattle.lst_model.specs.declared.acts.Act.TheVariants.{Put, Set, Del}
+use Rattle.lst_model.specs.declared.acts.Write.{Write}
+use Rattle.lst_model.specs.declared.commits.Commit.{Commit}
+use Rattle.lst_model.specs.Histories.{joined}
+use Rattle.lst_versions.specs.Writes.{write, writes_by}
+use Rattle.lst_bits.specs.declared.encodings.Kind.{Kind}
+use Rattle.lst_bits.specs.declared.encodings.Kind.TheVariants as kinds
+use Rattle.lst_core_state.specs.Cells.{patched}
+use Rattle.lst_core_state.specs.State.{Words, history, is_by, record_in, act_in}
+
+-- the writes of the transaction x in the first n tails
+abbrev pub writes_until : Limits → Words → ℕ → ℕ → List Write
+writes_until l w n x = writes_by (is_by w.log w.cells x) (λ t. w.keys (record_in l w.cells t)) (act_in l w.cells) n
+
+-- the commits, with the writes of the first n tails
+abbrev pub history_until : Limits → Words → ℕ → List Commit
+history_until l w n = history w.clock w.log w.begins (writes_until l w n)
+
+-- the write of a tail
+abbrev pub write_at : Limits → Words → ℕ → Write
+write_at l w t = write (w.keys (record_in l w.cells t)) (act_in l w.cells t)
+
+-- the transaction x is the commit at this time, and at no other
+pub record IsCommit (clock : ℕ) (log : ℕ → ℕ) (x time : ℕ) : Type 0 where
+  pub some : 0 < time
+  pub past : time ≤ clock
+  pub is : (u : ℕ) → 0 < u → u ≤ clock → eqb x (log u) ≡ eqb u time
+
+-- it is no commit
+abbrev pub IsNoCommit : ℕ → (ℕ → ℕ) → ℕ → Type 0
+IsNoCommit clock log x = (u : ℕ) → 0 < u → u ≤ clock → eqb x (log u) ≡ false
+
+-- the tail t has a write of the commit at this time, and of no other
+pub record IsOfCommit (w : Words) (t time : ℕ) : Type 0 where
+  pub stored : 0 < w.cells t 0
+  pub some : 0 < time
+  pub past : time ≤ w.clock
+  pub is : (u : ℕ) → 0 < u → u ≤ w.clock → is_by w.log w.cells (w.log u) t ≡ eqb u time
+
+-- it has a write of no commit
+abbrev pub IsOfNone : Words → ℕ → Type 0
+IsOfNone w t = (u : ℕ) → 0 < u → u ≤ w.clock → is_by w.log w.cells (w.log u) t ≡ false
+
+-- a write joins those of a commit
+abbrev pub with_write : Commit → Write → Commit
+with_write c x = record c { writes = joined c.writes x }
+
+-- a write joins those of the i-th commit, from 0 on
+abbrev pub entered : List Commit → ℕ → Write → List Commit
+entered [] i x = []
+entered (c ∷ cs) zero x = with_write c x ∷ cs
+entered (c ∷ cs) (suc i) x = c ∷ entered cs i x
+
+-- what a write of the kind and mask does, with these values
+abbrev pub act_for : Kind → ℕ → List ℕ → Act
+act_for kinds.Put mask values = Put values
+act_for kinds.Set mask values = Set (patched mask 0 values)
+act_for kinds.Del mask values = Del

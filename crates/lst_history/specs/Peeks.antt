@@ -1,0 +1,50 @@
+-- What a session knows after it has only looked at words, where it had neither a record nor the turn in hand.
+use Rattle.std.specs.Prelude.{◌≡◌, ℕ, ◌<◌, List, ◌++◌, true}
+use Rattle.lst_layout.specs.Words.{Words, shown}
+use Rattle.lst_model.specs.declared.commits.Commit.{Commit}
+use Rattle.lst_core_state.specs.declared.known.Known.{Known}
+use Rattle.lst_core_state.specs.declared.known.Looks.{Looks}
+use Rattle.lst_core_state.specs.declared.facts.Fact.{Fact}
+use Rattle.lst_core_state.specs.declared.facts.Find.{Find}
+use Rattle.lst_core_state.specs.State.{mine, rank}
+use Rattle.lst_rule.specs.declared.view.View.{View}
+use Rattle.lst_rule.specs.Rule.{knows, hosts}
+use Rattle.lst_rule.specs.Learned.{Learns, Kept}
+use Rattle.lst_seat.specs.declared.store.Store.{Store}
+use Rattle.lst_seat.specs.Seats.{Sitting}
+use Rattle.lst_seat.specs.Stores.{IsSeatOf}
+
+-- v is u with more facts, finds and commits seen, and other words loaded last
+pub record Peeked (u v : Known) : Type 0 where
+  pub facts : List Fact
+  pub finds : List Find
+  pub later : List Commit
+  pub looks : Looks
+  pub is : v ≡ record u { seen = u.seen ++ later; facts = u.facts ++ facts; finds = u.finds ++ finds; looks = looks }
+
+-- of the sessions and the merger only s has looked, and what it has committed stays, as do the words that the view knows
+pub record Peeks (v w : View) (s : ℕ) : Type 0 where
+  pub learns : Learns v w s (knows w s)
+  pub kept : Kept v w
+  pub peeked : Peeked (knows v s) (knows w s)
+  pub own : mine s (knows w s) ≡ mine s (knows v s)
+
+-- the words that a view knows
+abbrev pub words_in : View → Words
+words_in v = shown v.limits v.words
+
+-- the seat is the store's, knows each word, and hosts the session s, which has neither a record nor the turn in hand
+pub record IsReader (store : Store) (seat : Sitting) (s : ℕ) : Type 0 where
+  pub seat_of : IsSeatOf store seat
+  pub host : hosts seat.view s ≡ true
+  pub own : s < seat.view.limits.sessions
+  pub whole : seat.view.whole ≡ true
+  pub hand : (knows seat.view s).placing.hand ≡ 0
+  pub turn : rank (knows seat.view s).turn ≡ 0
+
+-- the session has only looked, and the seat knows the same words
+pub record Reads (store : Store) (a b : Sitting) (s : ℕ) : Type 0 where
+  pub reader : IsReader store b s
+  pub peeks : Peeks a.view b.view s
+  pub limits : b.view.limits ≡ a.view.limits
+  pub words : b.view.words ≡ a.view.words

@@ -1,0 +1,14 @@
+//! The history of a store, read off its words by a seat that knows each of them: the log tells the commits, and the tail records tell
+//! their writes.
+#![tactic(auto)]
+
+mod acts;
+mod commits;
+mod joins;
+mod reading;
+mod tails;
+#[cfg(test)]
+mod tests;
+mod words;
+
+pub use reading::history;

@@ -1,0 +1,74 @@
+//! The history.
+ghost use Rattle.std.specs.Prelude.{◌≡◌, ◌+◌, ◌<◌, true, IfOk, OnOk};
+ghost use Rattle.lst_layout.specs.Words.{shown};
+ghost use Rattle.lst_core_state.specs.Cells.{tail_count};
+ghost use Rattle.lst_core_state.specs.State.{history_of, rank};
+ghost use Rattle.lst_rule.specs.Rule.{knows, hosts};
+ghost use Rattle.lst_seat.specs.Stores.{IsSeatOf};
+ghost use Rattle.lst_history.specs.Peeks.{words_in, IsReader, Peeks, Reads};
+ghost use Rattle.lst_history.specs.Commits.{history_until};
+
+use crate::commits::commits_until;
+use crate::joins::enter;
+use crate::tails::{commit_time, tail_write};
+use crate::words::clock;
+use lst_model::{Commit, History, OutOfMemory};
+use lst_seat::{Seat, Store};
+use std::alloc::Global;
+
+/// The history of the store, as its log and its tail records have it, read by a seat that knows each word: each commit at its time, with its
+/// writes by key. It stores nothing. The session may have neither a record nor the turn in hand. It answers want of memory where the list
+/// finds none.
+pub fn history(
+    alloc: Global,
+    store: &Store,
+    seat: &mut Seat,
+    s: u32,
+) -> Result<History, OutOfMemory>
+    requires seat { IsSeatOf store.now seat.old }
+    requires host { hosts seat.old.view s ≡ true }
+    requires own { s < seat.old.view.limits.sessions }
+    requires whole { seat.old.view.whole ≡ true }
+    requires rec { (knows seat.old.view s).placing.hand ≡ 0 }
+    requires turn { rank (knows seat.old.view s).turn ≡ 0 }
+    ensures seat { IsSeatOf store.now seat.new }
+    ensures ok { IfOk result (λ all. all ≡ history_of seat.old.view.limits (shown seat.old.view.limits seat.old.view.words)) }
+    ensures looks { Peeks seat.old.view seat.new.view s }
+{
+    seat.consider();
+    let clock = clock(store, seat, s);
+    let tails = seat.limits().tail_count();
+    let mut commits = commits_until(alloc, store, seat, s, clock)?;
+    for done in 0..tails {
+        enter_tail(alloc, store, seat, s, done as u32, clock, &mut commits)?;
+    }
+    Ok(History::from_items(commits))
+}
+
+/// Puts the write of the next tail record into its commit, where it has one. `done` counts the tail records before it.
+fn enter_tail(
+    alloc: Global,
+    store: &Store,
+    seat: &mut Seat,
+    s: u32,
+    done: u32,
+    clock: u64,
+    commits: &mut Vec<Commit>,
+) -> Result<(), OutOfMemory>
+    requires reader { IsReader store.now seat.old s }
+    requires done { done < tail_count seat.old.view.limits }
+    requires clock { clock ≡ (words_in seat.old.view).clock }
+    requires commits { commits.old.items ≡ history_until seat.old.view.limits (words_in seat.old.view) done }
+    ensures reads { Reads store.now seat.old seat.new s }
+    ensures ok { OnOk result (commits.new.items ≡ history_until seat.old.view.limits (words_in seat.old.view) (done + 1)) }
+{
+    seat.consider();
+    let tail = done + 1;
+    match commit_time(store, seat, s, tail, clock) {
+        Some(time) => {
+            let write = tail_write(store, seat, s, tail);
+            enter(alloc, commits, time, write)
+        }
+        None => Ok(()),
+    }
+}

@@ -1,0 +1,69 @@
+//! Single words of a store, as a seat reads them that knows each.
+ghost use Rattle.std.specs.Prelude.{◌≡◌, ◌<◌, ◌≤◌};
+ghost use Rattle.lst_layout.specs.Addresses as layout;
+ghost use Rattle.lst_layout.specs.declared.place.Place.TheVariants.{BeginWord, StateWord, KeyWord, CellWord};
+ghost use Rattle.lst_history.specs.Peeks.{words_in, IsReader, Reads};
+
+use lst_seat::{Seat, Store, load, load_cell, load_clock, load_key, load_state};
+
+/// The number of commits.
+pub(crate) fn clock(store: &Store, seat: &mut Seat, s: u32) -> u64
+    requires reader { IsReader store.now seat.old s }
+    ensures reads { Reads store.now seat.old seat.new s }
+    ensures word { result ≡ (words_in seat.old.view).clock }
+{
+    load_clock(store, seat, s)
+}
+
+/// The log's word of a time.
+pub(crate) fn log_word(store: &Store, seat: &mut Seat, s: u32, time: u64) -> u64
+    requires reader { IsReader store.now seat.old s }
+    requires time { (0 < time) × (time ≤ (words_in seat.old.view).clock) }
+    ensures reads { Reads store.now seat.old seat.new s }
+    ensures word { result ≡ (words_in seat.old.view).log time }
+{
+    seat.consider();
+    let address = store.layout().log(time);
+    load(store, seat, s, address)
+}
+
+/// The begin word of a transaction.
+pub(crate) fn begin_word(store: &Store, seat: &mut Seat, s: u32, session: u32, number: u32) -> u64
+    requires reader { IsReader store.now seat.old s }
+    requires within { layout.IsWithin seat.old.view.limits (BeginWord session number) }
+    ensures reads { Reads store.now seat.old seat.new s }
+    ensures word { result ≡ (words_in seat.old.view).begins session number }
+{
+    let address = store.layout().transactions(session, number, 0);
+    load(store, seat, s, address)
+}
+
+/// The state word of a transaction.
+pub(crate) fn state_word(store: &Store, seat: &mut Seat, s: u32, session: u32, number: u32) -> u64
+    requires reader { IsReader store.now seat.old s }
+    requires within { layout.IsWithin seat.old.view.limits (StateWord session number) }
+    ensures reads { Reads store.now seat.old seat.new s }
+    ensures word { result ≡ (words_in seat.old.view).states session number }
+{
+    load_state(store, seat, s, session, number)
+}
+
+/// The key of a record.
+pub(crate) fn key_word(store: &Store, seat: &mut Seat, s: u32, rec: u32) -> u64
+    requires reader { IsReader store.now seat.old s }
+    requires within { layout.IsWithin seat.old.view.limits (KeyWord rec) }
+    ensures reads { Reads store.now seat.old seat.new s }
+    ensures word { result ≡ (words_in seat.old.view).keys rec }
+{
+    load_key(store, seat, s, rec)
+}
+
+/// A word of a tail record.
+pub(crate) fn cell_word(store: &Store, seat: &mut Seat, s: u32, tail: u32, place: u32) -> u64
+    requires reader { IsReader store.now seat.old s }
+    requires within { layout.IsWithin seat.old.view.limits (CellWord tail place) }
+    ensures reads { Reads store.now seat.old seat.new s }
+    ensures word { result ≡ (words_in seat.old.view).cells tail place }
+{
+    load_cell(store, seat, s, tail, place)
+}
