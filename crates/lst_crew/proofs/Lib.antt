@@ -1,0 +1,17 @@
+pub mod Crewed
+pub mod Ending
+pub mod Beginning
+pub mod Getting
+pub mod Committing
+pub mod Opening
+pub mod Calling
+pub mod Judging
+pub mod Holding
+pub mod Writing
+pub mod Trying
+pub mod Refusing
+pub mod Accepting
+pub mod Placing
+pub mod Answering
+pub mod Peeking
+pub mod Promising
