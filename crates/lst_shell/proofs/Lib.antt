@@ -2,3 +2,4 @@ mod Running
 mod Matched
 mod LinesFit
 mod Answers
+mod Leaving

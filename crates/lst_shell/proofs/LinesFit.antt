@@ -8,7 +8,7 @@ use Rattle.lst_model.specs.declared.lines.Line.TheVariants as lines
 use Rattle.lst_model.specs.declared.lines.Call.{Call}
 use Rattle.lst_model.specs.declared.lines.Call.TheVariants.{Begin, AsOf, Get, Insert, Update, Delete, Sum, Count, Scan, Find, Commit, Abort}
 use Rattle.lst_model.specs.Lines.{CallFits, LineFits}
-use Rattle.lst_plain.specs.Plains.{IsPlainCall, IsPlainLine}
+use Rattle.lst_crew.specs.Replies.{IsCrewCall}
 use Rattle.lst_script.specs.Table.{Form, phase, merge, sum, count, scan, find_keys, first_forms, session_forms, form_named, name_of}
 use Rattle.lst_script.specs.Grammar.{AreArguments, IsCall, IsLine, form_of_call}
 use Rattle.lst_script.specs.Scripts.{AreScript, IsScript}
@@ -95,25 +95,25 @@ call_fits limits Commit words are = tt
 call_fits limits Abort words are = tt
 
 -- a call that has a name is no scan
-call_is_plain : (call : Call) → Among (form_of_call call) session_forms → IsPlainCall call
-call_is_plain Begin among = tt
-call_is_plain (AsOf time) among = tt
-call_is_plain (Get key) among = tt
-call_is_plain (Insert key row) among = tt
-call_is_plain (Update key patch) among = tt
-call_is_plain (Delete key) among = tt
-call_is_plain (Sum column) among = no_sum among
-call_is_plain Count among = no_count among
-call_is_plain Scan among = no_scan among
-call_is_plain (Find column number) among = no_find_keys among
-call_is_plain Commit among = tt
-call_is_plain Abort among = tt
+call_is_taken : (call : Call) → Among (form_of_call call) session_forms → IsCrewCall call
+call_is_taken Begin among = tt
+call_is_taken (AsOf time) among = tt
+call_is_taken (Get key) among = tt
+call_is_taken (Insert key row) among = tt
+call_is_taken (Update key patch) among = tt
+call_is_taken (Delete key) among = tt
+call_is_taken (Sum column) among = no_sum among
+call_is_taken Count among = no_count among
+call_is_taken Scan among = no_scan among
+call_is_taken (Find column number) among = no_find_keys among
+call_is_taken Commit among = tt
+call_is_taken Abort among = tt
 
 line_taken : (words : List (List ℕ)) (line : Line) → IsLine store_limits words line → IsTaken line
 line_taken words lines.Phase is = (tt, tt)
 line_taken words (lines.Merge range column) is = absurd (no_merge (named is.0 first_forms merge is.4))
 line_taken words (lines.Call session call) is =
-    ((is.4, call_fits store_limits call is.5.arguments is.5.are_arguments), call_is_plain call (named is.5.name session_forms (form_of_call call) is.5.is_named))
+    ((is.4, call_fits store_limits call is.5.arguments is.5.are_arguments), call_is_taken call (named is.5.name session_forms (form_of_call call) is.5.is_named))
 
 all_cons : (line : Line) (script : List Line) → IsTaken line → All IsTaken script → All IsTaken (line ∷ script)
 all_cons line script first rest zero d within = first

@@ -5,38 +5,40 @@ use Rattle.lst_layout.specs.declared.limits.Limits.{Limits}
 use Rattle.lst_model.specs.declared.lines.Line.{Line}
 use Rattle.lst_model.specs.declared.replies.Reply.{Reply}
 use Rattle.lst_machine.specs.State.{State, opening}
-use Rattle.lst_machine.specs.Machine.{reply, next, replies}
+use Rattle.lst_machine.specs.Machine.{reply, next, replies, state_after}
 use Rattle.lst_report.specs.Texts.{line_text, script_text}
-use Rattle.lst_plain.specs.declared.engine.Plain.{Plain}
-use Rattle.lst_plain.specs.Plains.{Tells}
+use Rattle.lst_rule.specs.declared.view.View.{View}
+use Rattle.lst_seat.specs.declared.store.Store.{Store}
+use Rattle.lst_crew.specs.declared.crew.Crew.{Crew}
+use Rattle.lst_crew.specs.Crews.{IsCrewOf, AnswersLine, state_told}
 use Rattle.lst_shell.specs.Answers.{store_limits, run_text}
-use Rattle.lst_shell.specs.Runs.{HasRun}
+use Rattle.lst_shell.specs.Runs.{HasRun, LeftBy}
 
-pub nothing_run : (engine : Plain) (text : List ℕ) (script : List Line) (limits : Limits) → limits ≡ store_limits → Tells engine limits opening → text ≡ []
-    → HasRun engine text script (run_text script)
-nothing_run engine text script limits same tells empty = record {
-  state = opening;
-  tells = subst (λ (l : Limits). Tells engine l opening) same tells;
-  written = ap (λ (t : List ℕ). t ++ run_text script) empty;
+pub nothing_run : (v : View) (text : List ℕ) (script : List Line) → state_told v ≡ opening → text ≡ [] → HasRun v text script (run_text script) (state_after store_limits opening script)
+nothing_run v text script told empty = record {
+  written = ap (λ (t : List ℕ). t ++ script_text script (replies store_limits (state_told v) script)) empty ∙ ap (λ (s : State). script_text script (replies store_limits s script)) told;
+  ends = ap (λ (s : State). state_after store_limits s script) told;
 }
 
-pub one_line_run : (engine after : Plain) (text : List ℕ) (line : Line) (rest : List Line) (whole : List ℕ) (answer : Reply) → HasRun engine text (line ∷ rest) whole
-    → ((limits : Limits) (state : State) → Tells engine limits state → (answer ≡ reply limits state line) × Tells after limits (next limits state line))
-    → HasRun after (text ++ line_text line answer) rest whole
-one_line_run engine after text line rest whole answer so_far answers =
-    let told = answers store_limits so_far.state so_far.tells in
-    record {
-      state = next store_limits so_far.state line;
-      tells = told.1;
-      written = append_assoc text (line_text line answer) (script_text rest (replies store_limits (next store_limits so_far.state line) rest))
-          ∙ ap (λ (r : Reply). text ++ (line_text line r ++ script_text rest (replies store_limits (next store_limits so_far.state line) rest))) told.0
-          ∙ so_far.written;
-    }
+pub one_line_run : (v w : View) (text : List ℕ) (line : Line) (rest : List Line) (whole : List ℕ) (last : State) (answer : Reply) → v.limits ≡ store_limits → HasRun v text (line ∷ rest) whole last → AnswersLine v w line answer
+    → HasRun w (text ++ line_text line answer) rest whole last
+one_line_run v w text line rest whole last answer same so_far answers = record {
+  written = append_assoc text (line_text line answer) (script_text rest (replies store_limits (state_told w) rest))
+      ∙ (ap (λ (r : Reply). text ++ (line_text line r ++ script_text rest (replies store_limits (state_told w) rest))) (answers.is ∙ ap (λ (l : Limits). reply l (state_told v) line) same)
+      ∙ (ap (λ (s : State). text ++ (line_text line (reply store_limits (state_told v) line) ++ script_text rest (replies store_limits s rest))) after ∙ so_far.written));
+  ends = ap (λ (s : State). state_after store_limits s rest) after ∙ so_far.ends;
+}
+  where
+    after : state_told w ≡ next store_limits (state_told v) line
+    after = answers.then ∙ ap (λ (l : Limits). next l (state_told v) line) same
 
 -- the rest of a script begins with the line at hand
 pub drop-line : (script : List Line) (index : ℕ) (line : Line) → index < length script → line ≡ slice_index_or script index line → drop index script ≡ line ∷ drop (index + 1) script
 drop-line script index line within same =
     rw add-one (drop-cons script index line within ∙ ap (λ (first : Line). first ∷ drop (suc index) script) (sym same))
 
-pub all_run : (engine : Plain) (text whole : List ℕ) → HasRun engine text [] whole → text ≡ whole
-all_run engine text whole so_far = sym (append-nil text) ∙ so_far.written
+pub all_run : (v : View) (text whole : List ℕ) (last : State) → HasRun v text [] whole last → text ≡ whole
+all_run v text whole last so_far = sym (append-nil text) ∙ so_far.written
+
+pub all_left : (store : Store) (crew : Crew) (text : List ℕ) (script : List Line) → IsCrewOf store crew.seat → HasRun crew.seat.view text [] (run_text script) (state_after store_limits opening script) → LeftBy script (store, crew)
+all_left store crew text script of so_far = record { crew_of = of; tells = so_far.ends }

@@ -1,20 +1,27 @@
--- A script that is run line by line.
+-- A script that is run line by line, and what it leaves.
 use Rattle.std.specs.Prelude.{◌≡◌, ℕ, List, ◌++◌}
 use Rattle.lst_model.specs.declared.lines.Line.{Line}
 use Rattle.lst_model.specs.Lines.{LineFits}
-use Rattle.lst_machine.specs.State.{State}
-use Rattle.lst_machine.specs.Machine.{replies}
+use Rattle.lst_machine.specs.State.{State, opening}
+use Rattle.lst_machine.specs.Machine.{replies, state_after}
 use Rattle.lst_report.specs.Texts.{script_text}
-use Rattle.lst_plain.specs.declared.engine.Plain.{Plain}
-use Rattle.lst_plain.specs.Plains.{Tells, IsPlainLine}
+use Rattle.lst_rule.specs.declared.view.View.{View}
+use Rattle.lst_seat.specs.declared.store.Store.{Store}
+use Rattle.lst_crew.specs.declared.crew.Crew.{Crew}
+use Rattle.lst_crew.specs.Crews.{IsCrewOf, state_told}
+use Rattle.lst_crew.specs.Replies.{IsCrewLine}
 use Rattle.lst_shell.specs.Answers.{store_limits}
 
 -- a line that the store takes
 abbrev pub IsTaken : Line → Type 0
-IsTaken line = LineFits store_limits.sessions store_limits.ranges store_limits.columns line × IsPlainLine line
+IsTaken line = LineFits store_limits.sessions store_limits.ranges store_limits.columns line × IsCrewLine line
 
--- the engine tells a state from which the answers to the rest make the whole text
-pub record HasRun (engine : Plain) (text : List ℕ) (rest : List Line) (whole : List ℕ) : Type 0 where
-  pub state : State
-  pub tells : Tells engine store_limits state
-  pub written : text ++ script_text rest (replies store_limits state rest) ≡ whole
+-- the view tells a state from which the answers to the rest make the whole text, and in the end this state
+pub record HasRun (v : View) (text : List ℕ) (rest : List Line) (whole : List ℕ) (last : State) : Type 0 where
+  pub written : text ++ script_text rest (replies store_limits (state_told v) rest) ≡ whole
+  pub ends : state_after store_limits (state_told v) rest ≡ last
+
+-- a store and its crew, which tells the machine's state after the last line of the script
+pub record LeftBy (script : List Line) (left : Store × Crew) : Type 0 where
+  pub crew_of : IsCrewOf left.0 left.1.seat
+  pub tells : state_told left.1.seat.view ≡ state_after store_limits opening script

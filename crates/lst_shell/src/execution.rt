@@ -1,37 +1,52 @@
 //! A script run on the store.
 ghost use Rattle.std.specs.Prelude.{◌≡◌, ℕ, List, ◌∷◌, All, IfOk, OnOk};
 ghost use Rattle.lst_model.specs.declared.lines.Line.{Line as ScriptLine};
-ghost use Rattle.lst_plain.specs.Plains.{limits_of};
-ghost use Rattle.lst_shell.specs.Runs.{IsTaken, HasRun};
+ghost use Rattle.lst_machine.specs.State.{State};
+ghost use Rattle.lst_crew.specs.Crews.{IsCrewOf};
+ghost use Rattle.lst_shell.specs.Runs.{IsTaken, HasRun, LeftBy};
 ghost use Rattle.lst_shell.specs.Answers.{run_text, store_limits};
 
+use lst_crew::{Crew, open_crew};
 use lst_layout::{Layout, Limits};
 use lst_model::{Line, OutOfMemory, Text};
-use lst_plain::Plain;
 use lst_report::push_line;
+use lst_seat::Store;
 use std::alloc::Global;
 
-/// The text of what each line of a script is answered, in order.
-pub(crate) fn answers(alloc: Global, script: &[Line]) -> Result<Text, OutOfMemory>
+/// What a run comes to: the text of what each line is answered, and the store with the crew that made the run.
+#[derive(Drop)]
+pub(crate) struct Ran {
+    pub text: Text,
+    pub left: (Store, Crew),
+}
+
+/// Runs the lines of a script in order, on a store that is opened for them.
+pub(crate) fn execute(alloc: Global, script: &[Line]) -> Result<Ran, OutOfMemory>
     requires { All IsTaken script.now }
-    ensures { IfOk result (λ text. text ≡ run_text script.now) }
+    ensures text { IfOk result (λ ran. ran.text ≡ run_text script.now) }
+    ensures left { IfOk result (λ ran. LeftBy script.now ran.left) }
 {
-    let mut plain = Plain::new(alloc, &layout())?;
+    let (store, mut crew) = open_crew(alloc, &layout())?;
     let mut text = Text::new(alloc);
     for line in script {
-        answer(&mut plain, &mut text, line)?;
+        answer(&store, &mut crew, &mut text, line)?;
     }
-    Ok(text)
+    Ok(Ran {
+        text,
+        left: (store, crew),
+    })
 }
 
 /// Runs a line, and adds the text of what it is answered.
-fn answer(plain: &mut Plain, text: &mut Text, line: &Line) -> Result<(), OutOfMemory>
-    requires limits { limits_of plain.old ≡ store_limits }
+fn answer(store: &Store, crew: &mut Crew, text: &mut Text, line: &Line) -> Result<(), OutOfMemory>
+    requires crew { IsCrewOf store.now crew.old.seat }
+    requires limits { crew.old.seat.view.limits ≡ store_limits }
     requires taken { IsTaken line.now }
-    ensures limits { limits_of plain.new ≡ store_limits }
-    ensures run { OnOk result ((rest : List ScriptLine) (whole : List ℕ) → HasRun plain.old text.old (line.now ∷ rest) whole → HasRun plain.new text.new rest whole) }
+    ensures crew { IsCrewOf store.now crew.new.seat }
+    ensures limits { OnOk result (crew.new.seat.view.limits ≡ store_limits) }
+    ensures run { OnOk result ((rest : List ScriptLine) (whole : List ℕ) (last : State) → HasRun crew.old.seat.view text.old (line.now ∷ rest) whole last → HasRun crew.new.seat.view text.new rest whole last) }
 {
-    let reply = plain.line(line)?;
+    let reply = crew.line(store, line)?;
     push_line(text, line, &reply)?;
     Ok(())
 }

@@ -1,6 +1,8 @@
 //! The program `lstore`: it reads a script, runs it on the store, and writes what each line is answered.
 #![tactic(auto)]
 
+#[cfg(test)]
+mod drawn_tests;
 mod execution;
 mod laws;
 mod messages;
@@ -25,6 +27,7 @@ fn main(rt: HostRuntime) -> ExitCode {
     let mut source = StdSource::new(rt.stdin());
     let mut sink = StdSink::new(rt.stdout());
     let mut errors = StdSink::new(rt.stderr());
+    let mut left = None;
     let status = match command_words(&rt) {
         Ok(words) => lstore(
             rt.alloc(),
@@ -32,6 +35,7 @@ fn main(rt: HostRuntime) -> ExitCode {
             &mut source,
             &mut sink,
             &mut errors,
+            &mut left,
         ),
         Err(OutOfMemory) => {
             report(&Status::OutOfMemory, &mut errors);

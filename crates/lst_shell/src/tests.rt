@@ -56,7 +56,15 @@ fn shows(
     let mut source = MemSource::new(text, failing(alloc, fails.read)?, step);
     let mut sink = MemSink::new(alloc, failing(alloc, fails.write)?, 5)?;
     let mut errors = MemSink::new(alloc, failing(alloc, fails.report)?, 5)?;
-    let ended = lstore(alloc, words.as_slice(), &mut source, &mut sink, &mut errors);
+    let mut left = None;
+    let ended = lstore(
+        alloc,
+        words.as_slice(),
+        &mut source,
+        &mut sink,
+        &mut errors,
+        &mut left,
+    );
     assert_eq!(rt; ended, status);
     assert_eq!(rt; sink.taken(), output.as_bytes());
     assert_eq!(rt; errors.taken(), message.as_bytes());

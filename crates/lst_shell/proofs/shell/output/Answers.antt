@@ -5,6 +5,6 @@ use Rattle.lst_shell.specs.Runs.{IsTaken}
 use Rattle.lst_shell.proofs.LinesFit.{script_taken}
 use Rattle.lst_shell.proofs.shell.output.Goals as goal
 
-pub answers-requires : goal.answers-requires
-answers-requires g c = subst (λ (script : List Line). All IsTaken script) (sym c.items.ensures)
+pub execute-requires : goal.execute-requires
+execute-requires g c = subst (λ (script : List Line). All IsTaken script) (sym c.items.ensures)
     (script_taken c.as_bytes.result.now c.in-Ok-parse.script (subst (λ limits. IsScript limits c.as_bytes.result.now c.in-Ok-parse.script) c.default.ensures c.in-Ok-parse.ensures.ok))

@@ -1,0 +1,205 @@
+//! Drawn scripts on the store and on the plain engine: each line is answered alike.
+ghost use Rattle.std.specs.Prelude.{◌≡◌, ◌<◌, IfOk};
+ghost use Rattle.lst_model.specs.Lines.{CallFits};
+ghost use Rattle.lst_plain.specs.Plains.{limits_of, IsPlainCall};
+ghost use Rattle.lst_crew.specs.Crews.{IsCrewOf};
+ghost use Rattle.lst_crew.specs.Replies.{IsCrewCall};
+
+use arrayvec::ArrayVec;
+use lst_crew::{Crew, open_crew};
+use lst_layout::Limits;
+use lst_model::{Call, Line, Patch, Reply, Row};
+use lst_plain::Plain;
+use lst_seat::Store;
+use std::process::Abort;
+use std::test::Fail;
+
+/// Limits that drawn scripts come to: a range of few tails, few transactions.
+const NARROW: Limits = Limits {
+    columns: 2,
+    ranges: 1,
+    tails: 24,
+    sessions: 3,
+    txns: 12,
+    spare: 1,
+    indexed: 0,
+};
+
+/// Limits at which records run out first.
+const WIDE: Limits = Limits {
+    columns: 2,
+    ranges: 1,
+    tails: 600,
+    sessions: 3,
+    txns: 400,
+    spare: 1,
+    indexed: 0,
+};
+
+/// Draws numbers, and calls of two columns, from a seed.
+#[derive(Drop)]
+struct Drawer {
+    seed: u64,
+    keys: u64,
+}
+
+impl Drawer {
+    /// A number below this one, or 0.
+    fn draw(&mut self, below: u64) -> u64 {
+        self.seed = self
+            .seed
+            .wrapping_mul(6364136223846793005)
+            .wrapping_add(1442695040888963407);
+        if below == 0 {
+            0
+        } else {
+            (self.seed >> 33) % below
+        }
+    }
+
+    fn draw_session(&mut self) -> u32
+        ensures { result < 3 }
+    {
+        match self.draw(3) {
+            0 => 0,
+            1 => 1,
+            _ => 2,
+        }
+    }
+
+    fn draw_key(&mut self) -> u64 {
+        let keys = self.keys;
+        self.draw(keys)
+    }
+
+    fn draw_row(&mut self) -> Row
+        ensures { CallFits 2 (Call.Insert 0 result) }
+    {
+        let mut cells = ArrayVec::new();
+        cells.push(self.draw(9));
+        cells.push(self.draw(9));
+        Row::new(cells)
+    }
+
+    fn draw_patch(&mut self) -> Patch
+        ensures { CallFits 2 (Call.Update 0 result) }
+    {
+        let cell = Some(self.draw(9));
+        let mut cells = ArrayVec::new();
+        match self.draw(3) {
+            0 => {
+                cells.push(cell);
+                cells.push(None);
+            }
+            1 => {
+                cells.push(None);
+                cells.push(cell);
+            }
+            _ => {
+                cells.push(cell);
+                cells.push(Some(9));
+            }
+        }
+        Patch::new(cells)
+    }
+
+    fn draw_call(&mut self) -> Call
+        ensures fits { CallFits 2 result }
+        ensures plain { IsPlainCall result }
+        ensures crew { IsCrewCall result }
+    {
+        match self.draw(20) {
+            0 | 1 | 2 => Call::Begin,
+            3 => Call::AsOf {
+                time: self.draw(12),
+            },
+            4 | 5 | 6 => Call::Get {
+                key: self.draw_key(),
+            },
+            7 | 8 | 9 | 10 => Call::Insert {
+                key: self.draw_key(),
+                row: self.draw_row(),
+            },
+            11 | 12 | 13 => Call::Update {
+                key: self.draw_key(),
+                patch: self.draw_patch(),
+            },
+            14 | 15 => Call::Delete {
+                key: self.draw_key(),
+            },
+            16 => Call::Abort,
+            _ => Call::Commit,
+        }
+    }
+}
+
+/// Asks both for the answer to a drawn line.
+fn answers(
+    store: &Store,
+    crew: &mut Crew,
+    plain: &mut Plain,
+    drawer: &mut Drawer,
+) -> Result<(Reply, Reply), Fail>
+    requires crew { IsCrewOf store.now crew.old.seat }
+    requires sessions { (crew.old.seat.view.limits.sessions ≡ 3) × (crew.old.seat.view.limits.columns ≡ 2) }
+    requires plain { ((limits_of plain.old).sessions ≡ 3) × ((limits_of plain.old).columns ≡ 2) }
+    ensures crew { IsCrewOf store.now crew.new.seat }
+    ensures sessions { IfOk result (λ _. (crew.new.seat.view.limits.sessions ≡ 3) × (crew.new.seat.view.limits.columns ≡ 2)) }
+    ensures plain { ((limits_of plain.new).sessions ≡ 3) × ((limits_of plain.new).columns ≡ 2) }
+{
+    let line = Line::Call {
+        session: drawer.draw_session(),
+        call: drawer.draw_call(),
+    };
+    let stored = crew.line(store, &line)?;
+    let wanted = plain.line(&line)?;
+    Ok((stored, wanted))
+}
+
+/// Compares both over a drawn script of this many lines, and answers how many of them were refused.
+fn compare(
+    rt: &(impl Abort + AllocGlobal),
+    limits: &Limits,
+    keys: u64,
+    seed: u64,
+    lines: u32,
+) -> Result<u32, Fail>
+    requires { (limits.now.sessions ≡ 3) × (limits.now.columns ≡ 2) }
+{
+    let Ok(layout) = limits.check() else {
+        return Err(Fail::from("the limits are in range"));
+    };
+    let (store, mut crew) = open_crew(rt.alloc(), &layout)?;
+    let mut plain = Plain::new(rt.alloc(), &layout)?;
+    let mut drawer = Drawer { seed, keys };
+    let mut refused = 0u32;
+    for _ in 0..lines {
+        let (stored, wanted) = answers(&store, &mut crew, &mut plain, &mut drawer)?;
+        assert_eq!(rt; stored, wanted);
+        if let Reply::Refused { .. } = stored {
+            refused = refused.wrapping_add(1);
+        }
+    }
+    Ok(refused)
+}
+
+#[test]
+fn drawn_scripts_are_answered_as_the_plain_engine_answers_them(
+    rt: HostRuntime,
+) -> Result<(), Fail> {
+    let mut refused = 0u32;
+    for seed in 0..300u64 {
+        refused = refused.wrapping_add(compare(&rt, &NARROW, 6, seed, 90)?);
+    }
+    assert!(rt; refused > 3000);
+    Ok(())
+}
+
+#[test]
+fn drawn_scripts_fill_the_table(rt: HostRuntime) -> Result<(), Fail> {
+    for seed in 0..6u64 {
+        let refused = compare(&rt, &WIDE, 400, seed, 2400)?;
+        assert!(rt; refused > 200);
+    }
+    Ok(())
+}
