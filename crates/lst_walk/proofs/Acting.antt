@@ -39,13 +39,13 @@ module _ (d : Version) (e : Encoding) (act : act_by d ≡ act_for e.kind e.mask 
   cell_at : (column : ℕ) → column < length d.values → slice_get (patched e.mask 0 d.values) column ≡ Some (cond (has_bit e.mask column) (Some (slice_index d.values column)) None)
   cell_at column low = patched_at e.mask 0 d.values column low ∙ ap (λ (n : ℕ). Some (cond (has_bit e.mask n) (Some (slice_index d.values column)) None)) (let f : 0 + column ≡ column = omega arith in f)
 
-  pub put_acted : (columns : ℕ) (patch : List (Option ℕ)) (row : List Cell) → e.kind ≡ kinds.Put → row ≡ overlaid d.values patch → Acted d columns patch (Done (Some row))
-  put_acted columns patch row kind is older = ap (λ (r : List Cell). Some r) is ∙ ap (λ (a : Act). row_after (row_after older a) (Set patch)) (sym (kind_act kinds.Put kind))
+  pub put_acted : (columns : ℕ) (patch more : List (Option ℕ)) (row : List Cell) → e.kind ≡ kinds.Put → row ≡ overlaid d.values patch → Acted d columns patch more (Done (Some row))
+  put_acted columns patch more row kind is older = ap (λ (r : List Cell). Some r) is ∙ ap (λ (a : Act). row_after (row_after older a) (Set patch)) (sym (kind_act kinds.Put kind))
 
-  pub del_acted : (columns : ℕ) (patch : List (Option ℕ)) → e.kind ≡ kinds.Del → Acted d columns patch (Done None)
-  del_acted columns patch kind older = ap (λ (a : Act). row_after (row_after older a) (Set patch)) (sym (kind_act kinds.Del kind))
+  pub del_acted : (columns : ℕ) (patch more : List (Option ℕ)) → e.kind ≡ kinds.Del → Acted d columns patch more (Done None)
+  del_acted columns patch more kind older = ap (λ (a : Act). row_after (row_after older a) (Set patch)) (sym (kind_act kinds.Del kind))
 
-  pub set_acted : (columns : ℕ) (patch more : List (Option ℕ)) → e.kind ≡ kinds.Set → length patch ≡ columns → length d.values ≡ columns → more ≡ merged patch (patched e.mask 0 d.values) → Acted d columns patch (Older more)
+  pub set_acted : (columns : ℕ) (patch more : List (Option ℕ)) → e.kind ≡ kinds.Set → length patch ≡ columns → length d.values ≡ columns → more ≡ merged patch (patched e.mask 0 d.values) → Acted d columns patch more Older
   set_acted columns patch more kind wide values is = (
     ap length is ∙ (length-merged patch (patched e.mask 0 d.values) ∙ wide),
     λ older. ap (λ (a : Act). row_after (row_after older a) (Set patch)) (kind_act kinds.Set kind) ∙ (set_twice older patch (patched e.mask 0 d.values) (wide ∙ sym (length-patched e.mask 0 d.values ∙ values)) ∙ ap (λ (q : List (Option ℕ)). row_after older (Set q)) (sym is)),

@@ -61,11 +61,11 @@ range_low l rec range low e = omega arith
 
 -- ---- seen or not
 
-pub seen_visited : (v : Known) (s : ℕ) (c : Version) (columns : ℕ) (patch : List (Option ℕ)) (r : Visit) → sees v s c.writer ≡ true → Acted c columns patch r → Visited v s c columns patch r
-seen_visited v s c columns patch (Done row) seen acted = λ older. acted older ∙ ap (λ (b : Bool). row_after (cond b (row_after older (act_by c)) older) (Set patch)) (sym seen)
-seen_visited v s c columns patch (Older more) seen acted = (acted.0, λ older. ap (λ (b : Bool). row_after (cond b (row_after older (act_by c)) older) (Set patch)) seen ∙ acted.1 older)
+pub seen_visited : (v : Known) (s : ℕ) (c : Version) (columns : ℕ) (patch more : List (Option ℕ)) (r : Visit) → sees v s c.writer ≡ true → Acted c columns patch more r → Visited v s c columns patch more r
+seen_visited v s c columns patch more (Done row) seen acted = λ older. acted older ∙ ap (λ (b : Bool). row_after (cond b (row_after older (act_by c)) older) (Set patch)) (sym seen)
+seen_visited v s c columns patch more Older seen acted = (acted.0, λ older. ap (λ (b : Bool). row_after (cond b (row_after older (act_by c)) older) (Set patch)) seen ∙ acted.1 older)
 
-pub unseen_visited : (v : Known) (s : ℕ) (c : Version) (columns : ℕ) (patch : List (Option ℕ)) → sees v s c.writer ≡ false → length patch ≡ columns → Visited v s c columns patch (Older patch)
+pub unseen_visited : (v : Known) (s : ℕ) (c : Version) (columns : ℕ) (patch : List (Option ℕ)) → sees v s c.writer ≡ false → length patch ≡ columns → Visited v s c columns patch patch Older
 unseen_visited v s c columns patch unseen wide = (wide, λ older. ap (λ (b : Bool). row_after (cond b (row_after older (act_by c)) older) (Set patch)) unseen)
 
 pub seen_tells : (v : Known) (s : ℕ) (c : Version) (columns column : ℕ) (r : Option (Option ℕ)) → sees v s c.writer ≡ true → Told c columns column r → Tells v s c columns column r
@@ -112,7 +112,7 @@ module _ (store : Store) (v : View) (a b d : Sitting) (s rec n range t m : ℕ) 
   seen_same : Possible v → Watched v a.view s → (c : Version) (older : Option (List Cell)) → seen_after (knows a.view s) s c older ≡ seen_after (knows v s) s c older
   seen_same p watched c older = ap (λ (e : Bool). cond e (row_after older (act_by c)) older) (sees_on v a.view s c.writer p host opened watched)
 
-  pub row_next : (patch more : List (Option ℕ)) → RowWalk store v a s rec n patch → Watched a.view b.view s → ((c : Version) → IsAt a.view s t c → Visited (knows a.view s) s c store.layout.limits.columns patch (Older more))
+  pub row_next : (patch more : List (Option ℕ)) → RowWalk store v a s rec n patch → Watched a.view b.view s → ((c : Version) → IsAt a.view s t c → Visited (knows a.view s) s c store.layout.limits.columns patch more Older)
       → IsReader store d s → Watched b.view d.view s → ((c : Version) → IsAt a.view s t c → m ≡ c.back) → RowWalk store v d s rec m more
   row_next patch more walk ab visited reader bd back = let q = at_number store a s rec n walk.reader walk.versions walk.chain some range t range_is tail_is in let ad = watched_on a.view b.view d.view s ab bd in let vis = visited q.0 q.3 in record {
     reader = reader;
@@ -125,8 +125,8 @@ module _ (store : Store) (v : View) (a b d : Sitting) (s rec n range t m : ℕ) 
         ∙ (ap (λ (r : Option (List Cell)). row_after r (Set patch)) (row_step (knows v s) s q.0 q.1 ∙ sym (seen_same walk.possible walk.watched q.0 older)) ∙ vis.1 older));
   }
 
-  pub row_done : (patch : List (Option ℕ)) (row : Option (List Cell)) → RowWalk store v a s rec n patch → ((c : Version) → IsAt a.view s t c → Visited (knows a.view s) s c store.layout.limits.columns patch (Done row)) → IsRowOf v s rec row
-  row_done patch row walk visited key has = let q = at_number store a s rec n walk.reader walk.versions walk.chain some range t range_is tail_is in let older : Option (List Cell) = row_from None (seen_acts (knows v s) s q.1) in
+  pub row_done : (patch more : List (Option ℕ)) (row : Option (List Cell)) → RowWalk store v a s rec n patch → ((c : Version) → IsAt a.view s t c → Visited (knows a.view s) s c store.layout.limits.columns patch more (Done row)) → IsRowOf v s rec row
+  row_done patch more row walk visited key has = let q = at_number store a s rec n walk.reader walk.versions walk.chain some range t range_is tail_is in let older : Option (List Cell) = row_from None (seen_acts (knows v s) s q.1) in
       visited q.0 q.3 older ∙ sym (walk.answers key has ∙ (ap (λ (cs : List Version). row_after (row_from None (seen_acts (knows v s) s cs)) (Set patch)) q.2
       ∙ ap (λ (r : Option (List Cell)). row_after r (Set patch)) (row_step (knows v s) s q.0 q.1 ∙ sym (seen_same walk.possible walk.watched q.0 older))))
 

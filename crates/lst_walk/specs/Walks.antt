@@ -27,15 +27,15 @@ IsRowOf v s rec row = (key : ℕ) → HasKey (knows v s).facts rec key → row �
 abbrev pub IsCellOf : View → ℕ → ℕ → ℕ → Option Cell → Type 0
 IsCellOf v s rec column cell = (key : ℕ) → HasKey (knows v s).facts rec key → cell ≡ cell_in column (row_from None (sight (knows v s) key))
 
--- what a visit of the version c makes of the patch of the newer versions, whatever row the older ones leave
-abbrev pub Visited : Known → ℕ → Version → ℕ → List (Option ℕ) → Visit → Type 0
-Visited v s c columns patch (Done row) = (older : Option (List Cell)) → row ≡ row_after (seen_after v s c older) (Set patch)
-Visited v s c columns patch (Older more) = (length more ≡ columns) × ((older : Option (List Cell)) → row_after (seen_after v s c older) (Set patch) ≡ row_after older (Set more))
+-- what a visit of the version c makes of the patch of the newer versions, whatever row the older ones leave: the row, or more of a patch
+abbrev pub Visited : Known → ℕ → Version → ℕ → List (Option ℕ) → List (Option ℕ) → Visit → Type 0
+Visited v s c columns patch more (Done row) = (older : Option (List Cell)) → row ≡ row_after (seen_after v s c older) (Set patch)
+Visited v s c columns patch more Older = (length more ≡ columns) × ((older : Option (List Cell)) → row_after (seen_after v s c older) (Set patch) ≡ row_after older (Set more))
 
 -- the same where it is seen
-abbrev pub Acted : Version → ℕ → List (Option ℕ) → Visit → Type 0
-Acted c columns patch (Done row) = (older : Option (List Cell)) → row ≡ row_after (row_after older (act_by c)) (Set patch)
-Acted c columns patch (Older more) = (length more ≡ columns) × ((older : Option (List Cell)) → row_after (row_after older (act_by c)) (Set patch) ≡ row_after older (Set more))
+abbrev pub Acted : Version → ℕ → List (Option ℕ) → List (Option ℕ) → Visit → Type 0
+Acted c columns patch more (Done row) = (older : Option (List Cell)) → row ≡ row_after (row_after older (act_by c)) (Set patch)
+Acted c columns patch more Older = (length more ≡ columns) × ((older : Option (List Cell)) → row_after (row_after older (act_by c)) (Set patch) ≡ row_after older (Set more))
 
 -- what the version c tells of a column: its cell, or nothing
 abbrev pub Tells : Known → ℕ → Version → ℕ → ℕ → Option (Option ℕ) → Type 0

@@ -21,8 +21,8 @@ use lst_seat::{RecordId, Seat, Store};
 pub(crate) enum Visit {
     /// The row, or that there is none.
     Done(Option<Row>),
-    /// The cells that this version and the newer ones set, on the row of the older ones.
-    Older(Patch),
+    /// The patch has the cells that this version and the newer ones set, for the row of the older ones.
+    Older,
 }
 
 /// The row of a record that the open transaction sees: that of the snapshot at its begin, with its own writes on it. None comes exactly where
@@ -43,9 +43,9 @@ pub fn row(store: &Store, seat: &mut Seat, s: u32, rec: RecordId) -> Option<Row>
     let mut patch = unset(store.layout().limits.columns);
     let mut number = head(store, seat, s, rec);
     while number > 0 {
-        match look(store, seat, s, range, number, patch) {
+        match look(store, seat, s, range, number, &mut patch) {
             Visit::Done(row) => return row,
-            Visit::Older(more) => patch = more,
+            Visit::Older => {}
         }
         number = back(store, seat, s, tail_of(store, range, number));
     }
@@ -66,36 +66,46 @@ fn unset(columns: u32) -> Patch
 }
 
 /// Looks at a version of a range, by the number of its tail record, under a patch of newer versions.
-fn look(store: &Store, seat: &mut Seat, s: u32, range: u32, number: u32, patch: Patch) -> Visit
+fn look(
+    store: &Store,
+    seat: &mut Seat,
+    s: u32,
+    range: u32,
+    number: u32,
+    patch: &mut Patch,
+) -> Visit
     requires reader { IsReader store.now seat.old s }
     requires range { range < store.now.layout.limits.ranges }
     requires number { (0 < number) × (number ≤ store.now.layout.limits.tails) }
     requires version { HasVersion seat.old.view s (range * store.now.layout.limits.tails + number) }
-    requires wide { length patch ≡ store.now.layout.limits.columns }
+    requires wide { length patch.old ≡ store.now.layout.limits.columns }
     ensures reader { IsReader store.now seat.new s }
     ensures watched { Watched seat.old.view seat.new.view s }
-    ensures visited { (c : Version) → IsAt seat.old.view s (range * store.now.layout.limits.tails + number) c → Visited (knows seat.old.view s) s c store.now.layout.limits.columns patch result }
+    ensures visited { (c : Version) → IsAt seat.old.view s (range * store.now.layout.limits.tails + number) c → Visited (knows seat.old.view s) s c store.now.layout.limits.columns patch.old patch.new result }
 {
     if is_seen(store, seat, s, range, number) {
         acted(store, seat, s, tail_of(store, range, number), patch)
     } else {
-        Visit::Older(patch)
+        Visit::Older
     }
 }
 
 /// Looks at a version that is seen, under a patch of newer versions.
-fn acted(store: &Store, seat: &mut Seat, s: u32, tail: u32, patch: Patch) -> Visit
+fn acted(store: &Store, seat: &mut Seat, s: u32, tail: u32, patch: &mut Patch) -> Visit
     requires reader { IsReader store.now seat.old s }
     requires version { HasVersion seat.old.view s tail }
-    requires wide { length patch ≡ store.now.layout.limits.columns }
+    requires wide { length patch.old ≡ store.now.layout.limits.columns }
     ensures reader { IsReader store.now seat.new s }
     ensures watched { Watched seat.old.view seat.new.view s }
-    ensures acted { (c : Version) → IsAt seat.old.view s tail c → Acted c store.now.layout.limits.columns patch result }
+    ensures acted { (c : Version) → IsAt seat.old.view s tail c → Acted c store.now.layout.limits.columns patch.old patch.new result }
 {
     let encoding = encoding(store, seat, s, tail);
     match encoding.kind {
-        Kind::Put => Visit::Done(Some(put_under(store, seat, s, tail, &patch))),
-        Kind::Set => Visit::Older(set_under(store, seat, s, tail, encoding.mask, &patch)),
+        Kind::Put => Visit::Done(Some(put_under(store, seat, s, tail, patch))),
+        Kind::Set => {
+            set_under(store, seat, s, tail, encoding.mask, patch);
+            Visit::Older
+        }
         Kind::Del => Visit::Done(None),
     }
 }
@@ -139,21 +149,21 @@ fn put_cell(
     }
 }
 
-/// The cells of a set with this mask and those of a patch of newer versions, in one patch.
-fn set_under(store: &Store, seat: &mut Seat, s: u32, tail: u32, mask: u8, patch: &Patch) -> Patch
+/// Puts the cells of a set with this mask under those of a patch of newer versions.
+fn set_under(store: &Store, seat: &mut Seat, s: u32, tail: u32, mask: u8, patch: &mut Patch)
     requires reader { IsReader store.now seat.old s }
     requires version { HasVersion seat.old.view s tail }
-    requires wide { length patch.now ≡ store.now.layout.limits.columns }
+    requires wide { length patch.old ≡ store.now.layout.limits.columns }
     ensures reader { IsReader store.now seat.new s }
     ensures watched { Watched seat.old.view seat.new.view s }
-    ensures patch { (c : Version) → IsAt seat.old.view s tail c → result ≡ merged patch.now (patched mask 0 c.values) }
+    ensures patch { (c : Version) → IsAt seat.old.view s tail c → patch.new ≡ merged patch.old (patched mask 0 c.values) }
 {
     let mut cells = ArrayVec::new();
     for column in 0..store.layout().limits.columns {
         let newer = patch.cell(column as usize);
         cells.push(set_cell(store, seat, s, tail, mask, column, newer));
     }
-    Patch::new(cells)
+    *patch = Patch::new(cells);
 }
 
 /// The cell that newer versions set in a column, or else that of a set with this mask, if there is one.

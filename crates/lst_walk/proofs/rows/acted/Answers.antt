@@ -3,14 +3,14 @@ use Rattle.lst_walk.proofs.Acting.{columns_of, put_acted, del_acted, set_acted}
 use Rattle.lst_walk.proofs.rows.acted.Goals as goal
 
 pub returns-in-Put-clause-acted : goal.returns-in-Put-clause-acted
-returns-in-Put-clause-acted c = λ d at. put_acted d c.encoding-encoding.result (c.encoding-encoding.ensures.act d at) c.args.store.now.layout.limits.columns c.args.patch c.put_under.result c.in-Put.is
+returns-in-Put-clause-acted c = λ d at. put_acted d c.encoding-encoding.result (c.encoding-encoding.ensures.act d at) c.args.store.now.layout.limits.columns c.args.patch.now c.args.patch.now c.put_under.result c.in-Put.is
     (c.put_under.ensures.row d (at_on c.args.seat.now.view c.encoding-encoding.new.seat.view c.args.s c.args.tail d c.encoding-encoding.ensures.watched at))
 
 pub returns-in-Del-clause-acted : goal.returns-in-Del-clause-acted
-returns-in-Del-clause-acted c = λ d at. del_acted d c.encoding-encoding.result (c.encoding-encoding.ensures.act d at) c.args.store.now.layout.limits.columns c.args.patch c.in-Del.is
+returns-in-Del-clause-acted c = λ d at. del_acted d c.encoding-encoding.result (c.encoding-encoding.ensures.act d at) c.args.store.now.layout.limits.columns c.args.patch.now c.args.patch.now c.in-Del.is
 
 pub returns-in-Set-clause-acted : goal.returns-in-Set-clause-acted
-returns-in-Set-clause-acted c = λ d at. set_acted d c.encoding-encoding.result (c.encoding-encoding.ensures.act d at) c.args.store.now.layout.limits.columns c.args.patch c.set_under.result c.in-Set.is c.requires.wide
+returns-in-Set-clause-acted c = λ d at. set_acted d c.encoding-encoding.result (c.encoding-encoding.ensures.act d at) c.args.store.now.layout.limits.columns c.args.patch.now c.set_under.new.patch c.in-Set.is c.requires.wide
     (columns_of c.args.store.now.layout.limits c.args.seat.now.view c.args.s c.args.tail d c.requires.reader.seat_of.limits at)
     (c.set_under.ensures.patch d (at_on c.args.seat.now.view c.encoding-encoding.new.seat.view c.args.s c.args.tail d c.encoding-encoding.ensures.watched at))
 

@@ -46,10 +46,10 @@ pub returns-in-Done-clause-watched : goal.returns-in-Done-clause-watched
 returns-in-Done-clause-watched c = watched_on c.args.seat.now.view c.loop-number.seat.view c.look.new.seat.view c.args.s c.loop-number.invariant.watched c.look.ensures.watched
 
 pub returns-in-Done-clause-row : goal.returns-in-Done-clause-row
-returns-in-Done-clause-row c = row_done c.args.store.now c.args.seat.now.view c.loop-number.seat c.look.new.seat c.look.new.seat c.args.s c.args.rec.number c.loop-number.number (c.args.rec.number / 256) (c.args.rec.number / 256 * c.args.store.now.layout.limits.tails + c.loop-number.number) 0 c.requires.host c.requires.opened c.loop-number-test.true refl refl c.loop-number.patch c.in-Done.row c.loop-number.invariant c.in-Done.ensures.visited
+returns-in-Done-clause-row c = row_done c.args.store.now c.args.seat.now.view c.loop-number.seat c.look.new.seat c.look.new.seat c.args.s c.args.rec.number c.loop-number.number (c.args.rec.number / 256) (c.args.rec.number / 256 * c.args.store.now.layout.limits.tails + c.loop-number.number) 0 c.requires.host c.requires.opened c.loop-number-test.true refl refl c.loop-number.patch c.look.new.patch c.in-Done.row c.loop-number.invariant c.in-Done.ensures.visited
 
 pub loop-number-preserved : goal.loop-number-preserved
-loop-number-preserved c = row_next c.args.store.now c.args.seat.now.view c.loop-number.seat c.look.new.seat c.back-number.new.seat c.args.s c.args.rec.number c.loop-number.number (c.args.rec.number / 256) (c.args.rec.number / 256 * c.args.store.now.layout.limits.tails + c.loop-number.number) c.back-number.result c.requires.host c.requires.opened c.loop-number-test.true refl refl c.loop-number.patch c.in-Older.more c.loop-number.invariant c.look.ensures.watched c.in-Older.ensures.visited c.back-number.ensures.reader c.back-number.ensures.watched (λ d at. c.back-number.ensures.back d (at_same c.look.new.seat.view c.args.s (c.args.rec.number / 256 * c.args.store.now.layout.limits.tails + c.loop-number.number) c.tail_of.result d (sym c.tail_of.ensures) (at_on c.loop-number.seat.view c.look.new.seat.view c.args.s (c.args.rec.number / 256 * c.args.store.now.layout.limits.tails + c.loop-number.number) d c.look.ensures.watched at)))
+loop-number-preserved c = row_next c.args.store.now c.args.seat.now.view c.loop-number.seat c.look.new.seat c.back-number.new.seat c.args.s c.args.rec.number c.loop-number.number (c.args.rec.number / 256) (c.args.rec.number / 256 * c.args.store.now.layout.limits.tails + c.loop-number.number) c.back-number.result c.requires.host c.requires.opened c.loop-number-test.true refl refl c.loop-number.patch c.look.new.patch c.loop-number.invariant c.look.ensures.watched c.in-Older.ensures.visited c.back-number.ensures.reader c.back-number.ensures.watched (λ d at. c.back-number.ensures.back d (at_same c.look.new.seat.view c.args.s (c.args.rec.number / 256 * c.args.store.now.layout.limits.tails + c.loop-number.number) c.tail_of.result d (sym c.tail_of.ensures) (at_on c.loop-number.seat.view c.look.new.seat.view c.args.s (c.args.rec.number / 256 * c.args.store.now.layout.limits.tails + c.loop-number.number) d c.look.ensures.watched at)))
 
 pub returns-clause-watched : goal.returns-clause-watched
 returns-clause-watched c = c.loop-number.invariant.watched
