@@ -1,17 +1,17 @@
 -- Which commit a transaction is, and the words of one.
-use Rattle.std.proofs.Common.{◌≡◌, ◌≢◌, ℕ, ◌+◌, ◌-◌, ◌*◌, ◌/◌, ◌%◌, ◌^◌, ◌<◌, ◌≤◌, true, eqb, sym, subst, ap, ◌∙◌, arith, eq-eqb, ne_eqb}
+use Rattle.std.proofs.Common.{◌≡◌, ℕ, ◌+◌, ◌-◌, ◌*◌, ◌/◌, ◌%◌, ◌^◌, ◌<◌, ◌≤◌, true, eqb, sym, subst, ap, ◌∙◌, arith, eq-eqb, ne_eqb}
 use Rattle.std.specs.Prelude.{Option, None, Some, MatchOption}
 use mathlib.Core.Logic.{dite}
 use native.Mathlib.Decide.{ℕ_discrete}
 use Rattle.lst_layout.specs.declared.limits.Limits.{Limits}
-use Rattle.lst_layout.specs.declared.place.Place.TheVariants.{LogWord, BeginWord, StateWord, KeyWord}
+use Rattle.lst_layout.specs.declared.place.Place.TheVariants.{LogWord, BeginWord, StateWord}
 use Rattle.lst_layout.specs.Addresses as layout
 use Rattle.lst_layout.specs.Words.{Words}
 use Rattle.lst_bits.specs.Logs.{IsLogWord}
 use Rattle.lst_core_state.specs.declared.known.Known.{Known}
 use Rattle.lst_core_state.specs.Cells.{IsCell}
-use Rattle.lst_core_state.specs.State.{entry, writer_at, name_of, record_in}
-use Rattle.lst_core_state.proofs.Decoded.{by_yes, by_blank}
+use Rattle.lst_core_state.specs.State.{entry, writer_at, name_of}
+use Rattle.lst_core_state.proofs.Decoded.{by_yes}
 use Rattle.lst_core_state.proofs.Room.{clock_low}
 use Rattle.lst_core_state.proofs.Steps.{writer_odd, writer_even}
 use Rattle.lst_core.specs.Reading.{state_over}
@@ -62,12 +62,6 @@ module _ (v : View) (possible : Possible v) (whole : v.whole ≡ true) where
         (λ ne. ne_eqb (name_of s n) (w.log u) (λ e. ne (let other = (times.named u some_u past_u).state in let same : entry w.states (w.log u) ≡ entry w.states (w.log time) = ap (entry w.states) (sym e ∙ sym named) in let here = (times.named time some past).state in omega arith)) ∙ sym (ne_eqb u time ne));
   }
 
-  pub is_no_commit : (s n : ℕ) → s < l.sessions → ((time : ℕ) → 0 < time → time ≤ w.clock → w.states s n ≢ time + 1) → IsNoCommit w.clock w.log (name_of s n)
-  is_no_commit s n low none u some past = let few = allowed.sound.sized.sessions.1 in ne_eqb (name_of s n) (w.log u) (λ e. none u some past (name_state ∙ (ap (entry w.states) e ∙ (allowed.sound.times.named u some past).state)))
-    where
-      name_state : w.states s n ≡ entry w.states (name_of s n)
-      name_state = let few = allowed.sound.sized.sessions.1 in let session : s ≡ name_of s n % 16 = omega arith in let number : n ≡ name_of s n / 16 = omega arith in λ i. w.states (session i) (number i)
-
   -- ---- tails
 
   module _ (t : ℕ) where
@@ -80,9 +74,6 @@ module _ (v : View) (possible : Possible v) (whole : v.whole ≡ true) where
     pub writer_within : (s n : ℕ) → s < 16 → w.cells t 0 ≡ 1 + 2 * name_of s n → layout.IsWithin l (StateWord s n)
     writer_within s n low is = let some : 0 < w.cells t 0 = omega arith in let stored = allowed.sound.versions.stored t some in let by = writer_odd w.log (w.cells t 0) (omega arith) in let begun = stored.begun in let few = start_few some in
         let session : writer_at w t % 16 ≡ s = omega arith in let number : writer_at w t / 16 ≡ n = omega arith in let a = begun.0 in let b = begun.1 in (omega arith, omega arith, omega arith)
-
-    pub empty_of_none : w.cells t 0 ≡ 0 → IsOfNone w t
-    empty_of_none none u some past = by_blank w.log w.cells (w.log u) t none
 
     pub named_of_commit : (s n time : ℕ) → s < 16 → w.cells t 0 ≡ 1 + 2 * name_of s n → IsCommit w.clock w.log (name_of s n) time → IsOfCommit w t time
     named_of_commit s n time low is commit = record {
@@ -113,6 +104,3 @@ module _ (v : View) (possible : Possible v) (whole : v.whole ≡ true) where
 
     pub cell_is : 0 < w.cells t 0 → IsCell l.columns (w.cells t 1) (λ c. w.cells t (3 + c))
     cell_is some = allowed.sound.tail_words.images t some
-
-    pub record_within : 0 < w.cells t 0 → layout.IsWithin l (KeyWord (record_in l w.cells t))
-    record_within some = (allowed.sound.versions.stored t some).low

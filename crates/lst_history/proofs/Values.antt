@@ -1,7 +1,6 @@
 -- The act of a tail, by its words.
-use Rattle.std.proofs.Common.{◌≡◌, ◌≢◌, ◌⊎◌, ℕ, zero, suc, ◌+◌, ◌-◌, ◌*◌, ◌/◌, ◌%◌, ◌^◌, ◌<◌, ◌≤◌, List, [], ◌∷◌, ◌++◌, false, cond, eqb, length, take, refl, sym, ap, ◌∙◌, arith, inl, inr, ⊎_elim, ne_eqb}
+use Rattle.std.proofs.Common.{◌≡◌, ◌⊎◌, ℕ, zero, suc, ◌+◌, ◌-◌, ◌*◌, ◌/◌, ◌^◌, ◌<◌, List, [], ◌∷◌, ◌++◌, cond, eqb, length, take, refl, sym, ap, ◌∙◌, arith, inl, inr, ⊎_elim}
 use Rattle.std.specs.Prelude.{Option, None, Some, slice_index}
-use Rattle.std.specs.Int.{bit_at}
 use Rattle.lst_model.specs.declared.acts.Act.{Act}
 use Rattle.lst_model.specs.declared.acts.Act.TheVariants.{Put, Set, Del}
 use Rattle.lst_bits.specs.Encodings as bits
@@ -18,10 +17,6 @@ listed_more word p n = next p n ∙ ap (listed word p) (let e : suc n ≡ n + 1 
     next q zero = ap (λ (x : ℕ). word x ∷ []) (let e : q + zero ≡ q = omega arith in e)
     next q (suc m) = ap (λ (xs : List ℕ). word q ∷ xs) (ap (λ (x : ℕ). listed word (suc q) m ++ word x ∷ []) (let e : q + suc m ≡ suc q + m = omega arith in e) ∙ next (suc q) m)
 
-pub length-listed : (word : ℕ → ℕ) (p n : ℕ) → length (listed word p n) ≡ n
-length-listed word p zero = refl
-length-listed word p (suc n) = ap suc (length-listed word (suc p) n)
-
 pub patched_more : (mask c : ℕ) (values : List ℕ) (k : ℕ) → k < length values → patched mask c (take k values) ++ cond (has_bit mask (c + k)) (Some (slice_index values k)) None ∷ [] ≡ patched mask c (take (k + 1) values)
 patched_more mask c values k low = next c values k low ∙ ap (λ (n : ℕ). patched mask c (take n values)) (let e : suc k ≡ k + 1 = omega arith in e)
   where
@@ -30,24 +25,12 @@ patched_more mask c values k low = next c values k low ∙ ap (λ (n : ℕ). pat
     next d (x ∷ xs) zero h = ap (λ (m : ℕ). cond (has_bit mask m) (Some x) None ∷ []) (let e : d + zero ≡ d = omega arith in e)
     next d (x ∷ xs) (suc n) h = ap (λ (os : List (Option ℕ)). cond (has_bit mask d) (Some x) None ∷ os) (ap (λ (m : ℕ). patched mask (suc d) (take n xs) ++ cond (has_bit mask m) (Some (slice_index xs n)) None ∷ []) (let e : d + suc n ≡ suc d + n = omega arith in e) ∙ next (suc d) xs n (omega arith))
 
-pub length-patched : (mask c : ℕ) (values : List ℕ) → length (patched mask c values) ≡ length values
-length-patched mask c [] = refl
-length-patched mask c (x ∷ values) = ap suc (length-patched mask (suc c) values)
-
-pub bit_clear : (mask column : ℕ) → bit_at mask column ≢ 1 → has_bit mask column ≡ false
-bit_clear mask column is = ne_eqb (mask / 2 ^ column % 2) 1 is
-
 -- ---- encodings
 
 codes : (columns e : ℕ) (values : ℕ → ℕ) → IsCell columns e values → (kind_of e ≡ 1) ⊎ ((kind_of e ≡ 2) ⊎ (kind_of e ≡ 3))
 codes columns e values cell = ⊎_elim (λ (h : (kind_of e ≡ 1) × (mask_of e ≡ 2 ^ columns - 1)). inl h.0)
     (λ (h : ((kind_of e ≡ 2) × (0 < mask_of e) × (mask_of e < 2 ^ columns)) ⊎ ((kind_of e ≡ 3) × (mask_of e ≡ 0))). inr (⊎_elim
     (λ (g : (kind_of e ≡ 2) × (0 < mask_of e) × (mask_of e < 2 ^ columns)). inl g.0) (λ (g : (kind_of e ≡ 3) × (mask_of e ≡ 0)). inr g.0) h)) cell.kind
-
--- an encoding word that says what the values hold is the encoding of some write
-pub encoded : (columns e : ℕ) (values : ℕ → ℕ) → IsCell columns e values → IsEncodingWord e
-encoded columns e values cell = let slot = cell.slot in let kind : (0 < kind_of e) × (kind_of e ≤ 3) = ⊎_elim (λ (a : kind_of e ≡ 1). (omega arith, omega arith)) (λ (h : (kind_of e ≡ 2) ⊎ (kind_of e ≡ 3)). ⊎_elim (λ (a : kind_of e ≡ 2). (omega arith, omega arith)) (λ (a : kind_of e ≡ 3). (omega arith, omega arith)) h) (codes columns e values cell) in
-    (omega arith, kind.0, kind.1)
 
 -- the act by the code of the kind
 act_code : ℕ → ℕ → List ℕ → Act
