@@ -126,7 +126,7 @@ impl Session {
         end(store, &mut self.seat, self.number)
     }
 
-    /// Ends the transaction without a commit: its writes are never seen. It is refused exactly where none is open.
+    /// Ends the transaction without a commit. It is refused exactly where none is open.
     pub fn abort(&mut self, store: &Store) -> Result<(), NotBegun>
         requires ready { IsReady store.now self.old }
         ensures ready { IsReady store.now self.new }
