@@ -66,14 +66,7 @@ fn unset(columns: u32) -> Patch
 }
 
 /// Looks at a version of a range, by the number of its tail record, under a patch of newer versions.
-fn look(
-    store: &Store,
-    seat: &mut Seat,
-    s: u32,
-    range: u32,
-    number: u32,
-    patch: &mut Patch,
-) -> Visit
+fn look(store: &Store, seat: &mut Seat, s: u32, range: u32, number: u32, patch: &mut Patch) -> Visit
     requires reader { IsReader store.now seat.old s }
     requires range { range < store.now.layout.limits.ranges }
     requires number { (0 < number) × (number ≤ store.now.layout.limits.tails) }
