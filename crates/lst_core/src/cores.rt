@@ -66,30 +66,16 @@ const NEWCOMER: Numbers = Numbers {
     served: [false; 64],
 };
 
-/// The words of a store that opens.
+/// The words of a store that opens: each is 0 but those of the directory, which hold the numbers of the pages.
 pub fn opening_words(alloc: Global, layout: &Layout) -> Result<Vec<u64>, OutOfMemory>
     ensures { IfOk result (λ words. IsOpening layout.now.limits words.items) }
 {
-    let mut words = Vec::with_capacity(alloc, layout.words as usize)?;
-    let mut address = 0;
-    while address < layout.words {
-        words.push(opening_word(layout, address))?;
-        address += 1;
+    let mut words = vec![in alloc; 0; layout.words as usize]?;
+    let start = layout.directory(0, 0) as usize;
+    for page in 0..layout.limits.page_count() as usize {
+        words[start + page] = page as u64;
     }
     Ok(words)
-}
-
-/// The word at an address when the store opens.
-fn opening_word(layout: &Layout, address: u64) -> u64
-    requires { address < words_of layout.now.limits }
-    ensures { result ≡ opening_at layout.now.limits address }
-{
-    let start = layout.directory(0, 0);
-    let end = layout.frames(0, 0);
-    if address < start {
-        return 0;
-    }
-    if address < end { address - start } else { 0 }
 }
 
 /// The numbers of this many sessions that know nothing.
