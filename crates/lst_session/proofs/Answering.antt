@@ -1,17 +1,20 @@
 -- What each call of a session answers, from what led to it.
 use Rattle.std.proofs.Common.{◌≡◌, ◌⊎◌, ℕ, ◌<◌, ◌≤◌, List, [], ◌∷◌, ◌++◌, Bool, true, false, length, Option, None, Result, Ok, Err, IfOk, IfErr, OnOk, OnErr, refl, sym, subst, ap, ◌∙◌, arith, append-nil, inl, inr, slice_index_or}
 use Rattle.lst_layout.specs.declared.limits.Limits.{Limits}
+use Rattle.std.proofs.lemmas.List.Elements.{All-nil}
 use Rattle.lst_model.specs.declared.acts.Act.{Act}
 use Rattle.lst_model.specs.declared.acts.Act.TheVariants.{Put, Set, Del}
 use Rattle.lst_model.specs.Cells.{Cell}
 use Rattle.lst_model.specs.Histories.{row_from}
 use Rattle.lst_model.specs.Soundness.{Fits}
+use Rattle.lst_core_state.specs.declared.known.Known.{Known}
 use Rattle.lst_core_state.specs.declared.known.Placing.{Placing}
 use Rattle.lst_core_state.specs.declared.facts.Find.TheVariants.{FullRecords}
 use Rattle.lst_rule.specs.declared.view.View.{View}
 use Rattle.lst_rule.specs.Rule.{knows, hosts}
 use Rattle.lst_rule.specs.Learned.{Possible}
 use Rattle.lst_rule.proofs.Learning.{learns_same}
+use Rattle.lst_sights.specs.Watching.{IsNotFull}
 use Rattle.lst_seat.specs.declared.store.Store.{Store}
 use Rattle.lst_seat.specs.Seats.{Sitting}
 use Rattle.lst_seat.specs.Stores.{IsSeatOf}
@@ -23,9 +26,9 @@ use Rattle.lst_calls.specs.declared.kinds.WriteRefusal.{WriteRefusal}
 use Rattle.lst_calls.specs.declared.kinds.WriteRefusal.TheVariants.{Idle, ReadOnly, Missing, Exists, TableFull, Latched, Newer, Unfinished, TailFull}
 use Rattle.lst_calls.specs.Traces.{is_put, misfit_of, FindsNone, FindsFullTable, Reads, TriesPlaced, TriesFound, MayWrite, Inserts, Changes}
 use Rattle.lst_session.specs.declared.session.Session.{Session}
-use Rattle.lst_session.specs.Calls.{SameLists, Begins, Gets, Accepts, Refuses, Cause, row_seen}
+use Rattle.lst_session.specs.Calls.{FindsOneFull, SameLists, Begins, Gets, Accepts, Refuses, Cause, row_seen}
 use Rattle.lst_session.specs.Passes.{IsReady}
-use Rattle.lst_session.proofs.Growing.{Steps, steps_on, steps_called, works_steps, works_hold, works_latched, watched_hands, watched_steps, begun_early, sight_stays, seen_row}
+use Rattle.lst_session.proofs.Growing.{Steps, steps_on, steps_called, works_steps, works_hold, works_latched, watched_hands, watched_steps, none_full_on, one_full_on, works_room, watched_room, begun_early, sight_stays, seen_row}
 use Rattle.lst_session.proofs.Turning.{begins, begins_idle, ahead_idle}
 use Rattle.lst_session.proofs.Writing.{Comes, found_comes, placed_comes, kept_drawn, kept_free, own_then, accepts, refused, tried_idle}
 
@@ -78,6 +81,7 @@ module _ (v w : View) (s key : ℕ) (row : Option (List Cell)) (own : s < v.limi
     same = st.stays.same;
     lists = none_lists n.1;
     is = n.0 ∙ sym (seen_row (knows w s) key ∙ ap (row_from None) (n.1.unseen.own (st.stays.same.transaction.is_open ∙ is_open)));
+    room = works_room v w s n.1.works;
   }
   gets (inr r) = let come : Comes v r.between s r.rec key 0 = found_comes v r.between s r.rec key r.found in let hands = watched_hands r.between w s r.watched in
       let st : Steps v w s = steps_on v r.between w s come.steps (watched_steps r.between w s r.watched (own_then v r.between s come.steps own)) in record {
@@ -89,6 +93,7 @@ module _ (v w : View) (s key : ℕ) (row : Option (List Cell)) (own : s < v.limi
           done = st.stays.done;
         };
         is = r.is key r.found.placed ∙ (ap (row_from None) (sight_stays s (knows v s) (knows r.between s) key early come.steps.stays ∙ sym (sight_stays s (knows v s) (knows w s) key early st.stays)) ∙ sym (seen_row (knows w s) key));
+        room = none_full_on v r.between w s come.room (watched_room r.between w s r.watched);
       }
 
   pub gets_idle : Reads v w s key row → IsIdle (knows v s) → IsIdle (knows w s)
@@ -145,8 +150,11 @@ module _ (v w : View) (s key : ℕ) (f : FindsFullTable v w s key) where
     after_look = inl drawn_still;
   }
 
+  full_room : FindsOneFull v w s FullRecords
+  full_room = one_full_on v f.full.then w s FullRecords (works_room v f.full.then s f.full.before) record { before = []; grows = ap (λ (k : Known). k.finds) f.full.after.view.now; room = All-nil IsNotFull }
+
   full_cause : MayWrite v s → (act : Act) → is_put act ≡ true → Cause v w s key act TableFull
-  full_cause may act put = (may, put, f.full, works_latched f.full.then w s (FullRecords ∷ []) f.full.after ∙ works_latched v f.full.then s [] f.full.before, drawn_still)
+  full_cause may act put = (may, put, f.full, works_latched f.full.then w s (FullRecords ∷ []) f.full.after ∙ works_latched v f.full.then s [] f.full.before, drawn_still, full_room)
 
   full_idle : IsIdle (knows v s) → IsIdle (knows w s)
   full_idle idle = record {
@@ -180,7 +188,7 @@ module _ (v w : View) (s key : ℕ) (is_open : (knows v s).is_open ≡ true) (ea
   }
 
   none_cause : MayWrite v s → (act : Act) → is_put act ≡ false → Cause v w s key act Missing
-  none_cause may act put = (may, (subst (λ (row : Option (List Cell)). ¬ Fits row act) (sym no_row) (none_misfit act put).0, (none_misfit act put).1), inl (works_latched v w s [] f.works, record { works = f.works; ended = f.ended }))
+  none_cause may act put = (may, (subst (λ (row : Option (List Cell)). ¬ Fits row act) (sym no_row) (none_misfit act put).0, (none_misfit act put).1), inl (works_latched v w s [] f.works, record { works = f.works; ended = f.ended }), works_room v w s f.works)
 
   none_idle : IsIdle (knows v s) → IsIdle (knows w s)
   none_idle idle = record {

@@ -1,7 +1,7 @@
 -- What one step of a call after another leaves of what its session knows.
-use Rattle.std.proofs.Common.{◌≡◌, ⊎_elim, ℕ, ◌<◌, ◌≤◌, List, [], ◌++◌, true, length, take, Contains, refl, sym, subst, ap, ◌∙◌, arith, append_assoc, append-nil, None}
+use Rattle.std.proofs.Common.{◌≡◌, ⊎_elim, ℕ, ◌<◌, ◌≤◌, List, [], ◌∷◌, ◌++◌, true, length, take, Contains, refl, sym, subst, ap, ◌∙◌, arith, append_assoc, append-nil, None}
 use Rattle.std.proofs.lemmas.List.{take-append-le}
-use Rattle.std.proofs.lemmas.List.Elements.{Contains-append_left, Contains-append_right}
+use Rattle.std.proofs.lemmas.List.Elements.{All-nil, All-append, Contains-append_left, Contains-append_right}
 use Rattle.lst_model.specs.declared.commits.Commit.{Commit}
 use Rattle.lst_model.specs.Histories.{Extends, all_acts_on, acts_on, row_from}
 use Rattle.lst_model.proofs.Folds.{get_snapshot}
@@ -17,11 +17,11 @@ use Rattle.lst_rule.specs.Rule.{knows, hosts}
 use Rattle.lst_rule.specs.Learned.{Possible, Learns}
 use Rattle.lst_rule.proofs.Learning.{learns_on}
 use Rattle.lst_sights.specs.Seen.{HasKey}
-use Rattle.lst_sights.specs.Watching.{Watched}
+use Rattle.lst_sights.specs.Watching.{IsNotFull, Watched}
 use Rattle.lst_sights.proofs.Telling.{low, is_known, is_on_known}
 use Rattle.lst_index.specs.Searches.{Works}
 use Rattle.lst_write.specs.Standings.{FoundSince}
-use Rattle.lst_session.specs.Calls.{Called, SameWork, row_seen}
+use Rattle.lst_session.specs.Calls.{Called, FindsNoneFull, FindsOneFull, SameWork, row_seen}
 
 -- ---- lists that grow
 
@@ -177,6 +177,38 @@ found_then u v w s f x g = record {
   grows = g.finds.1 ∙ (ap (λ (fs : List Find). fs ++ g.finds.0) x.grows ∙ append_assoc (knows u s).finds x.more g.finds.0);
   here = Contains-append_left x.more g.finds.0 f x.here;
 }
+
+-- ---- counters that were found full
+
+pub none_full_still : (v w : View) (s : ℕ) → (knows w s).finds ≡ (knows v s).finds → FindsNoneFull v w s
+none_full_still v w s e = record { more = []; grows = e ∙ (same_finds (knows v s).finds).1; room = All-nil IsNotFull }
+
+pub none_full_on : (u v w : View) (s : ℕ) → FindsNoneFull u v s → FindsNoneFull v w s → FindsNoneFull u w s
+none_full_on u v w s a b = record {
+  more = a.more ++ b.more;
+  grows = b.grows ∙ (ap (λ (fs : List Find). fs ++ b.more) a.grows ∙ append_assoc (knows u s).finds a.more b.more);
+  room = All-append IsNotFull a.more b.more a.room b.room;
+}
+
+pub none_full_then : (u v w : View) (s : ℕ) → FindsNoneFull u v s → (knows w s).finds ≡ (knows v s).finds → FindsNoneFull u w s
+none_full_then u v w s a e = record { more = a.more; grows = e ∙ a.grows; room = a.room }
+
+pub one_full_on : (u v w : View) (s : ℕ) (f : Find) → FindsNoneFull u v s → FindsOneFull v w s f → FindsOneFull u w s f
+one_full_on u v w s f a b = record {
+  before = a.more ++ b.before;
+  grows = b.grows ∙ (ap (λ (fs : List Find). fs ++ (b.before ++ f ∷ [])) a.grows
+      ∙ (append_assoc (knows u s).finds a.more (b.before ++ f ∷ []) ∙ ap (λ (fs : List Find). (knows u s).finds ++ fs) (sym (append_assoc a.more b.before (f ∷ [])))));
+  room = All-append IsNotFull a.more b.before a.room b.room;
+}
+
+pub one_full_then : (u v w : View) (s : ℕ) (f : Find) → FindsOneFull u v s f → (knows w s).finds ≡ (knows v s).finds → FindsOneFull u w s f
+one_full_then u v w s f a e = record { before = a.before; grows = e ∙ a.grows; room = a.room }
+
+pub works_room : (v w : View) (s : ℕ) → Works v w s [] → FindsNoneFull v w s
+works_room v w s works = record { more = []; grows = ap (λ (k : Known). k.finds) works.view.now; room = All-nil IsNotFull }
+
+pub watched_room : (v w : View) (s : ℕ) → Watched v w s → FindsNoneFull v w s
+watched_room v w s watched = record { more = watched.watches.finds; grows = ap (λ (k : Known). k.finds) watched.watches.is; room = watched.watches.room }
 
 -- ---- what is seen of a key
 

@@ -12,6 +12,7 @@ use Rattle.lst_rule.specs.declared.view.View.{View}
 use Rattle.lst_rule.specs.Rule.{knows}
 use Rattle.lst_rule.specs.Learned.{Learns}
 use Rattle.lst_rule.proofs.Learning.{learns_then}
+use Rattle.lst_sights.proofs.Watching.{one_not_full, clock_not_full}
 use Rattle.lst_seat.specs.Stores.{clocked}
 use Rattle.lst_write.specs.Standings.{FoundSince}
 use Rattle.lst_txn.specs.Transactions as txn
@@ -21,8 +22,8 @@ use Rattle.lst_calls.specs.declared.kinds.Outcome.TheVariants.{Committed, Ended}
 use Rattle.lst_calls.specs.declared.kinds.CommitRefusal.{CommitRefusal}
 use Rattle.lst_calls.specs.declared.kinds.CommitRefusal.TheVariants.{Idle, Busy}
 use Rattle.lst_calls.specs.Traces as traces
-use Rattle.lst_session.specs.Calls.{Begins, IsAhead, Commits, Ends, FindsHeld}
-use Rattle.lst_session.proofs.Growing.{called, same_extends, same_facts, same_finds, away_stays}
+use Rattle.lst_session.specs.Calls.{FindsNoneFull, Begins, IsAhead, Commits, Ends, FindsHeld}
+use Rattle.lst_session.proofs.Growing.{called, same_extends, same_facts, same_finds, none_full_still, away_stays}
 
 -- ---- begins
 
@@ -33,6 +34,9 @@ clock_found v w s clock all long grows = record {
   grows = grows;
   here = subst (λ (n : ℕ). Contains (FreshClock (length all) ∷ early_find (knows v s) (length all)) (FreshClock n)) long (0, omega arith, refl);
 }
+
+clock_room : (v w : View) (s clock : ℕ) (u : Known) → (knows w s).finds ≡ (knows v s).finds ++ FreshClock clock ∷ early_find u clock → FindsNoneFull v w s
+clock_room v w s clock u grows = record { more = FreshClock clock ∷ early_find u clock; grows = grows; room = clock_not_full u clock }
 
 pub begins : (v w : View) (s clock b : ℕ) (r : Bool) → txn.Opens v w s clock b r → Begins v w s clock b r
 begins v w s clock b r o = let e = o.view.now in record {
@@ -49,6 +53,7 @@ begins v w s clock b r o = let e = o.view.now in record {
   least = o.load.least;
   seen = ap (λ (k : Known). length k.seen) e ∙ o.load.clock;
   early = o.early;
+  room = clock_room v w s (length o.load.all) (knows v s) (ap (λ (k : Known). k.finds) e);
 }
 
 pub begins_idle : (v w : View) (s clock b : ℕ) (r : Bool) → txn.Opens v w s clock b r → IsIdle (knows v s) → IsIdle (knows w s)
@@ -75,6 +80,7 @@ is_ahead v w s clock time below o = let e = o.load.view.now in record {
   least = o.load.least;
   seen = ap (λ (k : Known). length k.seen) e ∙ o.load.clock;
   below = below;
+  room = clock_room v w s (length o.load.all) (knows v s) (ap (λ (k : Known). k.finds) e);
 }
 
 pub ahead_idle : (v w : View) (s clock : ℕ) → txn.Sees v w s clock → IsIdle (knows v s) → IsIdle (knows w s)
@@ -98,6 +104,7 @@ module _ (v w : View) (s : ℕ) (learns : Learns v w s (record (knows v s) { is_
     ended = record { number = ap (λ (k : Known). k.number) e; is_open = ap (λ (k : Known). k.is_open) e };
     own = ap (λ (k : Known). k.own) e;
     mine = ap (λ (k : Known). mine s k) e;
+    room = none_full_still v w s (ap (λ (k : Known). k.finds) e);
   }
 
   pub ends_idle : IsIdle (knows v s) → IsIdle (knows w s)
@@ -123,6 +130,7 @@ module _ (v w : View) (s : ℕ) (holds : traces.Holds v w s) where
     lists = record { drawn = ap (λ (k : Known). k.placing.drawn) e; latched = ap (λ (k : Known). k.latched) e; done = ap (λ (k : Known). k.done) e };
     wrote = holds.writes;
     found = record { more = HeldTurn ∷ []; grows = ap (λ (k : Known). k.finds) e; here = (0, omega arith, refl) };
+    room = record { more = HeldTurn ∷ []; grows = ap (λ (k : Known). k.finds) e; room = one_not_full HeldTurn tt };
   }
 
   pub held_idle : IsIdle (knows v s) → IsIdle (knows w s)
@@ -166,6 +174,7 @@ module _ (v u w : View) (s time : ℕ) (takes : Learns v u s (took (knows v s)))
     place = ap (λ (n : ℕ). n + 1) c.load.clock ∙ c.time;
     seen = ap (λ (m : Known). m.seen) e;
     mine = c.own ∙ (λ i. mine s (takes.now i) ++ commit s (takes.now i).number (takes.now i).begin (takes.now i).own ∷ []);
+    room = clock_room v w s (length c.load.all) (took k) (ap (λ (m : Known). m.finds) e);
   }
 
   pub commits_idle : IsIdle k → IsIdle (knows w s)

@@ -21,6 +21,7 @@ use Rattle.lst_rule.proofs.Learning.{learns_on}
 use Rattle.lst_sights.specs.Seen.{HasKey}
 use Rattle.lst_sights.specs.Judging.{WroteAt}
 use Rattle.lst_sights.specs.Watching.{Watched}
+use Rattle.lst_sights.proofs.Watching.{one_not_full}
 use Rattle.lst_index.specs.Searches.{Keeps}
 use Rattle.lst_index.specs.Placings.{Drew, DrawsAfterLook, WasUnplaced}
 use Rattle.lst_write.specs.Holding.{Latches}
@@ -33,9 +34,9 @@ use Rattle.lst_calls.specs.declared.kinds.WriteRefusal.TheVariants.{Idle, ReadOn
 use Rattle.lst_calls.specs.Traces.{Prepares, Holding, Installs, Releases, IsLatched, Tries, MayWrite, FindsRecord, PlacesRecord}
 use Rattle.lst_calls.proofs.Trying.{never_idle, never_read_only, never_table_full}
 use Rattle.lst_write.specs.Judgements.{HasJudged}
-use Rattle.lst_session.specs.Calls.{Accepts, Refuses, HasLatched, WasJudged, Cause, row_seen}
+use Rattle.lst_session.specs.Calls.{FindsNoneFull, FindsOneFull, IsTailOf, Accepts, Refuses, HasLatched, WasJudged, Cause, row_seen}
 use Rattle.lst_session.proofs.Judging.{judged_then, stops_then, newer_then}
-use Rattle.lst_session.proofs.Growing.{Grown, grown_on, key_stays, learns_itself, called, Steps, steps_on, steps_by, steps_called, same_extends, same_facts, same_finds, works_steps, works_hold, works_latched, watched_hands, watched_steps, found_on, found_then, sight_stays, seen_row}
+use Rattle.lst_session.proofs.Growing.{Grown, grown_on, key_stays, learns_itself, called, Steps, steps_on, steps_by, steps_called, same_extends, same_facts, same_finds, works_steps, works_hold, works_latched, watched_hands, watched_steps, found_on, found_then, none_full_still, none_full_on, none_full_then, one_full_on, one_full_then, works_room, watched_room, sight_stays, seen_row}
 
 -- ---- the record of the key
 
@@ -48,6 +49,7 @@ pub record Comes (v w : View) (s rec key most : ℕ) : Type 0 where
   pub after_look : DrawsAfterLook v w s key
   pub free : (knows v s).placing.hand ≡ 0 → (knows w s).placing.hand ≡ 0
   pub placed : HasKey (knows w s).facts rec key
+  pub room : FindsNoneFull v w s
 
 pub kept_drawn : (a b : Placing) → Keeps a b → b.drawn ≡ a.drawn
 kept_drawn a b (inl e) = ap (λ (p : Placing). p.drawn) e
@@ -69,6 +71,7 @@ found_comes v w s rec key f = record {
   after_look = inl (kept_drawn (knows v s).placing (knows w s).placing f.keeps);
   free = kept_free (knows v s).placing (knows w s).placing f.keeps;
   placed = f.placed;
+  room = works_room v w s f.works;
 }
 
 pub placed_comes : (v w : View) (s rec key : ℕ) → PlacesRecord v w s rec key → Comes v w s rec key 1
@@ -80,6 +83,7 @@ placed_comes v w s rec key f = record {
   after_look = f.after_look;
   free = λ e. f.free;
   placed = f.placed;
+  room = works_room v w s f.works;
 }
 
 -- where no record was drawn since
@@ -193,6 +197,40 @@ holding v w s rec key act result own h = let l : Latching v h.between s rec = la
 pub released : (v w : View) (s rec key : ℕ) (act : Act) (refusal : WriteRefusal) → s < v.limits.sessions → Releases v w s rec key act refusal → Latching v w s rec
 released v w s rec key act refusal own r = latching_on v r.between w s rec (holding v r.between s rec key act (Err refusal) own r.holding) (release_keeping r.between w s r.view)
 
+-- ---- counters that were found full
+
+-- none was, but where no tail is left that of the record's range, at last
+abbrev pub Counters : View → View → ℕ → ℕ → Result ℕ WriteRefusal → Type 0
+Counters v w s rec (Err TailFull) = FindsOneFull v w s (FullTails (range_of rec))
+Counters v w s rec result = FindsNoneFull v w s
+
+counters_on : (u v w : View) (s rec : ℕ) → FindsNoneFull u v s → (result : Result ℕ WriteRefusal) → Counters v w s rec result → Counters u w s rec result
+counters_on u v w s rec none (Err TailFull) c = one_full_on u v w s (FullTails (range_of rec)) none c
+counters_on u v w s rec none result c = none_full_on u v w s none c
+
+counters_then : (u v w : View) (s rec : ℕ) → (knows w s).finds ≡ (knows v s).finds → (result : Result ℕ WriteRefusal) → Counters u v s rec result → Counters u w s rec result
+counters_then u v w s rec e (Err TailFull) c = one_full_then u v w s (FullTails (range_of rec)) c e
+counters_then u v w s rec e result c = none_full_then u v w s c e
+
+appends_room : (v w : View) (s rec head n : ℕ) (act : Act) → Appends v w s rec head n act → FindsNoneFull v w s
+appends_room v w s rec head n act a = record { more = CountedTails (range_of rec) a.count ∷ []; grows = ap (λ (k : Known). k.finds) a.view.now; room = one_not_full (CountedTails (range_of rec) a.count) tt }
+
+full_room : (v w : View) (s range : ℕ) → FindsFull v w s range → FindsOneFull v w s (FullTails range)
+full_room v w s range f = record { before = CountedTails range f.count ∷ []; grows = ap (λ (k : Known). k.finds) f.counts.view.now; room = one_not_full (CountedTails range f.count) tt }
+
+prepares_counters : (v w : View) (s rec head key : ℕ) (act : Act) → (result : Result ℕ WriteRefusal) → Prepares v w s rec head key act result → Counters v w s rec result
+prepares_counters v w s rec head key act (Ok n) p = none_full_on v p.between w s (watched_room v p.between s p.judges.watched) (appends_room p.between w s rec head n act p.appends)
+prepares_counters v w s rec head key act (Err (Newer time)) p = watched_room v w s p.0
+prepares_counters v w s rec head key act (Err (Unfinished session number)) p = watched_room v w s p.0
+prepares_counters v w s rec head key act (Err TailFull) p = one_full_on v p.between w s (FullTails (range_of rec)) (watched_room v p.between s p.judges.watched) (full_room p.between w s (range_of rec) p.full)
+prepares_counters v w s rec head key act (Err refusal) p = watched_room v w s p.watched
+
+holding_counters : (v w : View) (s rec key : ℕ) (act : Act) (result : Result ℕ WriteRefusal) → Holding v w s rec key act result → Counters v w s rec result
+holding_counters v w s rec key act result h = counters_on v h.between w s rec (none_full_still v h.between s (ap (λ (k : Known). k.finds) h.latches.view.now)) result (prepares_counters h.between w s rec h.head key act result h.prepares)
+
+released_counters : (v w : View) (s rec key : ℕ) (act : Act) (refusal : WriteRefusal) → Releases v w s rec key act refusal → Counters v w s rec (Err refusal)
+released_counters v w s rec key act refusal r = counters_then v r.between w s rec (ap (λ (k : Known). k.finds) r.view.now) (Err refusal) (holding_counters v r.between s rec key act (Err refusal) r.holding)
+
 -- ---- where the write is made
 
 -- the row of the key is the one that was seen
@@ -253,6 +291,17 @@ module _ (v u w : View) (s rec key most : ℕ) (act : Act) (may : MayWrite v s) 
     to_judged = let first : Latching u i.holding.between s rec = latch u i.holding.between s rec i.holding.head i.holding.latches in
         steps_on v i.holding.between judged s (to i.holding.between first) (watched_steps i.holding.between judged s i.holding.prepares.judges.watched (own_then u i.holding.between s first.goes.steps own_u))
 
+    belongs : IsTailOf w.limits rec (range_of rec * b.limits.tails + i.number)
+    belongs = record {
+      number = i.number;
+      some = i.holding.prepares.appends.some;
+      few = subst (λ (m : Limits). i.number ≤ m.tails) (to_judged.learns.limits ∙ sym learns.limits) i.holding.prepares.appends.few;
+      is = ap (λ (m : Limits). range_of rec * m.tails + i.number) (sym installs.view.limits);
+    }
+
+    room : FindsNoneFull v w s
+    room = none_full_on v u w s comes.room (none_full_then u b w s (holding_counters u b s rec key act (Ok i.number) i.holding) (ap (λ (k : Known). k.finds) installs.view.now))
+
     pub accepts : Accepts v w s key most act
     accepts = let e = installs.view.now in record {
       may = may;
@@ -273,6 +322,8 @@ module _ (v u w : View) (s rec key most : ℕ) (act : Act) (may : MayWrite v s) 
       placed = key_stays (knows b s) (knows w s) rec key put (key_to b l);
       latched = ap (λ (k : Known). k.latched) e ∙ latched_to b l;
       done = ap (λ (k : Known). k.done) e ∙ (λ j. there.stays.done j ++ record { number = there.stays.same.transaction.number j; rec = rec; tail = range_of rec * b.limits.tails + i.number } ∷ []);
+      belongs = belongs;
+      room = room;
     }
 
     pub accepts_idle : IsIdle (knows v s) → IsIdle (knows w s)
@@ -304,6 +355,9 @@ module _ (v u w : View) (s rec key most : ℕ) (act : Act) (may : MayWrite v s) 
 
     pub refuses_idle : IsIdle (knows v s) → IsIdle (knows w s)
     refuses_idle idle = let st = to w freed in record { rec = hand_to w freed idle.rec; hold = ap (λ (k : Known). k.hold) r.view.now; turn = st.stays.turn idle.turn }
+
+    pub counters : Counters v w s rec (Err refusal)
+    counters = counters_on v u w s rec comes.room (Err refusal) (released_counters u w s rec key act refusal r)
 
     pub has_latched : HasLatched v w s key
     has_latched = record { rec = rec; placed = key_to w freed; latched = latched_to w freed }
@@ -362,6 +416,7 @@ module _ (v u w : View) (s rec key most : ℕ) (act : Act) (may : MayWrite v s) 
         found = found_on v u w s (LatchedRecord rec) comes.steps.stays.grown record { more = LatchedRecord rec ∷ []; grows = ap (λ (k : Known). k.finds) f.finds.view.now; here = (0, omega arith, refl) };
       },
       ap (λ (k : Known). k.latched) f.finds.view.now ∙ comes.latched,
+      none_full_on v u w s comes.room record { more = LatchedRecord rec ∷ []; grows = ap (λ (k : Known). k.finds) f.finds.view.now; room = one_not_full (LatchedRecord rec) tt },
     )
 
   -- each refusal has its cause
@@ -370,14 +425,15 @@ module _ (v u w : View) (s rec key most : ℕ) (act : Act) (may : MayWrite v s) 
   caused ReadOnly t = absurd (never_read_only u w s rec key act t)
   caused TableFull t = absurd (never_table_full u w s rec key act t)
   caused Latched t = latched_cause t
-  caused Missing t = (may, (is_misfit Missing t t.holding.prepares.agrees.0, t.holding.prepares.agrees.1), inr (has_latched Missing t, was_judged Missing t t.holding.prepares.judged))
-  caused Exists t = (may, (is_misfit Exists t t.holding.prepares.agrees.0, t.holding.prepares.agrees.1), has_latched Exists t, was_judged Exists t t.holding.prepares.judged)
+  caused Missing t = (may, (is_misfit Missing t t.holding.prepares.agrees.0, t.holding.prepares.agrees.1), inr (has_latched Missing t, was_judged Missing t t.holding.prepares.judged), counters Missing t)
+  caused Exists t = (may, (is_misfit Exists t t.holding.prepares.agrees.0, t.holding.prepares.agrees.1), has_latched Exists t, was_judged Exists t t.holding.prepares.judged, counters Exists t)
   caused (Newer time) t = let f = t.holding.prepares.1 in (
     may,
     subst (λ (b : ℕ). b < time) (begin_held (Newer time) t) f.above,
     (f.version.writer, subst (λ (h : List Commit). WroteAt h time f.version.writer key) (sym (seen_back (Newer time) t)) (f.wrote key (key_to t.between (held (Newer time) t)))),
     has_latched (Newer time) t,
     record { rec = rec; head = t.holding.head; placed = key_to w (freed (Newer time) t); newer = newer_then t.between w s t.view rec t.holding.head time f },
+    counters (Newer time) t,
   )
   caused (Unfinished j n) t = let f = t.holding.prepares.1 in (
     may,
@@ -394,6 +450,7 @@ module _ (v u w : View) (s rec key most : ℕ) (act : Act) (may : MayWrite v s) 
       found = since (Unfinished j n) t _ (subst (λ (b : ℕ). FoundSince t.holding.between t.between s (UnfinishedVersion (rec + 1) f.version.tail j n (b + 1))) (begin_held (Unfinished j n) t) f.found);
     },
     has_latched (Unfinished j n) t,
+    counters (Unfinished j n) t,
   )
   caused TailFull t = let p = t.holding.prepares in let h : View = t.holding.between in
       let first : Latching u h s rec = latch u h s rec t.holding.head t.holding.latches in let own_h : s < h.limits.sessions = own_then u h s first.goes.steps (own_then v u s comes.steps own) in
@@ -408,6 +465,7 @@ module _ (v u w : View) (s rec key most : ℕ) (act : Act) (may : MayWrite v s) 
             grows = ap (λ (k : Known). k.finds) p.full.counts.view.now;
             here = (1, omega arith, refl);
           });
+          alone = counters TailFull t;
         },
         has_latched TailFull t,
         was_judged TailFull t (judged_then p.between t.between s rec t.holding.head (full_keeping p.between t.between s (range_of rec) p.full).goes.steps (ap (λ (k : Known). k.seen) p.full.counts.view.now) p.judges.judged),

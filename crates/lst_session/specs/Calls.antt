@@ -1,5 +1,6 @@
 -- What a session's calls answer, and what they leave of what the session knows.
-use Rattle.std.specs.Prelude.{◌≡◌, ◌≢◌, ◌⊎◌, ℕ, ◌+◌, ◌<◌, ◌≤◌, List, [], ◌∷◌, ◌++◌, Bool, true, false, length, Option}
+use Rattle.std.specs.Prelude.{◌≡◌, ◌≢◌, ◌⊎◌, ℕ, ◌+◌, ◌*◌, ◌<◌, ◌≤◌, List, [], ◌∷◌, ◌++◌, Bool, true, false, length, Option}
+use Rattle.std.specs.List.{All}
 use Rattle.lst_layout.specs.declared.limits.Limits.{Limits}
 use Rattle.lst_model.specs.declared.acts.Act.{Act}
 use Rattle.lst_model.specs.declared.commits.Commit.{Commit}
@@ -10,7 +11,7 @@ use Rattle.lst_model.specs.Soundness.{Fits}
 use Rattle.lst_versions.specs.Writes.{write, commit}
 use Rattle.lst_core_state.specs.declared.known.Known.{Known}
 use Rattle.lst_core_state.specs.declared.facts.Find.{Find}
-use Rattle.lst_core_state.specs.declared.facts.Find.TheVariants.{FreshClock, HeldTurn, LatchedRecord, UnfinishedVersion, FullTails}
+use Rattle.lst_core_state.specs.declared.facts.Find.TheVariants.{FreshClock, HeldTurn, LatchedRecord, UnfinishedVersion, FullRecords, FullTails}
 use Rattle.lst_core_state.specs.Cells.{range_of}
 use Rattle.lst_core_state.specs.State.{mine, name_of}
 use Rattle.lst_rule.specs.declared.view.View.{View}
@@ -19,6 +20,7 @@ use Rattle.lst_rule.specs.Learned.{Learns}
 use Rattle.lst_sights.specs.Copies.{Version, Includes}
 use Rattle.lst_sights.specs.Seen.{HasKey}
 use Rattle.lst_sights.specs.Judging.{WroteAt}
+use Rattle.lst_sights.specs.Watching.{IsNotFull}
 use Rattle.lst_index.specs.Searches.{Ended, Works}
 use Rattle.lst_index.specs.Placings.{Drew, DrawsAfterLook, FoundFull}
 use Rattle.lst_write.specs.Standings.{FoundSince}
@@ -36,6 +38,18 @@ pub record Called (v w : View) (s : ℕ) : Type 0 where
   pub seen : Extends (knows w s).seen (knows v s).seen
   pub facts : Includes (knows w s).facts (knows v s).facts
   pub finds : (more : List Find) × ((knows w s).finds ≡ (knows v s).finds ++ more)
+
+-- since the view was v the session has found no counter full
+pub record FindsNoneFull (v w : View) (s : ℕ) : Type 0 where
+  pub more : List Find
+  pub grows : (knows w s).finds ≡ (knows v s).finds ++ more
+  pub room : All IsNotFull more
+
+-- or it has found one full, at last: that is the only such find
+pub record FindsOneFull (v w : View) (s : ℕ) (full : Find) : Type 0 where
+  pub before : List Find
+  pub grows : (knows w s).finds ≡ (knows v s).finds ++ (before ++ full ∷ [])
+  pub room : All IsNotFull before
 
 -- the transaction, its own writes and the session's commits stay
 pub record SameWork (s : ℕ) (u k : Known) : Type 0 where
@@ -67,6 +81,7 @@ pub record Begins (v w : View) (s clock begin : ℕ) (read_only : Bool) : Type 0
   pub least : length (knows v s).seen ≤ clock
   pub seen : length (knows w s).seen ≡ clock
   pub early : begin ≤ clock
+  pub room : FindsNoneFull v w s
 
 -- the clock was loaded in the call, and found below the time
 pub record IsAhead (v w : View) (s clock time : ℕ) : Type 0 where
@@ -77,6 +92,7 @@ pub record IsAhead (v w : View) (s clock time : ℕ) : Type 0 where
   pub least : length (knows v s).seen ≤ clock
   pub seen : length (knows w s).seen ≡ clock
   pub below : clock < time
+  pub room : FindsNoneFull v w s
 
 -- ---- reads
 
@@ -85,11 +101,20 @@ pub record Gets (v w : View) (s key : ℕ) (row : Option (List Cell)) : Type 0 w
   pub same : SameWork s (knows v s) (knows w s)
   pub lists : SameLists (knows v s) (knows w s)
   pub is : row ≡ row_seen (knows w s) key
+  pub room : FindsNoneFull v w s
 
 -- ---- writes
 
+-- the tail belongs to the record's range: it is one of the tails there, by its number, and these count from 1
+pub record IsTailOf (l : Limits) (rec tail : ℕ) : Type 0 where
+  pub number : ℕ
+  pub some : 0 < number
+  pub few : number ≤ l.tails
+  pub is : tail ≡ range_of rec * l.tails + number
+
 -- the transaction is open and may write; the act on the key is one more of its own writes, and fits what it saw. At most so many records
--- were drawn, and only where the key was found without one before
+-- were drawn, and only where the key was found without one before. No counter was found full. The write's tail is one of the range of the
+-- key's record
 pub record Accepts (v w : View) (s key most : ℕ) (act : Act) : Type 0 where
   pub may : MayWrite v s
   pub called : Called v w s
@@ -104,6 +129,8 @@ pub record Accepts (v w : View) (s key most : ℕ) (act : Act) : Type 0 where
   pub placed : HasKey (knows w s).facts rec key
   pub latched : (knows w s).latched ≡ (knows v s).latched ++ rec ∷ []
   pub done : (knows w s).done ≡ (knows v s).done ++ record { number = (knows v s).number; rec = rec; tail = tail } ∷ []
+  pub belongs : IsTailOf w.limits rec tail
+  pub room : FindsNoneFull v w s
 
 -- nothing was written. At most so many records were drawn, and only where the key was found without one before
 pub record Refuses (v w : View) (s key most : ℕ) : Type 0 where
@@ -162,27 +189,29 @@ pub record FindsUnfinished (v w : View) (s key j n : ℕ) : Type 0 where
   pub writer : version.writer ≡ name_of j n
   pub found : FoundSince v w s (UnfinishedVersion (rec + 1) version.tail j n ((knows v s).begin + 1))
 
--- every tail of the range of the key's record was found drawn
+-- every tail of the range of the key's record was found drawn, and no other counter full
 pub record FindsTails (v w : View) (s key : ℕ) : Type 0 where
   pub rec : ℕ
   pub placed : HasKey (knows w s).facts rec key
   pub found : FoundSince v w s (FullTails (range_of rec))
+  pub alone : FindsOneFull v w s (FullTails (range_of rec))
 
 -- the act doesn't fit what the transaction sees
 abbrev pub IsMisfit : View → ℕ → ℕ → Act → WriteRefusal → Type 0
 IsMisfit v s key act refusal = ¬ Fits (row_seen (knows v s) key) act × (refusal ≡ misfit_of act)
 
 -- why a write is refused: where no transaction is open, or the open one is read-only, nothing was done at all; any other refusal is of one
--- that is open and may write. Whether the act fits, and whether a tail is left, is asked only where the chain was judged
+-- that is open and may write. Whether the act fits, and whether a tail is left, is asked only where the chain was judged. Where a counter
+-- was found full, the refusal is TableFull or TailFull, by which of them it was
 abbrev pub Cause : View → View → ℕ → ℕ → Act → WriteRefusal → Type 0
 Cause v w s key act Idle = (w ≡ v) × ((knows v s).is_open ≡ false)
 Cause v w s key act ReadOnly = (w ≡ v) × ((knows v s).is_open ≡ true) × ((knows v s).read_only ≡ true)
-Cause v w s key act Missing = MayWrite v s × IsMisfit v s key act Missing × ((HasNotLatched v w s × HasNoRecord v w s key) ⊎ (HasLatched v w s key × WasJudged w.limits (knows w s) s key))
-Cause v w s key act Exists = MayWrite v s × IsMisfit v s key act Exists × HasLatched v w s key × WasJudged w.limits (knows w s) s key
-Cause v w s key act TableFull = MayWrite v s × (is_put act ≡ true) × FoundFull v w s key × HasNotLatched v w s × ((knows w s).placing.drawn ≡ (knows v s).placing.drawn)
-Cause v w s key act Latched = MayWrite v s × FindsLatch v w s key × HasNotLatched v w s
-Cause v w s key act (Newer time) = MayWrite v s × ((knows v s).begin < time) × ((name : ℕ) × WroteAt (knows w s).seen time name key) × HasLatched v w s key × FindsNewer w.limits (knows w s) key time
-Cause v w s key act (Unfinished j n) = MayWrite v s × FindsUnfinished v w s key j n × HasLatched v w s key
+Cause v w s key act Missing = MayWrite v s × IsMisfit v s key act Missing × ((HasNotLatched v w s × HasNoRecord v w s key) ⊎ (HasLatched v w s key × WasJudged w.limits (knows w s) s key)) × FindsNoneFull v w s
+Cause v w s key act Exists = MayWrite v s × IsMisfit v s key act Exists × HasLatched v w s key × WasJudged w.limits (knows w s) s key × FindsNoneFull v w s
+Cause v w s key act TableFull = MayWrite v s × (is_put act ≡ true) × FoundFull v w s key × HasNotLatched v w s × ((knows w s).placing.drawn ≡ (knows v s).placing.drawn) × FindsOneFull v w s FullRecords
+Cause v w s key act Latched = MayWrite v s × FindsLatch v w s key × HasNotLatched v w s × FindsNoneFull v w s
+Cause v w s key act (Newer time) = MayWrite v s × ((knows v s).begin < time) × ((name : ℕ) × WroteAt (knows w s).seen time name key) × HasLatched v w s key × FindsNewer w.limits (knows w s) key time × FindsNoneFull v w s
+Cause v w s key act (Unfinished j n) = MayWrite v s × FindsUnfinished v w s key j n × HasLatched v w s key × FindsNoneFull v w s
 Cause v w s key act TailFull = MayWrite v s × Fits (row_seen (knows v s) key) act × FindsTails v w s key × HasLatched v w s key × WasJudged w.limits (knows w s) s key
 
 -- ---- ends
@@ -199,6 +228,7 @@ pub record Commits (v w : View) (s time : ℕ) : Type 0 where
   pub place : length before + 1 ≡ time
   pub seen : let k = knows v s in (knows w s).seen ≡ before ++ commit s k.number k.begin k.own ∷ []
   pub mine : let k = knows v s in mine s (knows w s) ≡ mine s k ++ commit s k.number k.begin k.own ∷ []
+  pub room : FindsNoneFull v w s
 
 -- the transaction is over, without a commit
 pub record Ends (v w : View) (s : ℕ) : Type 0 where
@@ -207,6 +237,7 @@ pub record Ends (v w : View) (s : ℕ) : Type 0 where
   pub ended : HasEnded (knows v s) (knows w s)
   pub own : (knows w s).own ≡ []
   pub mine : mine s (knows w s) ≡ mine s (knows v s)
+  pub room : FindsNoneFull v w s
 
 -- the commit word was found held
 pub record FindsHeld (v w : View) (s : ℕ) : Type 0 where
@@ -215,3 +246,4 @@ pub record FindsHeld (v w : View) (s : ℕ) : Type 0 where
   pub lists : SameLists (knows v s) (knows w s)
   pub wrote : 0 < length (knows v s).own
   pub found : FoundSince v w s HeldTurn
+  pub room : FindsNoneFull v w s

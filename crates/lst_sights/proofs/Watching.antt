@@ -1,7 +1,8 @@
 -- What a session knows after looks.
-use Rattle.std.proofs.Common.{◌≡◌, ◌⊎◌, ℕ, ◌+◌, ◌<◌, ◌≤◌, true, arith, [], ◌∷◌, ◌++◌, cond, eqb, ◌&&◌, length, refl, sym, subst, ap, ◌∙◌, inl, inr, append_assoc, append-nil}
+use Rattle.std.proofs.Common.{◌≡◌, ◌⊎◌, ℕ, ◌+◌, ◌<◌, ◌≤◌, Bool, true, false, nat_lt, arith, [], ◌∷◌, ◌++◌, cond, eqb, ◌&&◌, length, refl, sym, subst, ap, ◌∙◌, inl, inr, append_assoc, append-nil}
 use Rattle.std.proofs.lemmas.List.{take-append-le}
-use Rattle.std.proofs.lemmas.List.Elements.{Contains-append_left}
+use Rattle.std.proofs.lemmas.List.Elements.{All-nil, All-cons, All-append, Contains-append_left}
+use Rattle.std.specs.List.{All}
 use Rattle.lst_layout.specs.declared.limits.Limits.{Limits}
 use Rattle.lst_layout.specs.declared.place.Place.{Place}
 use Rattle.lst_layout.specs.declared.place.Place.TheVariants.{ClockWord, CommitWord, EpochWord, RecordCounter, LogWord, BeginWord, StateWord, KeyWord, IndexWord, HeadWord, TailCounter, CellWord, DirectoryWord, FrameWord, PinWord, PostingWord}
@@ -12,8 +13,9 @@ use Rattle.lst_model.specs.Histories.{Extends}
 use Rattle.lst_core_state.specs.declared.known.Known.{Known}
 use Rattle.lst_core_state.specs.declared.known.Stage.{Stage}
 use Rattle.lst_core_state.specs.declared.known.Stage.TheVariants.{Away, Taken, Fresh, Logged, Stated, Done}
+use Rattle.lst_core_state.specs.declared.facts.Find.{Find}
 use Rattle.lst_core_state.specs.declared.facts.Find.TheVariants.{FreshClock, TailLoad, EmptyStart}
-use Rattle.lst_core_state.specs.Facts.{index_facts, chain_facts, state_fact, stored_fact, commit_fact, active_find, early_find}
+use Rattle.lst_core_state.specs.Facts.{index_facts, chain_facts, state_fact, stored_fact, commit_fact, unfinished, active_find, early_find}
 use Rattle.lst_core_state.specs.declared.events.Event.TheVariants.{Look}
 use Rattle.lst_core_state.specs.State.{Words, record_in, history_of, commits_of, mine}
 use Rattle.lst_core_state.specs.Step.{look_at, refreshed}
@@ -22,10 +24,28 @@ use Rattle.lst_rule.specs.Rule.{knows}
 use Rattle.lst_rule.specs.Learned.{Learns}
 use Rattle.lst_rule.proofs.Knowing.{is_seen, knows_own}
 use Rattle.lst_rule.proofs.Learning.{learns_on, learns_same, kept_by}
-use Rattle.lst_sights.specs.Watching.{Watches, Watched, IsWatched, IsStamped}
+use Rattle.lst_sights.specs.Watching.{IsNotFull, Watches, Watched, IsWatched, IsStamped}
 use Rattle.lst_sights.specs.Laws.{LooksWatch, StampsWatch, WatchesJoin, WatchersKeep, KeptBy}
 use Rattle.lst_sights.proofs.Stamps.{stamped_same, stamped_on, kept_stamped, made_stamped}
 use Rattle.lst_sights.proofs.Telling.{low, is_known, is_on_known}
+
+-- ---- no counter was found full
+
+pub one_not_full : (f : Find) → IsNotFull f → All IsNotFull (f ∷ [])
+one_not_full f is = All-cons IsNotFull f [] is (All-nil IsNotFull)
+
+maybe_not_full : (b : Bool) (f : Find) → IsNotFull f → All IsNotFull (cond b (f ∷ []) [])
+maybe_not_full true f is = one_not_full f is
+maybe_not_full false f is = All-nil IsNotFull
+
+early_not_full : (u : Known) (clock : ℕ) → All IsNotFull (early_find u clock)
+early_not_full u clock = maybe_not_full (nat_lt (clock + 1) u.looks.state) (unfinished u u.looks.session u.looks.number) tt
+
+-- a load of the clock finds none
+pub clock_not_full : (u : Known) (clock : ℕ) → All IsNotFull (FreshClock clock ∷ early_find u clock)
+clock_not_full u clock = All-cons IsNotFull (FreshClock clock) (early_find u clock) tt (early_not_full u clock)
+
+-- ---- looks
 
 -- nothing new
 pub watches_same : (u : Known) → Watches u u
@@ -37,6 +57,7 @@ watches_same u = record {
   looks = u.looks;
   is = λ i. record u { seen = sym (append-nil u.seen) i; turn = u.turn; facts = sym (append-nil u.facts) i; finds = sym (append-nil u.finds) i; looks = u.looks };
   stage = inl refl;
+  room = All-nil IsNotFull;
 }
 
 refreshed_again : (k : Stage) → refreshed (refreshed k) ≡ refreshed k
@@ -63,6 +84,7 @@ watches_on u v w a b = record {
   is = b.is ∙ (ap (λ (k : Known). record k { seen = k.seen ++ b.later; turn = b.turn; facts = k.facts ++ b.facts; finds = k.finds ++ b.finds; looks = b.looks }) a.is
       ∙ (λ i. record u { seen = append_assoc u.seen a.later b.later i; turn = b.turn; facts = append_assoc u.facts a.facts b.facts i; finds = append_assoc u.finds a.finds b.finds i; looks = b.looks }));
   stage = joined_stage u.turn a.turn b.turn a.stage (subst (λ (k : Stage). (b.turn ≡ k) ⊎ (b.turn ≡ refreshed k)) (ap (λ (k : Known). k.turn) a.is) b.stage);
+  room = All-append IsNotFull a.finds b.finds a.room b.room;
 }
 
 -- nothing was looked at
@@ -121,6 +143,7 @@ look_watches l w u ClockWord all is = record {
   looks = u.looks;
   is = λ i. record u { seen = all.1 i; turn = refreshed u.turn; facts = u.facts ++ index_facts l w; finds = u.finds ++ FreshClock w.clock ∷ early_find u w.clock; looks = u.looks };
   stage = inr refl;
+  room = clock_not_full u w.clock;
 }
 look_watches l w u (StateWord s n) all is = record {
   facts = state_fact w s n;
@@ -130,6 +153,7 @@ look_watches l w u (StateWord s n) all is = record {
   looks = record u.looks { state = w.states s n; session = s; number = n };
   is = λ i. record u { seen = sym (append-nil u.seen) i; turn = u.turn; facts = u.facts ++ state_fact w s n; finds = u.finds ++ active_find u s n (w.states s n); looks = record u.looks { state = w.states s n; session = s; number = n } };
   stage = inl refl;
+  room = maybe_not_full (eqb (w.states s n) 0) (unfinished u s n) tt;
 }
 look_watches l w u (HeadWord r) all is = record {
   facts = chain_facts l w r;
@@ -139,6 +163,7 @@ look_watches l w u (HeadWord r) all is = record {
   looks = u.looks;
   is = λ i. record u { seen = sym (append-nil u.seen) i; turn = u.turn; facts = u.facts ++ chain_facts l w r; finds = sym (append-nil u.finds) i; looks = u.looks };
   stage = inl refl;
+  room = All-nil IsNotFull;
 }
 look_watches l w u (CellWord t p) all is = record {
   facts = stored_fact l w t ++ commit_fact w.log (w.cells t 0);
@@ -154,6 +179,7 @@ look_watches l w u (CellWord t p) all is = record {
     looks = cond (eqb p 0) (record u.looks { start = w.cells t 0; about = record_in l w.cells t + 1; tail = t }) u.looks;
   };
   stage = inl refl;
+  room = All-cons IsNotFull (TailLoad t) (cond (eqb p 0 && eqb (w.cells t 0) 0) (EmptyStart t ∷ []) []) tt (maybe_not_full (eqb p 0 && eqb (w.cells t 0) 0) (EmptyStart t) tt);
 }
 look_watches l w u CommitWord all is = absurd is
 look_watches l w u EpochWord all is = absurd is

@@ -1,5 +1,6 @@
 -- What a session knows after it has only looked at versions, statuses and the clock.
 use Rattle.std.specs.Prelude.{◌≡◌, ◌⊎◌, ℕ, ◌<◌, List, ◌++◌, true, eqb}
+use Rattle.std.specs.List.{All}
 use Rattle.lst_layout.specs.declared.place.Place.{Place}
 use Rattle.lst_layout.specs.declared.place.Place.TheVariants.{ClockWord, StateWord, HeadWord, CellWord}
 use Rattle.lst_layout.specs.Words.{Words, shown}
@@ -9,13 +10,21 @@ use Rattle.lst_core_state.specs.declared.known.Looks.{Looks}
 use Rattle.lst_core_state.specs.declared.known.Stage.{Stage}
 use Rattle.lst_core_state.specs.declared.facts.Fact.{Fact}
 use Rattle.lst_core_state.specs.declared.facts.Find.{Find}
+use Rattle.lst_core_state.specs.declared.facts.Find.TheVariants.{FullRecords, FullTails}
 use Rattle.lst_core_state.specs.State.{writer_at, mine}
 use Rattle.lst_core_state.specs.Step.{refreshed}
 use Rattle.lst_rule.specs.declared.view.View.{View}
 use Rattle.lst_rule.specs.Rule.{knows}
 use Rattle.lst_rule.specs.Learned.{Learns}
 
--- v is u with more facts, finds and commits seen, and other words loaded last. Where u has the turn, the clock may be loaded in it
+-- a find of anything else than that a counter was full
+abbrev pub IsNotFull : Find → Type 0
+IsNotFull FullRecords = ⊥
+IsNotFull (FullTails range) = ⊥
+IsNotFull f = Unit {0}
+
+-- v is u with more facts, finds and commits seen, and other words loaded last. Where u has the turn, the clock may be loaded in it. No counter
+-- was found full
 pub record Watches (u v : Known) : Type 0 where
   pub facts : List Fact
   pub finds : List Find
@@ -24,6 +33,7 @@ pub record Watches (u v : Known) : Type 0 where
   pub looks : Looks
   pub is : v ≡ record u { seen = u.seen ++ later; turn = turn; facts = u.facts ++ facts; finds = u.finds ++ finds; looks = looks }
   pub stage : (turn ≡ u.turn) ⊎ (turn ≡ refreshed u.turn)
+  pub room : All IsNotFull finds
 
 -- the words differ in stamps alone: start words of stored tails, whose transactions stay the same
 pub record IsStamped (a b : Words) : Type 0 where
