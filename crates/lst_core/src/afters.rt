@@ -146,6 +146,7 @@ fn store_word(now: &mut Numbers, place: u32)
 }
 
 /// Changes the numbers of a session as its step on a word does, which found this.
+#[inline(always)]
 pub fn advance(layout: &Layout, now: &mut Numbers, event: Event, found: u64)
     requires within { step.IsWithin layout.now.limits event }
     requires writable { IsWritable layout.now.limits now.old event }

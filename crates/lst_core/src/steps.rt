@@ -21,11 +21,13 @@ pub fn cell_address(layout: &Layout, tail: u32, place: u32) -> u64
     ensures address { result ≡ address layout.now.limits (CellWord tail place) }
     ensures below { result < words_of layout.now.limits }
 {
-    let tails = layout.limits.tails;
-    layout.tail_cells((tail - 1) / tails, (tail - 1) % tails + 1, place)
+    let _all = layout.words;
+    let first = layout.tail_cells(0, 1, 0);
+    first + (tail - 1) as u64 * layout.limits.cell_words() + place as u64
 }
 
 /// The address of the word that a step is on.
+#[inline(always)]
 pub fn target(layout: &Layout, now: &Numbers, event: Event) -> u64
     requires within { step.IsWithin layout.now.limits event }
     requires place { addresses.IsWithin layout.now.limits (spec.place_for layout.now.limits now.now event) }
@@ -73,6 +75,7 @@ pub fn target(layout: &Layout, now: &Numbers, event: Event) -> u64
 }
 
 /// What a step makes of the word that it finds. A stamp stores `time`.
+#[inline(always)]
 pub fn written(limits: &Limits, now: &Numbers, time: u64, event: Event, found: u64) -> u64
     requires sized { IsValid limits.now }
     requires within { step.IsWithin limits.now event }

@@ -1,4 +1,5 @@
-//! One atomic step of a seat, by its operation.
+//! One atomic step of a seat, by its operation. Each is part of its caller, which knows the kind of step: so what a step stores, and which
+//! numbers it changes, is looked up by nobody at run time.
 ghost use Rattle.std.specs.Prelude.{◌≡◌, ◌<◌, ◌^◌, true};
 ghost use Rattle.lst_core_state.specs.Step.{session_of, IsWithin, Enabled};
 ghost use Rattle.lst_core.specs.Numbers.{place_for, written_of};
@@ -14,6 +15,7 @@ use lst_core::{Event, advance, target, written};
 use lst_rule::{add_one, compare_exchange, set_lowest_bit, store_word};
 
 /// A step that stores a word. A stamp stores the time.
+#[inline(always)]
 pub(crate) fn store_event(store: &Store, seat: &mut Seat, s: u32, event: Event, time: u64)
     requires seat { IsSeatOf store.now seat.old }
     requires host { hosts seat.old.view s ≡ true }
@@ -36,6 +38,7 @@ pub(crate) fn store_event(store: &Store, seat: &mut Seat, s: u32, event: Event, 
 }
 
 /// A step that exchanges 0 for another number, and answers what it found.
+#[inline(always)]
 pub(crate) fn exchange_event(store: &Store, seat: &mut Seat, s: u32, event: Event) -> u64
     requires seat { IsSeatOf store.now seat.old }
     requires host { hosts seat.old.view s ≡ true }
@@ -57,6 +60,7 @@ pub(crate) fn exchange_event(store: &Store, seat: &mut Seat, s: u32, event: Even
 }
 
 /// A step that adds 1, and answers what it found.
+#[inline(always)]
 pub(crate) fn draw_event(store: &Store, seat: &mut Seat, s: u32, event: Event) -> u64
     requires seat { IsSeatOf store.now seat.old }
     requires host { hosts seat.old.view s ≡ true }
@@ -77,6 +81,7 @@ pub(crate) fn draw_event(store: &Store, seat: &mut Seat, s: u32, event: Event) -
 }
 
 /// A step that sets the lowest bit, and answers what it found.
+#[inline(always)]
 pub(crate) fn latch_event(store: &Store, seat: &mut Seat, s: u32, event: Event) -> u64
     requires seat { IsSeatOf store.now seat.old }
     requires host { hosts seat.old.view s ≡ true }

@@ -1,6 +1,7 @@
 -- What the act of a version that is seen does.
 use Rattle.std.proofs.Common.{◌≡◌, ◌≢◌, ℕ, ◌+◌, ◌/◌, ◌%◌, ◌^◌, ◌<◌, List, Bool, true, false, cond, length, sym, subst, ap, ◌∙◌, arith, eq-eqb, ne_eqb}
-use Rattle.std.specs.Prelude.{Option, None, Some, slice_index, slice_get}
+use Rattle.std.specs.Prelude.{Option, None, Some, is_some, slice_index, slice_get}
+use Rattle.std.specs.List.{list_all}
 use Rattle.std.specs.Int.{bit_at}
 use Rattle.lst_layout.specs.declared.limits.Limits.{Limits}
 use Rattle.lst_bits.specs.declared.encodings.Encoding.{Encoding}
@@ -8,7 +9,6 @@ use Rattle.lst_bits.specs.declared.encodings.Kind.{Kind}
 use Rattle.lst_bits.specs.declared.encodings.Kind.TheVariants as kinds
 use Rattle.lst_model.specs.declared.acts.Act.{Act}
 use Rattle.lst_model.specs.declared.acts.Act.TheVariants.{Set}
-use Rattle.lst_model.specs.Cells.{Cell, overlaid}
 use Rattle.lst_model.specs.Histories.{row_after}
 use Rattle.lst_model.specs.Soundness.{Fits}
 use Rattle.lst_core_state.specs.Cells.{patched, has_bit}
@@ -18,8 +18,8 @@ use Rattle.lst_sights.specs.Seen.{act_by}
 use Rattle.lst_walk.specs.Readers.{IsAt}
 use Rattle.lst_walk.specs.Patches.{act_for, merged, cell_in}
 use Rattle.lst_walk.specs.Walks.{Acted, Told}
-use Rattle.lst_walk.specs.declared.rows.Visit.TheVariants.{Done, Older}
-use Rattle.lst_walk.proofs.Lists.{set_twice, length-merged, length-patched, patched_at, cell_set, cell_unset}
+use Rattle.lst_walk.specs.declared.rows.Visit.TheVariants.{Row, NoRow, Older}
+use Rattle.lst_walk.proofs.Lists.{set_twice, whole_row, length-merged, length-patched, patched_at, cell_set, cell_unset}
 use Rattle.lst_walk.proofs.Chains.{set_fits}
 
 -- bits of a mask
@@ -39,17 +39,20 @@ module _ (d : Version) (e : Encoding) (act : act_by d ≡ act_for e.kind e.mask 
   cell_at : (column : ℕ) → column < length d.values → slice_get (patched e.mask 0 d.values) column ≡ Some (cond (has_bit e.mask column) (Some (slice_index d.values column)) None)
   cell_at column low = patched_at e.mask 0 d.values column low ∙ ap (λ (n : ℕ). Some (cond (has_bit e.mask n) (Some (slice_index d.values column)) None)) (let f : 0 + column ≡ column = omega arith in f)
 
-  pub put_acted : (columns : ℕ) (patch more : List (Option ℕ)) (row : List Cell) → e.kind ≡ kinds.Put → row ≡ overlaid d.values patch → Acted d columns patch more (Done (Some row))
-  put_acted columns patch more row kind is older = ap (λ (r : List Cell). Some r) is ∙ ap (λ (a : Act). row_after (row_after older a) (Set patch)) (sym (kind_act kinds.Put kind))
+  pub put_acted : (columns : ℕ) (patch : List (Option ℕ)) → e.kind ≡ kinds.Put → Acted d columns patch patch Row
+  put_acted columns patch kind older wide fits = ap (λ (a : Act). row_after (row_after older a) (Set patch)) (kind_act kinds.Put kind)
 
-  pub del_acted : (columns : ℕ) (patch more : List (Option ℕ)) → e.kind ≡ kinds.Del → Acted d columns patch more (Done None)
-  del_acted columns patch more kind older = ap (λ (a : Act). row_after (row_after older a) (Set patch)) (sym (kind_act kinds.Del kind))
+  pub del_acted : (columns : ℕ) (patch more : List (Option ℕ)) → e.kind ≡ kinds.Del → Acted d columns patch more NoRow
+  del_acted columns patch more kind older = ap (λ (a : Act). row_after (row_after older a) (Set patch)) (kind_act kinds.Del kind)
 
   pub set_acted : (columns : ℕ) (patch more : List (Option ℕ)) → e.kind ≡ kinds.Set → length patch ≡ columns → length d.values ≡ columns → more ≡ merged patch (patched e.mask 0 d.values) → Acted d columns patch more Older
-  set_acted columns patch more kind wide values is = (
-    ap length is ∙ (length-merged patch (patched e.mask 0 d.values) ∙ wide),
-    λ older. ap (λ (a : Act). row_after (row_after older a) (Set patch)) (kind_act kinds.Set kind) ∙ (set_twice older patch (patched e.mask 0 d.values) (wide ∙ sym (length-patched e.mask 0 d.values ∙ values)) ∙ ap (λ (q : List (Option ℕ)). row_after older (Set q)) (sym is)),
-  )
+  set_acted columns patch more kind wide values is older = ap (λ (a : Act). row_after (row_after older a) (Set patch)) (kind_act kinds.Set kind)
+      ∙ (set_twice older patch (patched e.mask 0 d.values) (wide ∙ sym (length-patched e.mask 0 d.values ∙ values)) ∙ ap (λ (q : List (Option ℕ)). row_after older (Set q)) (sym is))
+
+  -- the set is of a row, of which no cell is left
+  pub set_whole : (columns : ℕ) (patch more : List (Option ℕ)) → e.kind ≡ kinds.Set → length patch ≡ columns → length d.values ≡ columns → more ≡ merged patch (patched e.mask 0 d.values) → list_all is_some more ≡ true → Acted d columns patch more Row
+  set_whole columns patch more kind wide values is all older has fits = set_acted columns patch more kind wide values is older
+      ∙ whole_row columns older d.values more has values (ap length is ∙ (length-merged patch (patched e.mask 0 d.values) ∙ wide)) (set_fits older (patched e.mask 0 d.values) (subst (λ (a : Act). Fits older a) (kind_act kinds.Set kind) fits)) all
 
   pub put_told : (columns column x : ℕ) → e.kind ≡ kinds.Put → x ≡ slice_index d.values column → Told d columns column (Some (Some x))
   put_told columns column x kind is older wide fits = ap (λ (a : Act). cell_in column (row_after older a)) (kind_act kinds.Put kind) ∙ ap (λ (n : ℕ). Some n) (sym is)

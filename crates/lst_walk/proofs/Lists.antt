@@ -1,6 +1,7 @@
 -- Rows and patches as lists.
 use Rattle.std.proofs.Common.{◌≡◌, ℕ, zero, suc, ◌+◌, ◌<◌, ◌≤◌, List, [], ◌∷◌, ◌++◌, true, cond, length, take, refl, sym, ap, ◌∙◌, arith, true≢false}
 use Rattle.std.specs.Prelude.{Option, None, Some, is_some, slice_index, slice_get, unwrap_or, replicate}
+use Rattle.std.specs.List.{list_all}
 use Rattle.lst_model.specs.declared.acts.Act.TheVariants.{Set}
 use Rattle.lst_model.specs.Cells.{Cell, overlaid}
 use Rattle.lst_model.specs.Histories.{row_after}
@@ -94,6 +95,19 @@ pub set_unset : (row : Option (List Cell)) (n : ℕ) → row_after row (Set (rep
 set_unset None n = refl
 set_unset (Some row) n = ap (λ (r : List ℕ). Some r) (overlaid_unset row n)
 
+-- a patch that sets each column leaves no cell of the row
+overlaid_whole : (row values : List ℕ) (patch : List (Option ℕ)) → length row ≡ length patch → length values ≡ length patch → list_all is_some patch ≡ true → overlaid row patch ≡ overlaid values patch
+overlaid_whole [] [] patch wide same all = refl
+overlaid_whole [] (x ∷ values) patch wide same all = absurd (omega arith)
+overlaid_whole (cell ∷ row) [] patch wide same all = absurd (omega arith)
+overlaid_whole (cell ∷ row) (x ∷ values) [] wide same all = absurd (omega arith)
+overlaid_whole (cell ∷ row) (x ∷ values) (None ∷ patch) wide same all = absurd (true≢false (sym all))
+overlaid_whole (cell ∷ row) (x ∷ values) (Some y ∷ patch) wide same all = ap (λ (r : List ℕ). y ∷ r) (overlaid_whole row values patch (let e : length row ≡ length patch = omega arith in e) (let e : length values ≡ length patch = omega arith in e) all)
+
+pub whole_row : (columns : ℕ) (row : Option (List Cell)) (values : List ℕ) (patch : List (Option ℕ)) → IsWide columns row → length values ≡ columns → length patch ≡ columns → is_some row ≡ true → list_all is_some patch ≡ true → row_after row (Set patch) ≡ Some (overlaid values patch)
+whole_row columns None values patch wide same few some all = absurd (true≢false (sym some))
+whole_row columns (Some row) values patch wide same few some all = let w : length row ≡ columns = wide in ap (λ (r : List ℕ). Some r) (overlaid_whole row values patch (omega arith) (omega arith) all)
+
 -- ---- one column
 
 index_unset : (row : List ℕ) (patch : List (Option ℕ)) (k : ℕ) → slice_get patch k ≡ Some None → slice_index (overlaid row patch) k ≡ slice_index row k
@@ -117,12 +131,11 @@ pub cell_set : (row : Option (List Cell)) (patch : List (Option ℕ)) (columns k
 cell_set None patch columns k x wide low some at = absurd (true≢false (sym some))
 cell_set (Some row) patch columns k x wide low some at = let w : length row ≡ columns = wide in ap (λ (n : ℕ). Some n) (index_set row patch k x (omega arith) at)
 
-pub replicate_more : {A : Type 0} (x : A) (n : ℕ) (items more : List A) → items ≡ replicate n x → more ≡ items ++ x ∷ [] → more ≡ replicate (n + 1) x
-replicate_more {A} x n items more is new = new ∙ (ap (λ (xs : List A). xs ++ x ∷ []) is ∙ (next n ∙ ap (λ (k : ℕ). replicate k x) (let e : suc n ≡ n + 1 = omega arith in e)))
-  where
-    next : (k : ℕ) → replicate k x ++ x ∷ [] ≡ replicate (suc k) x
-    next zero = refl
-    next (suc k) = ap (λ (xs : List A). x ∷ xs) (next k)
+pub take_same : {A : Type 0} (n m : ℕ) (x : A) → n ≤ m → take n (replicate m x) ≡ replicate n x
+take_same zero zero x low = refl
+take_same zero (suc m) x low = refl
+take_same (suc n) zero x low = absurd (omega arith)
+take_same (suc n) (suc m) x low = ap (λ xs. x ∷ xs) (take_same n m x (omega arith))
 
 pub patched_first : (mask : ℕ) (values : List ℕ) (k : ℕ) → k < length values → slice_get (patched mask 0 values) k ≡ Some (cond (has_bit mask k) (Some (slice_index values k)) None)
 patched_first mask values k low = patched_at mask 0 values k low ∙ ap (λ (n : ℕ). Some (cond (has_bit mask n) (Some (slice_index values k)) None)) (let f : 0 + k ≡ k = omega arith in f)

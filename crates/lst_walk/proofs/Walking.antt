@@ -4,7 +4,7 @@ use Rattle.std.specs.Prelude.{Option, None, Some, replicate}
 use Rattle.lst_layout.specs.declared.limits.Limits.{Limits}
 use Rattle.lst_model.specs.declared.acts.Act.{Act}
 use Rattle.lst_model.specs.declared.acts.Act.TheVariants.{Set}
-use Rattle.lst_model.specs.Cells.{Cell}
+use Rattle.lst_model.specs.Cells.{Cell, overlaid}
 use Rattle.lst_model.specs.Histories.{row_after, row_from}
 use Rattle.lst_model.specs.Soundness.{FitInTurn}
 use Rattle.lst_core_state.specs.declared.known.Known.{Known}
@@ -29,7 +29,7 @@ use Rattle.lst_walk.specs.Readers.{IsReader, IsAt, HasVersion}
 use Rattle.lst_walk.specs.Patches.{seen_after, cell_in}
 use Rattle.lst_walk.specs.Walks.{IsRowOf, IsCellOf, Visited, Acted, Tells, Told, RowWalk, CellWalk}
 use Rattle.lst_walk.specs.declared.rows.Visit.{Visit}
-use Rattle.lst_walk.specs.declared.rows.Visit.TheVariants.{Done, Older}
+use Rattle.lst_walk.specs.declared.rows.Visit.TheVariants.{Row, NoRow, Older}
 use Rattle.lst_walk.proofs.Reading.{watched_on, facts_on, sees_on}
 use Rattle.lst_walk.proofs.Lists.{set_unset, length-unset}
 use Rattle.lst_walk.proofs.Chains.{row_step, fit_step, wide_row}
@@ -62,11 +62,12 @@ range_low l rec range low e = omega arith
 -- ---- seen or not
 
 pub seen_visited : (v : Known) (s : ℕ) (c : Version) (columns : ℕ) (patch more : List (Option ℕ)) (r : Visit) → sees v s c.writer ≡ true → Acted c columns patch more r → Visited v s c columns patch more r
-seen_visited v s c columns patch more (Done row) seen acted = λ older. acted older ∙ ap (λ (b : Bool). row_after (cond b (row_after older (act_by c)) older) (Set patch)) (sym seen)
-seen_visited v s c columns patch more Older seen acted = (acted.0, λ older. ap (λ (b : Bool). row_after (cond b (row_after older (act_by c)) older) (Set patch)) seen ∙ acted.1 older)
+seen_visited v s c columns patch more Row seen acted = λ older wide fits. ap (λ (b : Bool). row_after (cond b (row_after older (act_by c)) older) (Set patch)) seen ∙ acted older wide (fits seen)
+seen_visited v s c columns patch more NoRow seen acted = λ older. ap (λ (b : Bool). row_after (cond b (row_after older (act_by c)) older) (Set patch)) seen ∙ acted older
+seen_visited v s c columns patch more Older seen acted = λ older. ap (λ (b : Bool). row_after (cond b (row_after older (act_by c)) older) (Set patch)) seen ∙ acted older
 
-pub unseen_visited : (v : Known) (s : ℕ) (c : Version) (columns : ℕ) (patch : List (Option ℕ)) → sees v s c.writer ≡ false → length patch ≡ columns → Visited v s c columns patch patch Older
-unseen_visited v s c columns patch unseen wide = (wide, λ older. ap (λ (b : Bool). row_after (cond b (row_after older (act_by c)) older) (Set patch)) unseen)
+pub unseen_visited : (v : Known) (s : ℕ) (c : Version) (columns : ℕ) (patch : List (Option ℕ)) → sees v s c.writer ≡ false → Visited v s c columns patch patch Older
+unseen_visited v s c columns patch unseen = λ older. ap (λ (b : Bool). row_after (cond b (row_after older (act_by c)) older) (Set patch)) unseen
 
 pub seen_tells : (v : Known) (s : ℕ) (c : Version) (columns column : ℕ) (r : Option (Option ℕ)) → sees v s c.writer ≡ true → Told c columns column r → Tells v s c columns column r
 seen_tells v s c columns column None seen told = λ older. ap (λ (b : Bool). cell_in column (cond b (row_after older (act_by c)) older)) seen ∙ told older
@@ -93,6 +94,7 @@ module _ (store : Store) (v : View) (seat : Sitting) (s rec head : ℕ) (p : Pos
     wide = ap length is ∙ length-unset store.layout.limits.columns;
     versions = found.copy;
     chain = found.is.chain;
+    fits = λ key has. subst (λ (xs : List Act). FitInTurn None xs) (copy_sight key has) (sights_fit v s rec key p host opened has);
     answers = λ key has. ap (row_from None) (copy_sight key has) ∙ (sym (set_unset (row_from None (seen_acts (knows v s) s found.copy)) store.layout.limits.columns) ∙ ap (λ (q : List (Option ℕ)). row_after (row_from None (seen_acts (knows v s) s found.copy)) (Set q)) (sym is));
   }
 
@@ -112,23 +114,35 @@ module _ (store : Store) (v : View) (a b d : Sitting) (s rec n range t m : ℕ) 
   seen_same : Possible v → Watched v a.view s → (c : Version) (older : Option (List Cell)) → seen_after (knows a.view s) s c older ≡ seen_after (knows v s) s c older
   seen_same p watched c older = ap (λ (e : Bool). cond e (row_after older (act_by c)) older) (sees_on v a.view s c.writer p host opened watched)
 
-  pub row_next : (patch more : List (Option ℕ)) → RowWalk store v a s rec n patch → Watched a.view b.view s → ((c : Version) → IsAt a.view s t c → Visited (knows a.view s) s c store.layout.limits.columns patch more Older)
+  -- the row, by its newest version and the patch
+  newest_after : (c : Version) (cs : List Version) (patch : List (Option ℕ)) (walk : RowWalk store v a s rec n patch) → walk.versions ≡ c ∷ cs → (key : ℕ) → HasKey (knows v s).facts rec key
+      → row_from None (sight (knows v s) key) ≡ row_after (seen_after (knows a.view s) s c (row_from None (seen_acts (knows v s) s cs))) (Set patch)
+  newest_after c cs patch walk is key has = walk.answers key has ∙ (ap (λ (ds : List Version). row_after (row_from None (seen_acts (knows v s) s ds)) (Set patch)) is
+      ∙ ap (λ (r : Option (List Cell)). row_after r (Set patch)) (row_step (knows v s) s c cs ∙ sym (seen_same walk.possible walk.watched c (row_from None (seen_acts (knows v s) s cs)))))
+
+  pub row_next : (patch more : List (Option ℕ)) → RowWalk store v a s rec n patch → Watched a.view b.view s → length more ≡ store.layout.limits.columns → ((c : Version) → IsAt a.view s t c → Visited (knows a.view s) s c store.layout.limits.columns patch more Older)
       → IsReader store d s → Watched b.view d.view s → ((c : Version) → IsAt a.view s t c → m ≡ c.back) → RowWalk store v d s rec m more
-  row_next patch more walk ab visited reader bd back = let q = at_number store a s rec n walk.reader walk.versions walk.chain some range t range_is tail_is in let ad = watched_on a.view b.view d.view s ab bd in let vis = visited q.0 q.3 in record {
+  row_next patch more walk ab wide visited reader bd back = let q = at_number store a s rec n walk.reader walk.versions walk.chain some range t range_is tail_is in let ad = watched_on a.view b.view d.view s ab bd in record {
     reader = reader;
     possible = walk.possible;
     watched = watched_on v a.view d.view s walk.watched ad;
-    wide = vis.0;
+    wide = wide;
     versions = q.1;
     chain = subst (λ (k : ℕ). IsChainFrom store.layout.limits (knows d.view s).facts rec k q.1) (sym (back q.0 q.3)) (chain_stays store.layout.limits (knows a.view s).facts (knows d.view s).facts rec q.0.back q.1 (facts_on a.view d.view s ad) q.5);
-    answers = λ key has. let older : Option (List Cell) = row_from None (seen_acts (knows v s) s q.1) in walk.answers key has ∙ (ap (λ (cs : List Version). row_after (row_from None (seen_acts (knows v s) s cs)) (Set patch)) q.2
-        ∙ (ap (λ (r : Option (List Cell)). row_after r (Set patch)) (row_step (knows v s) s q.0 q.1 ∙ sym (seen_same walk.possible walk.watched q.0 older)) ∙ vis.1 older));
+    fits = λ key has. (fit_step (knows v s) s q.0 q.1 (subst (λ (cs : List Version). FitInTurn None (seen_acts (knows v s) s cs)) q.2 (walk.fits key has))).0;
+    answers = λ key has. newest_after q.0 q.1 patch walk q.2 key has ∙ visited q.0 q.3 (row_from None (seen_acts (knows v s) s q.1));
   }
 
-  pub row_done : (patch more : List (Option ℕ)) (row : Option (List Cell)) → RowWalk store v a s rec n patch → ((c : Version) → IsAt a.view s t c → Visited (knows a.view s) s c store.layout.limits.columns patch more (Done row)) → IsRowOf v s rec row
-  row_done patch more row walk visited key has = let q = at_number store a s rec n walk.reader walk.versions walk.chain some range t range_is tail_is in let older : Option (List Cell) = row_from None (seen_acts (knows v s) s q.1) in
-      visited q.0 q.3 older ∙ sym (walk.answers key has ∙ (ap (λ (cs : List Version). row_after (row_from None (seen_acts (knows v s) s cs)) (Set patch)) q.2
-      ∙ ap (λ (r : Option (List Cell)). row_after r (Set patch)) (row_step (knows v s) s q.0 q.1 ∙ sym (seen_same walk.possible walk.watched q.0 older))))
+  pub row_done : (patch more : List (Option ℕ)) (row : List Cell) → RowWalk store v a s rec n patch → ((c : Version) → IsAt a.view s t c → Visited (knows a.view s) s c store.layout.limits.columns patch more Row)
+      → ((c : Version) → IsAt a.view s t c → row ≡ overlaid c.values more) → IsRowOf v s rec (Some row)
+  row_done patch more row walk visited is key has = let q = at_number store a s rec n walk.reader walk.versions walk.chain some range t range_is tail_is in
+      let fits = (fit_step (knows v s) s q.0 q.1 (subst (λ (cs : List Version). FitInTurn None (seen_acts (knows v s) s cs)) q.2 (walk.fits key has))).1 in
+      ap (λ (r : List Cell). Some r) (is q.0 q.3) ∙ sym (newest_after q.0 q.1 patch walk q.2 key has
+      ∙ visited q.0 q.3 (row_from None (seen_acts (knows v s) s q.1)) (wide_row store.layout.limits rec (knows v s) s q.1 q.5.whole) (λ e. fits (sym (sees_on v a.view s q.0.writer walk.possible host opened walk.watched) ∙ e)))
+
+  pub row_gone : (patch more : List (Option ℕ)) → RowWalk store v a s rec n patch → ((c : Version) → IsAt a.view s t c → Visited (knows a.view s) s c store.layout.limits.columns patch more NoRow) → IsRowOf v s rec None
+  row_gone patch more walk visited key has = let q = at_number store a s rec n walk.reader walk.versions walk.chain some range t range_is tail_is in
+      sym (newest_after q.0 q.1 patch walk q.2 key has ∙ visited q.0 q.3 (row_from None (seen_acts (knows v s) s q.1)))
 
   pub cell_next : (column : ℕ) → CellWalk store v a s rec column n → Watched a.view b.view s → ((c : Version) → IsAt a.view s t c → Tells (knows a.view s) s c store.layout.limits.columns column None)
       → IsReader store d s → Watched b.view d.view s → ((c : Version) → IsAt a.view s t c → m ≡ c.back) → CellWalk store v d s rec column m

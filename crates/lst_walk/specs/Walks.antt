@@ -1,7 +1,7 @@
 -- Walks along a record's chain.
-use Rattle.std.specs.Prelude.{◌≡◌, ℕ, List, Option, Some, None, length, take, true}
+use Rattle.std.specs.Prelude.{◌≡◌, ℕ, ◌<◌, ◌≤◌, List, Option, Some, None, length, take, true, slice_index_or}
 use Rattle.lst_model.specs.declared.acts.Act.TheVariants.{Set}
-use Rattle.lst_model.specs.Cells.{Cell}
+use Rattle.lst_model.specs.Cells.{Cell, overlaid}
 use Rattle.lst_model.specs.Histories.{row_after, row_from}
 use Rattle.lst_model.specs.Soundness.{Fits, FitInTurn}
 use Rattle.lst_core_state.specs.State.{sight}
@@ -17,7 +17,7 @@ use Rattle.lst_sights.specs.Watching.{Watched}
 use Rattle.lst_walk.specs.Readers.{IsReader, IsAt}
 use Rattle.lst_walk.specs.Patches.{seen_after, cell_in, IsWide}
 use Rattle.lst_walk.specs.declared.rows.Visit.{Visit}
-use Rattle.lst_walk.specs.declared.rows.Visit.TheVariants.{Done, Older}
+use Rattle.lst_walk.specs.declared.rows.Visit.TheVariants.{Row, NoRow, Older}
 
 -- the row of the record that the session's open transaction sees, where the facts have the record's key
 abbrev pub IsRowOf : View → ℕ → ℕ → Option (List Cell) → Type 0
@@ -27,15 +27,17 @@ IsRowOf v s rec row = (key : ℕ) → HasKey (knows v s).facts rec key → row �
 abbrev pub IsCellOf : View → ℕ → ℕ → ℕ → Option Cell → Type 0
 IsCellOf v s rec column cell = (key : ℕ) → HasKey (knows v s).facts rec key → cell ≡ cell_in column (row_from None (sight (knows v s) key))
 
--- what a visit of the version c makes of the patch of the newer versions, whatever row the older ones leave: the row, or more of a patch
+-- what a visit of the version c makes of the patch of the newer versions, whatever row the older ones leave that the version fits
 abbrev pub Visited : Known → ℕ → Version → ℕ → List (Option ℕ) → List (Option ℕ) → Visit → Type 0
-Visited v s c columns patch more (Done row) = (older : Option (List Cell)) → row ≡ row_after (seen_after v s c older) (Set patch)
-Visited v s c columns patch more Older = (length more ≡ columns) × ((older : Option (List Cell)) → row_after (seen_after v s c older) (Set patch) ≡ row_after older (Set more))
+Visited v s c columns patch more Row = (older : Option (List Cell)) → IsWide columns older → (sees v s c.writer ≡ true → Fits older (act_by c)) → row_after (seen_after v s c older) (Set patch) ≡ Some (overlaid c.values more)
+Visited v s c columns patch more NoRow = (older : Option (List Cell)) → row_after (seen_after v s c older) (Set patch) ≡ None
+Visited v s c columns patch more Older = (older : Option (List Cell)) → row_after (seen_after v s c older) (Set patch) ≡ row_after older (Set more)
 
 -- the same where it is seen
 abbrev pub Acted : Version → ℕ → List (Option ℕ) → List (Option ℕ) → Visit → Type 0
-Acted c columns patch more (Done row) = (older : Option (List Cell)) → row ≡ row_after (row_after older (act_by c)) (Set patch)
-Acted c columns patch more Older = (length more ≡ columns) × ((older : Option (List Cell)) → row_after (row_after older (act_by c)) (Set patch) ≡ row_after older (Set more))
+Acted c columns patch more Row = (older : Option (List Cell)) → IsWide columns older → Fits older (act_by c) → row_after (row_after older (act_by c)) (Set patch) ≡ Some (overlaid c.values more)
+Acted c columns patch more NoRow = (older : Option (List Cell)) → row_after (row_after older (act_by c)) (Set patch) ≡ None
+Acted c columns patch more Older = (older : Option (List Cell)) → row_after (row_after older (act_by c)) (Set patch) ≡ row_after older (Set more)
 
 -- what the version c tells of a column: its cell, or nothing
 abbrev pub Tells : Known → ℕ → Version → ℕ → ℕ → Option (Option ℕ) → Type 0
@@ -55,6 +57,7 @@ pub record RowWalk (store : Store) (v : View) (seat : Sitting) (s rec n : ℕ) (
   pub wide : length patch ≡ store.layout.limits.columns
   pub versions : List Version
   pub chain : IsChainFrom store.layout.limits (knows seat.view s).facts rec n versions
+  pub fits : (key : ℕ) → HasKey (knows v s).facts rec key → FitInTurn None (seen_acts (knows v s) s versions)
   pub answers : (key : ℕ) → HasKey (knows v s).facts rec key → row_from None (sight (knows v s) key) ≡ row_after (row_from None (seen_acts (knows v s) s versions)) (Set patch)
 
 -- the walk for a cell: the newer versions tell nothing of the column
@@ -73,3 +76,11 @@ pub record Fills {A : Type 0} (store : Store) (v : View) (seat : Sitting) (s tai
   pub watched : Watched v seat.view s
   pub count : length items ≡ k
   pub made : (c : Version) → IsAt v s tail c → items ≡ take k (target c)
+
+-- the first k cells of the patch are those that the version at the tail makes of it, and the others are as before
+pub record Merges (store : Store) (v : View) (seat : Sitting) (s tail k : ℕ) (before now : List (Option ℕ)) (target : Version → List (Option ℕ)) : Type 0 where
+  pub reader : IsReader store seat s
+  pub watched : Watched v seat.view s
+  pub count : length now ≡ length before
+  pub made : (c : Version) → IsAt v s tail c → (i : ℕ) → i < k → slice_index_or now i None ≡ slice_index_or (target c) i None
+  pub rest : (i : ℕ) → k ≤ i → slice_index_or now i None ≡ slice_index_or before i None

@@ -1,5 +1,6 @@
 //! A record's row.
-ghost use Rattle.std.specs.Prelude.{◌≡◌, ℕ, ◌+◌, ◌*◌, ◌<◌, ◌≤◌, true, length, slice_index, replicate, unwrap_or, cond, None, Some};
+ghost use Rattle.std.specs.Prelude.{◌≡◌, ℕ, ◌+◌, ◌*◌, ◌<◌, ◌≤◌, true, length, slice_index, unwrap_or, cond, is_some, None, Some};
+ghost use Rattle.std.specs.List.{list_all};
 ghost use Rattle.lst_model.specs.Cells.{overlaid};
 ghost use Rattle.lst_core_state.specs.Cells.{record_count, patched, has_bit};
 ghost use Rattle.lst_rule.specs.Rule.{knows, hosts};
@@ -14,20 +15,22 @@ use crate::stamps::is_seen;
 use crate::words::{back, encoding, head, tail_of, value};
 use arrayvec::ArrayVec;
 use lst_bits::{Kind, has_column};
-use lst_model::{Patch, Row};
+use lst_model::Row;
 use lst_seat::{RecordId, Seat, Store};
 
 /// What a visit of a version comes to.
 pub(crate) enum Visit {
-    /// The row, or that there is none.
-    Done(Option<Row>),
-    /// The patch has the cells that this version and the newer ones set, for the row of the older ones.
+    /// The row is that of the version's values, with the patch on it.
+    Row,
+    /// There is no row.
+    NoRow,
+    /// The row is that of the older versions, with the patch on it.
     Older,
 }
 
 /// The row of a record that the open transaction sees: that of the snapshot at its begin, with its own writes on it. None comes exactly where
-/// it sees no row. The walk goes along the chain from the newest version, to the first put or delete that is seen, and stamps
-/// each version that it finds committed.
+/// it sees no row. The walk goes along the chain from the newest version, to the first put or delete that is seen or until each column is set,
+/// and stamps each version that it finds committed.
 pub fn row(store: &Store, seat: &mut Seat, s: u32, rec: RecordId) -> Option<Row>
     requires seat { IsSeatOf store.now seat.old }
     requires host { hosts seat.old.view s ≡ true }
@@ -40,33 +43,29 @@ pub fn row(store: &Store, seat: &mut Seat, s: u32, rec: RecordId) -> Option<Row>
 {
     seat.consider();
     let range = rec.number / 256;
-    let mut patch = unset(store.layout().limits.columns);
+    let mut cells = [None; 8];
+    let patch = &mut cells[..store.layout().limits.columns as usize];
     let mut number = head(store, seat, s, rec);
     while number > 0 {
-        match look(store, seat, s, range, number, &mut patch) {
-            Visit::Done(row) => return row,
-            Visit::Older => {}
+        let tail = tail_of(store, range, number);
+        match look(store, seat, s, range, number, patch) {
+            Visit::Row => return Some(row_under(store, seat, s, tail, patch)),
+            Visit::NoRow => return None,
+            Visit::Older => number = back(store, seat, s, tail),
         }
-        number = back(store, seat, s, tail_of(store, range, number));
     }
     None
 }
 
-/// A patch that sets none of this many columns.
-fn unset(columns: u32) -> Patch
-    requires { columns ≤ 8 }
-    ensures { result ≡ replicate columns None }
-{
-    let mut cells = ArrayVec::new();
-    for made in 0..columns {
-        cells.push(None);
-        let _ = made;
-    }
-    Patch::new(cells)
-}
-
 /// Looks at a version of a range, by the number of its tail record, under a patch of newer versions.
-fn look(store: &Store, seat: &mut Seat, s: u32, range: u32, number: u32, patch: &mut Patch) -> Visit
+fn look(
+    store: &Store,
+    seat: &mut Seat,
+    s: u32,
+    range: u32,
+    number: u32,
+    patch: &mut [Option<u64>],
+) -> Visit
     requires reader { IsReader store.now seat.old s }
     requires range { range < store.now.layout.limits.ranges }
     requires number { (0 < number) × (number ≤ store.now.layout.limits.tails) }
@@ -84,7 +83,7 @@ fn look(store: &Store, seat: &mut Seat, s: u32, range: u32, number: u32, patch: 
 }
 
 /// Looks at a version that is seen, under a patch of newer versions.
-fn acted(store: &Store, seat: &mut Seat, s: u32, tail: u32, patch: &mut Patch) -> Visit
+fn acted(store: &Store, seat: &mut Seat, s: u32, tail: u32, patch: &mut [Option<u64>]) -> Visit
     requires reader { IsReader store.now seat.old s }
     requires version { HasVersion seat.old.view s tail }
     requires wide { length patch.old ≡ store.now.layout.limits.columns }
@@ -94,17 +93,28 @@ fn acted(store: &Store, seat: &mut Seat, s: u32, tail: u32, patch: &mut Patch) -
 {
     let encoding = encoding(store, seat, s, tail);
     match encoding.kind {
-        Kind::Put => Visit::Done(Some(put_under(store, seat, s, tail, patch))),
+        Kind::Put => Visit::Row,
         Kind::Set => {
             set_under(store, seat, s, tail, encoding.mask, patch);
-            Visit::Older
+            if is_whole(patch) {
+                Visit::Row
+            } else {
+                Visit::Older
+            }
         }
-        Kind::Del => Visit::Done(None),
+        Kind::Del => Visit::NoRow,
     }
 }
 
-/// The row of a put, with a patch of newer versions on it.
-fn put_under(store: &Store, seat: &mut Seat, s: u32, tail: u32, patch: &Patch) -> Row
+/// Whether a patch sets each column.
+fn is_whole(patch: &[Option<u64>]) -> bool
+    ensures { result ≡ list_all is_some patch.now }
+{
+    patch.iter().all(|cell| cell.is_some())
+}
+
+/// The row of a version's values, with a patch of newer versions on it.
+fn row_under(store: &Store, seat: &mut Seat, s: u32, tail: u32, patch: &[Option<u64>]) -> Row
     requires reader { IsReader store.now seat.old s }
     requires version { HasVersion seat.old.view s tail }
     requires wide { length patch.now ≡ store.now.layout.limits.columns }
@@ -114,14 +124,14 @@ fn put_under(store: &Store, seat: &mut Seat, s: u32, tail: u32, patch: &Patch) -
 {
     let mut cells = ArrayVec::new();
     for column in 0..store.layout().limits.columns {
-        let newer = patch.cell(column as usize);
-        cells.push(put_cell(store, seat, s, tail, column, newer));
+        let newer = patch[column as usize];
+        cells.push(value_under(store, seat, s, tail, column, newer));
     }
     Row::new(cells)
 }
 
-/// The cell of a column of a put, or that of newer versions, where there is one.
-fn put_cell(
+/// The value of a column of a version, or the cell of newer versions, where there is one.
+fn value_under(
     store: &Store,
     seat: &mut Seat,
     s: u32,
@@ -143,7 +153,7 @@ fn put_cell(
 }
 
 /// Puts the cells of a set with this mask under those of a patch of newer versions.
-fn set_under(store: &Store, seat: &mut Seat, s: u32, tail: u32, mask: u8, patch: &mut Patch)
+fn set_under(store: &Store, seat: &mut Seat, s: u32, tail: u32, mask: u8, patch: &mut [Option<u64>])
     requires reader { IsReader store.now seat.old s }
     requires version { HasVersion seat.old.view s tail }
     requires wide { length patch.old ≡ store.now.layout.limits.columns }
@@ -151,12 +161,10 @@ fn set_under(store: &Store, seat: &mut Seat, s: u32, tail: u32, mask: u8, patch:
     ensures watched { Watched seat.old.view seat.new.view s }
     ensures patch { (c : Version) → IsAt seat.old.view s tail c → patch.new ≡ merged patch.old (patched mask 0 c.values) }
 {
-    let mut cells = ArrayVec::new();
     for column in 0..store.layout().limits.columns {
-        let newer = patch.cell(column as usize);
-        cells.push(set_cell(store, seat, s, tail, mask, column, newer));
+        let newer = patch[column as usize];
+        patch[column as usize] = set_cell(store, seat, s, tail, mask, column, newer);
     }
-    *patch = Patch::new(cells);
 }
 
 /// The cell that newer versions set in a column, or else that of a set with this mask, if there is one.

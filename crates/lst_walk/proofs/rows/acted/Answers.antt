@@ -1,27 +1,30 @@
+use Rattle.std.proofs.Common.{sym, ◌∙◌}
 use Rattle.lst_walk.proofs.Reading.{at_on, version_on, watched_on}
-use Rattle.lst_walk.proofs.Acting.{columns_of, put_acted, del_acted, set_acted}
+use Rattle.lst_walk.proofs.Acting.{columns_of, put_acted, del_acted, set_acted, set_whole}
 use Rattle.lst_walk.proofs.rows.acted.Goals as goal
 
 pub returns-in-Put-clause-acted : goal.returns-in-Put-clause-acted
-returns-in-Put-clause-acted c = λ d at. put_acted d c.encoding-encoding.result (c.encoding-encoding.ensures.act d at) c.args.store.now.layout.limits.columns c.args.patch.now c.args.patch.now c.put_under.result c.in-Put.is
-    (c.put_under.ensures.row d (at_on c.args.seat.now.view c.encoding-encoding.new.seat.view c.args.s c.args.tail d c.encoding-encoding.ensures.watched at))
+returns-in-Put-clause-acted c = λ d at. put_acted d c.encoding-encoding.result (c.encoding-encoding.ensures.act d at) c.args.store.now.layout.limits.columns c.args.patch.now c.in-Put.is
 
 pub returns-in-Del-clause-acted : goal.returns-in-Del-clause-acted
 returns-in-Del-clause-acted c = λ d at. del_acted d c.encoding-encoding.result (c.encoding-encoding.ensures.act d at) c.args.store.now.layout.limits.columns c.args.patch.now c.args.patch.now c.in-Del.is
 
-pub returns-in-Set-clause-acted : goal.returns-in-Set-clause-acted
-returns-in-Set-clause-acted c = λ d at. set_acted d c.encoding-encoding.result (c.encoding-encoding.ensures.act d at) c.args.store.now.layout.limits.columns c.args.patch.now c.set_under.new.patch c.in-Set.is c.requires.wide
-    (columns_of c.args.store.now.layout.limits c.args.seat.now.view c.args.s c.args.tail d c.requires.reader.seat_of.limits at)
-    (c.set_under.ensures.patch d (at_on c.args.seat.now.view c.encoding-encoding.new.seat.view c.args.s c.args.tail d c.encoding-encoding.ensures.watched at))
-
-pub put_under-requires-clause-version : goal.put_under-requires-clause-version
-put_under-requires-clause-version c = version_on c.args.seat.now.view c.encoding-encoding.new.seat.view c.args.s c.args.tail c.encoding-encoding.ensures.watched c.requires.version
-
-pub returns-in-Put-clause-watched : goal.returns-in-Put-clause-watched
-returns-in-Put-clause-watched c = watched_on c.args.seat.now.view c.encoding-encoding.new.seat.view c.put_under.new.seat.view c.args.s c.encoding-encoding.ensures.watched c.put_under.ensures.watched
-
 pub set_under-requires-clause-version : goal.set_under-requires-clause-version
 set_under-requires-clause-version c = version_on c.args.seat.now.view c.encoding-encoding.new.seat.view c.args.s c.args.tail c.encoding-encoding.ensures.watched c.requires.version
 
-pub returns-in-Set-clause-watched : goal.returns-in-Set-clause-watched
-returns-in-Set-clause-watched c = watched_on c.args.seat.now.view c.encoding-encoding.new.seat.view c.set_under.new.seat.view c.args.s c.encoding-encoding.ensures.watched c.set_under.ensures.watched
+pub returns-then-is_whole-clause-watched : goal.returns-then-is_whole-clause-watched
+returns-then-is_whole-clause-watched c = watched_on c.args.seat.now.view c.encoding-encoding.new.seat.view c.set_under.new.seat.view c.args.s c.encoding-encoding.ensures.watched c.set_under.ensures.watched
+
+pub returns-else-is_whole-clause-watched : goal.returns-else-is_whole-clause-watched
+returns-else-is_whole-clause-watched c = watched_on c.args.seat.now.view c.encoding-encoding.new.seat.view c.set_under.new.seat.view c.args.s c.encoding-encoding.ensures.watched c.set_under.ensures.watched
+
+pub returns-then-is_whole-clause-acted : goal.returns-then-is_whole-clause-acted
+returns-then-is_whole-clause-acted c = λ d at. set_whole d c.encoding-encoding.result (c.encoding-encoding.ensures.act d at) c.args.store.now.layout.limits.columns c.args.patch.now c.set_under.new.patch c.in-Set.is c.requires.wide
+    (columns_of c.args.store.now.layout.limits c.args.seat.now.view c.args.s c.args.tail d c.requires.reader.seat_of.limits at)
+    (c.set_under.ensures.patch d (at_on c.args.seat.now.view c.encoding-encoding.new.seat.view c.args.s c.args.tail d c.encoding-encoding.ensures.watched at))
+    (sym c.is_whole.ensures ∙ c.if-is_whole.true)
+
+pub returns-else-is_whole-clause-acted : goal.returns-else-is_whole-clause-acted
+returns-else-is_whole-clause-acted c = λ d at. set_acted d c.encoding-encoding.result (c.encoding-encoding.ensures.act d at) c.args.store.now.layout.limits.columns c.args.patch.now c.set_under.new.patch c.in-Set.is c.requires.wide
+    (columns_of c.args.store.now.layout.limits c.args.seat.now.view c.args.s c.args.tail d c.requires.reader.seat_of.limits at)
+    (c.set_under.ensures.patch d (at_on c.args.seat.now.view c.encoding-encoding.new.seat.view c.args.s c.args.tail d c.encoding-encoding.ensures.watched at))

@@ -18,4 +18,4 @@ pub returns-then-is_seen-clause-visited : goal.returns-then-is_seen-clause-visit
 returns-then-is_seen-clause-visited c = λ d at. seen_visited (knows c.args.seat.now.view c.args.s) c.args.s d c.args.store.now.layout.limits.columns c.args.patch.now c.acted.new.patch c.acted.result (sym (c.is_seen.ensures.seen d at) ∙ c.if-is_seen.true) (c.acted.ensures.acted d (at_same c.is_seen.new.seat.view c.args.s _ c.tail_of.result d (sym c.tail_of.ensures) (at_on c.args.seat.now.view c.is_seen.new.seat.view c.args.s _ d c.is_seen.ensures.watched at)))
 
 pub returns-else-is_seen-clause-visited : goal.returns-else-is_seen-clause-visited
-returns-else-is_seen-clause-visited c = λ d at. unseen_visited (knows c.args.seat.now.view c.args.s) c.args.s d c.args.store.now.layout.limits.columns c.args.patch.now (sym (c.is_seen.ensures.seen d at) ∙ c.if-is_seen.false) c.requires.wide
+returns-else-is_seen-clause-visited c = λ d at. unseen_visited (knows c.args.seat.now.view c.args.s) c.args.s d c.args.store.now.layout.limits.columns c.args.patch.now (sym (c.is_seen.ensures.seen d at) ∙ c.if-is_seen.false)

@@ -1,9 +1,10 @@
-use Rattle.std.proofs.Common.{◌*◌, ◌+◌, ◌/◌, refl, sym, ap, ◌∙◌, arith}
+use Rattle.std.proofs.Common.{ℕ, ◌*◌, ◌+◌, ◌/◌, refl, sym, ap, ◌∙◌, arith}
 use Rattle.std.specs.Prelude.{replicate, None}
 use Rattle.lst_layout.specs.declared.layout.Layout.{Layout}
-use Rattle.lst_walk.proofs.Reading.{at_on, watched_on}
-use Rattle.lst_walk.proofs.Stamping.{at_same}
-use Rattle.lst_walk.proofs.Walking.{number_few, at_number, version_number, range_low, row_start, row_next, row_done, row_over}
+use Rattle.lst_walk.proofs.Reading.{at_on, version_on, watched_on}
+use Rattle.lst_walk.proofs.Stamping.{at_same, has_same}
+use Rattle.lst_walk.proofs.Lists.{take_same}
+use Rattle.lst_walk.proofs.Walking.{number_few, at_number, version_number, range_low, row_start, row_next, row_done, row_gone, row_over}
 use Rattle.lst_walk.proofs.rows.row.Goals as goal
 
 pub head-number-requires-clause-reader : goal.head-number-requires-clause-reader
@@ -21,38 +22,44 @@ look-requires-clause-number c = (c.loop-number-test.true, number_few c.args.stor
 pub look-requires-clause-version : goal.look-requires-clause-version
 look-requires-clause-version c = version_number c.args.store.now c.loop-number.seat c.args.s c.args.rec.number c.loop-number.number c.loop-number.invariant.reader c.loop-number.invariant.versions c.loop-number.invariant.chain c.loop-number-test.true (c.args.rec.number / 256) (c.args.rec.number / 256 * c.args.store.now.layout.limits.tails + c.loop-number.number) refl refl
 
-pub tail_of-requires-clause-range : goal.tail_of-requires-clause-range
-tail_of-requires-clause-range c = range_low c.args.store.now.layout.limits c.args.rec.number (c.args.rec.number / 256) c.requires.rec refl
+pub tail_of-tail-requires-clause-range : goal.tail_of-tail-requires-clause-range
+tail_of-tail-requires-clause-range c = range_low c.args.store.now.layout.limits c.args.rec.number (c.args.rec.number / 256) c.requires.rec refl
 
-pub tail_of-requires-clause-number : goal.tail_of-requires-clause-number
-tail_of-requires-clause-number c = number_few c.args.store.now c.loop-number.seat c.args.s c.args.rec.number c.loop-number.number c.loop-number.invariant.reader c.loop-number.invariant.versions c.loop-number.invariant.chain c.loop-number-test.true
+pub tail_of-tail-requires-clause-number : goal.tail_of-tail-requires-clause-number
+tail_of-tail-requires-clause-number c = number_few c.args.store.now c.loop-number.seat c.args.s c.args.rec.number c.loop-number.number c.loop-number.invariant.reader c.loop-number.invariant.versions c.loop-number.invariant.chain c.loop-number-test.true
 
 pub back-number-requires-clause-version : goal.back-number-requires-clause-version
-back-number-requires-clause-version c = let q = at_number c.args.store.now c.loop-number.seat c.args.s c.args.rec.number c.loop-number.number c.loop-number.invariant.reader c.loop-number.invariant.versions c.loop-number.invariant.chain c.loop-number-test.true (c.args.rec.number / 256) (c.args.rec.number / 256 * c.args.store.now.layout.limits.tails + c.loop-number.number) refl refl in (q.0, at_same c.look.new.seat.view c.args.s (c.args.rec.number / 256 * c.args.store.now.layout.limits.tails + c.loop-number.number) c.tail_of.result q.0 (sym c.tail_of.ensures) (at_on c.loop-number.seat.view c.look.new.seat.view c.args.s (c.args.rec.number / 256 * c.args.store.now.layout.limits.tails + c.loop-number.number) q.0 c.look.ensures.watched q.3), let falls = q.4 in let few = c.args.store.now.layout.valid.tails.1 in let n = number_few c.args.store.now c.loop-number.seat c.args.s c.args.rec.number c.loop-number.number c.loop-number.invariant.reader c.loop-number.invariant.versions c.loop-number.invariant.chain c.loop-number-test.true in omega arith)
+back-number-requires-clause-version c = let q = at_number c.args.store.now c.loop-number.seat c.args.s c.args.rec.number c.loop-number.number c.loop-number.invariant.reader c.loop-number.invariant.versions c.loop-number.invariant.chain c.loop-number-test.true (c.args.rec.number / 256) (c.args.rec.number / 256 * c.args.store.now.layout.limits.tails + c.loop-number.number) refl refl in (q.0, at_same c.look.new.seat.view c.args.s (c.args.rec.number / 256 * c.args.store.now.layout.limits.tails + c.loop-number.number) c.tail_of-tail.result q.0 (sym c.tail_of-tail.ensures) (at_on c.loop-number.seat.view c.look.new.seat.view c.args.s (c.args.rec.number / 256 * c.args.store.now.layout.limits.tails + c.loop-number.number) q.0 c.look.ensures.watched q.3), let falls = q.4 in let few = c.args.store.now.layout.valid.tails.1 in let n = number_few c.args.store.now c.loop-number.seat c.args.s c.args.rec.number c.loop-number.number c.loop-number.invariant.reader c.loop-number.invariant.versions c.loop-number.invariant.chain c.loop-number-test.true in omega arith)
 
 pub loop-number-smaller : goal.loop-number-smaller
-loop-number-smaller c = let q = at_number c.args.store.now c.loop-number.seat c.args.s c.args.rec.number c.loop-number.number c.loop-number.invariant.reader c.loop-number.invariant.versions c.loop-number.invariant.chain c.loop-number-test.true (c.args.rec.number / 256) (c.args.rec.number / 256 * c.args.store.now.layout.limits.tails + c.loop-number.number) refl refl in let e = c.back-number.ensures.back q.0 (at_same c.look.new.seat.view c.args.s (c.args.rec.number / 256 * c.args.store.now.layout.limits.tails + c.loop-number.number) c.tail_of.result q.0 (sym c.tail_of.ensures) (at_on c.loop-number.seat.view c.look.new.seat.view c.args.s (c.args.rec.number / 256 * c.args.store.now.layout.limits.tails + c.loop-number.number) q.0 c.look.ensures.watched q.3)) in let falls = q.4 in omega arith
-
-pub unset-patch-requires : goal.unset-patch-requires
-unset-patch-requires c = let e = ap (λ (y : Layout). y.limits.columns) c.layout.ensures in let few = c.args.store.now.layout.valid.columns.1 in omega arith
+loop-number-smaller c = let q = at_number c.args.store.now c.loop-number.seat c.args.s c.args.rec.number c.loop-number.number c.loop-number.invariant.reader c.loop-number.invariant.versions c.loop-number.invariant.chain c.loop-number-test.true (c.args.rec.number / 256) (c.args.rec.number / 256 * c.args.store.now.layout.limits.tails + c.loop-number.number) refl refl in let e = c.back-number.ensures.back q.0 (at_same c.look.new.seat.view c.args.s (c.args.rec.number / 256 * c.args.store.now.layout.limits.tails + c.loop-number.number) c.tail_of-tail.result q.0 (sym c.tail_of-tail.ensures) (at_on c.loop-number.seat.view c.look.new.seat.view c.args.s (c.args.rec.number / 256 * c.args.store.now.layout.limits.tails + c.loop-number.number) q.0 c.look.ensures.watched q.3)) in let falls = q.4 in omega arith
 
 pub loop-number-init : goal.loop-number-init
-loop-number-init c = row_start c.args.store.now c.args.seat.now.view c.head-number.new.seat c.args.s c.args.rec.number c.head-number.result c.consider.ensures c.requires.host c.requires.opened c.head-number.ensures.reader c.head-number.ensures.watched c.head-number.ensures.chain c.unset-patch.result (c.unset-patch.ensures ∙ ap (λ (y : Layout). replicate y.limits.columns None) c.layout.ensures)
-
-pub look-requires-clause-wide : goal.look-requires-clause-wide
-look-requires-clause-wide c = c.loop-number.invariant.wide
-
-pub returns-in-Done-clause-watched : goal.returns-in-Done-clause-watched
-returns-in-Done-clause-watched c = watched_on c.args.seat.now.view c.loop-number.seat.view c.look.new.seat.view c.args.s c.loop-number.invariant.watched c.look.ensures.watched
-
-pub returns-in-Done-clause-row : goal.returns-in-Done-clause-row
-returns-in-Done-clause-row c = row_done c.args.store.now c.args.seat.now.view c.loop-number.seat c.look.new.seat c.look.new.seat c.args.s c.args.rec.number c.loop-number.number (c.args.rec.number / 256) (c.args.rec.number / 256 * c.args.store.now.layout.limits.tails + c.loop-number.number) 0 c.requires.host c.requires.opened c.loop-number-test.true refl refl c.loop-number.patch c.look.new.patch c.in-Done.row c.loop-number.invariant c.in-Done.ensures.visited
+loop-number-init c = let l = ap (λ (y : Layout). y.limits.columns) c.layout.ensures in let few = c.args.store.now.layout.valid.columns.1 in
+    row_start c.args.store.now c.args.seat.now.view c.head-number.new.seat c.args.s c.args.rec.number c.head-number.result c.consider.ensures c.requires.host c.requires.opened c.head-number.ensures.reader c.head-number.ensures.watched c.head-number.ensures.chain _ (take_same c.layout.result.now.limits.columns 8 None (omega arith) ∙ ap (λ (n : ℕ). replicate n None) l)
 
 pub loop-number-preserved : goal.loop-number-preserved
-loop-number-preserved c = row_next c.args.store.now c.args.seat.now.view c.loop-number.seat c.look.new.seat c.back-number.new.seat c.args.s c.args.rec.number c.loop-number.number (c.args.rec.number / 256) (c.args.rec.number / 256 * c.args.store.now.layout.limits.tails + c.loop-number.number) c.back-number.result c.requires.host c.requires.opened c.loop-number-test.true refl refl c.loop-number.patch c.look.new.patch c.loop-number.invariant c.look.ensures.watched c.in-Older.ensures.visited c.back-number.ensures.reader c.back-number.ensures.watched (λ d at. c.back-number.ensures.back d (at_same c.look.new.seat.view c.args.s (c.args.rec.number / 256 * c.args.store.now.layout.limits.tails + c.loop-number.number) c.tail_of.result d (sym c.tail_of.ensures) (at_on c.loop-number.seat.view c.look.new.seat.view c.args.s (c.args.rec.number / 256 * c.args.store.now.layout.limits.tails + c.loop-number.number) d c.look.ensures.watched at)))
+loop-number-preserved c = row_next c.args.store.now c.args.seat.now.view c.loop-number.seat c.look.new.seat c.back-number.new.seat c.args.s c.args.rec.number c.loop-number.number (c.args.rec.number / 256) (c.args.rec.number / 256 * c.args.store.now.layout.limits.tails + c.loop-number.number) c.back-number.result c.requires.host c.requires.opened c.loop-number-test.true refl refl c.loop-number.patch c.look.new.patch c.loop-number.invariant c.look.ensures.watched (c.look.auto.patch ∙ c.loop-number.invariant.wide) c.in-Older.ensures.visited c.back-number.ensures.reader c.back-number.ensures.watched (λ d at. c.back-number.ensures.back d (at_same c.look.new.seat.view c.args.s (c.args.rec.number / 256 * c.args.store.now.layout.limits.tails + c.loop-number.number) c.tail_of-tail.result d (sym c.tail_of-tail.ensures) (at_on c.loop-number.seat.view c.look.new.seat.view c.args.s (c.args.rec.number / 256 * c.args.store.now.layout.limits.tails + c.loop-number.number) d c.look.ensures.watched at)))
 
 pub returns-clause-watched : goal.returns-clause-watched
 returns-clause-watched c = c.loop-number.invariant.watched
 
 pub returns-clause-row : goal.returns-clause-row
 returns-clause-row c = row_over c.args.store.now c.args.seat.now.view c.loop-number.seat c.args.s c.args.rec.number c.loop-number.number c.loop-number.patch c.loop-number-test.false c.loop-number.invariant
+
+pub row_under-requires-clause-version : goal.row_under-requires-clause-version
+row_under-requires-clause-version c = has_same c.look.new.seat.view c.args.s (c.args.rec.number / 256 * c.args.store.now.layout.limits.tails + c.loop-number.number) c.tail_of-tail.result (sym c.tail_of-tail.ensures)
+    (version_on c.loop-number.seat.view c.look.new.seat.view c.args.s _ c.look.ensures.watched (version_number c.args.store.now c.loop-number.seat c.args.s c.args.rec.number c.loop-number.number c.loop-number.invariant.reader c.loop-number.invariant.versions c.loop-number.invariant.chain c.loop-number-test.true (c.args.rec.number / 256) (c.args.rec.number / 256 * c.args.store.now.layout.limits.tails + c.loop-number.number) refl refl))
+
+pub returns-in-Row-clause-watched : goal.returns-in-Row-clause-watched
+returns-in-Row-clause-watched c = watched_on c.args.seat.now.view c.look.new.seat.view c.row_under.new.seat.view c.args.s (watched_on c.args.seat.now.view c.loop-number.seat.view c.look.new.seat.view c.args.s c.loop-number.invariant.watched c.look.ensures.watched) c.row_under.ensures.watched
+
+pub returns-in-Row-clause-row : goal.returns-in-Row-clause-row
+returns-in-Row-clause-row c = row_done c.args.store.now c.args.seat.now.view c.loop-number.seat c.look.new.seat c.look.new.seat c.args.s c.args.rec.number c.loop-number.number (c.args.rec.number / 256) (c.args.rec.number / 256 * c.args.store.now.layout.limits.tails + c.loop-number.number) 0 c.requires.host c.requires.opened c.loop-number-test.true refl refl c.loop-number.patch c.look.new.patch c.row_under.result c.loop-number.invariant c.in-Row.ensures.visited
+    (λ d at. c.row_under.ensures.row d (at_same c.look.new.seat.view c.args.s (c.args.rec.number / 256 * c.args.store.now.layout.limits.tails + c.loop-number.number) c.tail_of-tail.result d (sym c.tail_of-tail.ensures) (at_on c.loop-number.seat.view c.look.new.seat.view c.args.s (c.args.rec.number / 256 * c.args.store.now.layout.limits.tails + c.loop-number.number) d c.look.ensures.watched at)))
+
+pub returns-in-NoRow-clause-watched : goal.returns-in-NoRow-clause-watched
+returns-in-NoRow-clause-watched c = watched_on c.args.seat.now.view c.loop-number.seat.view c.look.new.seat.view c.args.s c.loop-number.invariant.watched c.look.ensures.watched
+
+pub returns-in-NoRow-clause-row : goal.returns-in-NoRow-clause-row
+returns-in-NoRow-clause-row c = row_gone c.args.store.now c.args.seat.now.view c.loop-number.seat c.look.new.seat c.look.new.seat c.args.s c.args.rec.number c.loop-number.number (c.args.rec.number / 256) (c.args.rec.number / 256 * c.args.store.now.layout.limits.tails + c.loop-number.number) 0 c.requires.host c.requires.opened c.loop-number-test.true refl refl c.loop-number.patch c.look.new.patch c.loop-number.invariant c.in-NoRow.ensures.visited
