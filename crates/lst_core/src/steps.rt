@@ -21,6 +21,7 @@ pub fn cell_address(layout: &Layout, tail: u32, place: u32) -> u64
     ensures address { result ≡ address layout.now.limits (CellWord tail place) }
     ensures below { result < words_of layout.now.limits }
 {
+    // Each address is below the number of words, which fits.
     let _all = layout.words;
     let first = layout.tail_cells(0, 1, 0);
     first + (tail - 1) as u64 * layout.limits.cell_words() + place as u64
