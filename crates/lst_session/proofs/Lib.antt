@@ -4,3 +4,4 @@ pub mod Judging
 pub mod Writing
 pub mod Answering
 pub mod Sounding
+pub mod Readying

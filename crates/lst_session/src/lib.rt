@@ -3,6 +3,8 @@
 
 mod laws;
 mod session;
+#[cfg(test)]
+mod tests;
 
 pub use laws::seen_is_sound;
 pub use lst_calls::{CommitRefusal, Outcome, WriteRefusal};
