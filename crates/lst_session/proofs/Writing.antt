@@ -344,10 +344,10 @@ module _ (v u w : View) (s rec key most : ℕ) (act : Act) (may : MayWrite v s) 
     held : Latching u r.between s rec
     held = holding u r.between s rec key act (Err refusal) own_s r.holding
 
-    back : Keeping r.between w s
+    pub back : Keeping r.between w s
     back = release_keeping r.between w s r.view
 
-    freed : Latching u w s rec
+    pub freed : Latching u w s rec
     freed = latching_on u r.between w s rec held back
 
     pub refuses : Refuses v w s key most
@@ -359,8 +359,23 @@ module _ (v u w : View) (s rec key most : ℕ) (act : Act) (may : MayWrite v s) 
     pub counters : Counters v w s rec (Err refusal)
     counters = counters_on v u w s rec comes.room (Err refusal) (released_counters u w s rec key act refusal r)
 
-    pub has_latched : HasLatched v w s key
-    has_latched = record { rec = rec; placed = key_to w freed; latched = latched_to w freed }
+    -- since the latch
+    pub under : Steps r.holding.between w s
+    under = let h : View = r.holding.between in let first = latch_goes u h s rec r.holding.head r.holding.latches in
+        steps_on h r.between w s (prepares_keeping h r.between s rec r.holding.head key act (own_then u h s first.steps own_s) (Err refusal) r.holding.prepares).goes.steps back.goes.steps
+
+    abbrev pub has_latched : HasLatched v w s key
+    has_latched = record {
+      rec = rec;
+      head = r.holding.head;
+      placed = key_to w freed;
+      latched = latched_to w freed;
+      before = u;
+      after = r.holding.between;
+      first = steps_called v u s comes.steps;
+      latches = r.holding.latches;
+      last = steps_called r.holding.between w s under;
+    }
 
     -- the misfit was found at r.between
     pub is_misfit : ¬ Fits (row_from None (sight (knows r.between s) key)) act → ¬ Fits (row_seen (knows v s) key) act
@@ -374,12 +389,12 @@ module _ (v u w : View) (s rec key most : ℕ) (act : Act) (may : MayWrite v s) 
     begin_held : (knows r.between s).begin ≡ (knows v s).begin
     begin_held = (to r.between held).stays.same.transaction.begin
 
-    seen_back : (knows w s).seen ≡ (knows r.between s).seen
+    pub seen_back : (knows w s).seen ≡ (knows r.between s).seen
     seen_back = ap (λ (k : Known). k.seen) r.view.now
 
     -- the chain was judged at r.between
-    was_judged : HasJudged r.between.limits (knows r.between s) s rec r.holding.head → WasJudged w.limits (knows w s) s key
-    was_judged judged = record { rec = rec; head = r.holding.head; placed = key_to w freed; judged = judged_then r.between w s rec r.holding.head back.goes.steps seen_back judged }
+    was_judged : HasJudged r.between.limits (knows r.between s) s rec r.holding.head → WasJudged v w s key
+    was_judged is = record { latch = has_latched; judged = judged_then r.between w s rec r.holding.head back.goes.steps seen_back is }
 
   -- the record was found latched
   module _ (f : IsLatched u w s rec) where
@@ -421,27 +436,25 @@ module _ (v u w : View) (s rec key most : ℕ) (act : Act) (may : MayWrite v s) 
 
   -- each refusal has its cause
   pub caused : (refusal : WriteRefusal) → Tries u w s rec key act (Err refusal) → Cause v w s key act refusal
+  unfolding was_judged
   caused Idle t = absurd (never_idle u w s rec key act t)
   caused ReadOnly t = absurd (never_read_only u w s rec key act t)
   caused TableFull t = absurd (never_table_full u w s rec key act t)
   caused Latched t = latched_cause t
-  caused Missing t = (may, (is_misfit Missing t t.holding.prepares.agrees.0, t.holding.prepares.agrees.1), inr (has_latched Missing t, was_judged Missing t t.holding.prepares.judged), counters Missing t)
-  caused Exists t = (may, (is_misfit Exists t t.holding.prepares.agrees.0, t.holding.prepares.agrees.1), has_latched Exists t, was_judged Exists t t.holding.prepares.judged, counters Exists t)
+  caused Missing t = (may, (is_misfit Missing t t.holding.prepares.agrees.0, t.holding.prepares.agrees.1), inr (was_judged Missing t t.holding.prepares.judged), counters Missing t)
+  caused Exists t = (may, (is_misfit Exists t t.holding.prepares.agrees.0, t.holding.prepares.agrees.1), was_judged Exists t t.holding.prepares.judged, counters Exists t)
   caused (Newer time) t = let f = t.holding.prepares.1 in (
     may,
     subst (λ (b : ℕ). b < time) (begin_held (Newer time) t) f.above,
     (f.version.writer, subst (λ (h : List Commit). WroteAt h time f.version.writer key) (sym (seen_back (Newer time) t)) (f.wrote key (key_to t.between (held (Newer time) t)))),
-    has_latched (Newer time) t,
-    record { rec = rec; head = t.holding.head; placed = key_to w (freed (Newer time) t); newer = newer_then t.between w s t.view rec t.holding.head time f },
+    record { latch = has_latched (Newer time) t; newer = newer_then t.between w s t.view rec t.holding.head time f },
     counters (Newer time) t,
   )
   caused (Unfinished j n) t = let f = t.holding.prepares.1 in (
     may,
     record {
       other = f.other;
-      rec = rec;
-      head = t.holding.head;
-      placed = key_to w (freed (Unfinished j n) t);
+      latch = has_latched (Unfinished j n) t;
       passed = f.passed;
       version = f.version;
       older = f.older;
@@ -449,7 +462,6 @@ module _ (v u w : View) (s rec key most : ℕ) (act : Act) (may : MayWrite v s) 
       writer = f.writer;
       found = since (Unfinished j n) t _ (subst (λ (b : ℕ). FoundSince t.holding.between t.between s (UnfinishedVersion (rec + 1) f.version.tail j n (b + 1))) (begin_held (Unfinished j n) t) f.found);
     },
-    has_latched (Unfinished j n) t,
     counters (Unfinished j n) t,
   )
   caused TailFull t = let p = t.holding.prepares in let h : View = t.holding.between in
@@ -458,8 +470,7 @@ module _ (v u w : View) (s rec key most : ℕ) (act : Act) (may : MayWrite v s) 
         may,
         subst (λ (row : Option (List Cell)). Fits row act) (same_row v p.between s key early (steps_on v h p.between s (to h first) watched.goes.steps)) p.judges.agrees,
         record {
-          rec = rec;
-          placed = key_to w (freed TailFull t);
+          judged = was_judged TailFull t (judged_then p.between t.between s rec t.holding.head (full_keeping p.between t.between s (range_of rec) p.full).goes.steps (ap (λ (k : Known). k.seen) p.full.counts.view.now) p.judges.judged);
           found = since TailFull t (FullTails (range_of rec)) (found_on h p.between t.between s (FullTails (range_of rec)) watched.goes.steps.stays.grown record {
             more = CountedTails (range_of rec) p.full.count ∷ FullTails (range_of rec) ∷ [];
             grows = ap (λ (k : Known). k.finds) p.full.counts.view.now;
@@ -467,8 +478,6 @@ module _ (v u w : View) (s rec key most : ℕ) (act : Act) (may : MayWrite v s) 
           });
           alone = counters TailFull t;
         },
-        has_latched TailFull t,
-        was_judged TailFull t (judged_then p.between t.between s rec t.holding.head (full_keeping p.between t.between s (range_of rec) p.full).goes.steps (ap (λ (k : Known). k.seen) p.full.counts.view.now) p.judges.judged),
       )
 
   pub refused : (refusal : WriteRefusal) → Tries u w s rec key act (Err refusal) → Refuses v w s key most × Cause v w s key act refusal

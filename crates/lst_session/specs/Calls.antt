@@ -23,6 +23,7 @@ use Rattle.lst_sights.specs.Judging.{WroteAt}
 use Rattle.lst_sights.specs.Watching.{IsNotFull}
 use Rattle.lst_index.specs.Searches.{Ended, Works}
 use Rattle.lst_index.specs.Placings.{Drew, DrawsAfterLook, FoundFull}
+use Rattle.lst_write.specs.Holding.{Latches}
 use Rattle.lst_write.specs.Standings.{FoundSince}
 use Rattle.lst_write.specs.Judgements.{HasJudged, Stops, FoundNewer}
 use Rattle.lst_crew_state.specs.Effects.{SameTransactions, HasBegun, HasEnded}
@@ -140,11 +141,17 @@ pub record Refuses (v w : View) (s key most : ℕ) : Type 0 where
   pub drew : Drew (knows v s).placing (knows w s).placing most
   pub after_look : DrawsAfterLook v w s key
 
--- the key's record was latched
+-- the key's record was latched in the call, and its newest version found to have the number `head` in its range
 pub record HasLatched (v w : View) (s key : ℕ) : Type 0 where
   pub rec : ℕ
+  pub head : ℕ
   pub placed : HasKey (knows w s).facts rec key
   pub latched : (knows w s).latched ≡ (knows v s).latched ++ rec ∷ []
+  pub before : View
+  pub after : View
+  pub first : Called v before s
+  pub latches : Latches before after s rec head
+  pub last : Called after w s
 
 -- no record was
 abbrev pub HasNotLatched : View → View → ℕ → Type 0
@@ -161,58 +168,54 @@ pub record FindsLatch (v w : View) (s key : ℕ) : Type 0 where
   pub placed : HasKey (knows w s).facts rec key
   pub found : FoundSince v w s (LatchedRecord rec)
 
--- the chain of the key's record was judged: its newest version that isn't closed is one that the open transaction of s sees. The facts
--- that say so stay, whatever comes after
-pub record WasJudged (l : Limits) (k : Known) (s key : ℕ) : Type 0 where
-  pub rec : ℕ
-  pub head : ℕ
-  pub placed : HasKey k.facts rec key
-  pub judged : HasJudged l k s rec head
+-- the key's record was latched, and the chain that the latch found was judged: its newest version that isn't closed is one that the open
+-- transaction of s sees. The facts that say so stay, whatever comes after
+pub record WasJudged (v w : View) (s key : ℕ) : Type 0 where
+  pub latch : HasLatched v w s key
+  pub judged : HasJudged w.limits (knows w s) s latch.rec latch.head
 
--- the newest version of the key's record that isn't closed was found committed at the time, which is above the begin
-pub record FindsNewer (l : Limits) (k : Known) (key time : ℕ) : Type 0 where
-  pub rec : ℕ
-  pub head : ℕ
-  pub placed : HasKey k.facts rec key
-  pub newer : FoundNewer l k rec head time
+-- the key's record was latched, and of the chain that the latch found the newest version that isn't closed was found committed at the time,
+-- which is above the begin
+pub record FindsNewer (v w : View) (s key time : ℕ) : Type 0 where
+  pub latch : HasLatched v w s key
+  pub newer : FoundNewer w.limits (knows w s) latch.rec latch.head time
 
--- the newest version of the key's record that isn't closed was found unfinished, by the transaction n of another session j
+-- the key's record was latched, and of the chain that the latch found the newest version that isn't closed was found unfinished, by the
+-- transaction n of another session j
 pub record FindsUnfinished (v w : View) (s key j n : ℕ) : Type 0 where
   pub other : j ≢ s
-  pub rec : ℕ
-  pub head : ℕ
-  pub placed : HasKey (knows w s).facts rec key
+  pub latch : HasLatched v w s key
   pub passed : List Version
   pub version : Version
   pub older : List Version
-  pub stops : Stops w.limits (knows w s) rec head passed version older
+  pub stops : Stops w.limits (knows w s) latch.rec latch.head passed version older
   pub writer : version.writer ≡ name_of j n
-  pub found : FoundSince v w s (UnfinishedVersion (rec + 1) version.tail j n ((knows v s).begin + 1))
+  pub found : FoundSince v w s (UnfinishedVersion (latch.rec + 1) version.tail j n ((knows v s).begin + 1))
 
--- every tail of the range of the key's record was found drawn, and no other counter full
+-- the chain was judged, and then every tail of the range of the key's record found drawn, and no other counter full
 pub record FindsTails (v w : View) (s key : ℕ) : Type 0 where
-  pub rec : ℕ
-  pub placed : HasKey (knows w s).facts rec key
-  pub found : FoundSince v w s (FullTails (range_of rec))
-  pub alone : FindsOneFull v w s (FullTails (range_of rec))
+  pub judged : WasJudged v w s key
+  pub found : FoundSince v w s (FullTails (range_of judged.latch.rec))
+  pub alone : FindsOneFull v w s (FullTails (range_of judged.latch.rec))
 
 -- the act doesn't fit what the transaction sees
 abbrev pub IsMisfit : View → ℕ → ℕ → Act → WriteRefusal → Type 0
 IsMisfit v s key act refusal = ¬ Fits (row_seen (knows v s) key) act × (refusal ≡ misfit_of act)
 
 -- why a write is refused: where no transaction is open, or the open one is read-only, nothing was done at all; any other refusal is of one
--- that is open and may write. Whether the act fits, and whether a tail is left, is asked only where the chain was judged. Where a counter
+-- that is open and may write. Once the key has a record, whether the act fits, and whether a tail is left, is asked only where the chain was judged
+-- under the latch. Where a counter
 -- was found full, the refusal is TableFull or TailFull, by which of them it was
 abbrev pub Cause : View → View → ℕ → ℕ → Act → WriteRefusal → Type 0
 Cause v w s key act Idle = (w ≡ v) × ((knows v s).is_open ≡ false)
 Cause v w s key act ReadOnly = (w ≡ v) × ((knows v s).is_open ≡ true) × ((knows v s).read_only ≡ true)
-Cause v w s key act Missing = MayWrite v s × IsMisfit v s key act Missing × ((HasNotLatched v w s × HasNoRecord v w s key) ⊎ (HasLatched v w s key × WasJudged w.limits (knows w s) s key)) × FindsNoneFull v w s
-Cause v w s key act Exists = MayWrite v s × IsMisfit v s key act Exists × HasLatched v w s key × WasJudged w.limits (knows w s) s key × FindsNoneFull v w s
+Cause v w s key act Missing = MayWrite v s × IsMisfit v s key act Missing × ((HasNotLatched v w s × HasNoRecord v w s key) ⊎ WasJudged v w s key) × FindsNoneFull v w s
+Cause v w s key act Exists = MayWrite v s × IsMisfit v s key act Exists × WasJudged v w s key × FindsNoneFull v w s
 Cause v w s key act TableFull = MayWrite v s × (is_put act ≡ true) × FoundFull v w s key × HasNotLatched v w s × ((knows w s).placing.drawn ≡ (knows v s).placing.drawn) × FindsOneFull v w s FullRecords
 Cause v w s key act Latched = MayWrite v s × FindsLatch v w s key × HasNotLatched v w s × FindsNoneFull v w s
-Cause v w s key act (Newer time) = MayWrite v s × ((knows v s).begin < time) × ((name : ℕ) × WroteAt (knows w s).seen time name key) × HasLatched v w s key × FindsNewer w.limits (knows w s) key time × FindsNoneFull v w s
-Cause v w s key act (Unfinished j n) = MayWrite v s × FindsUnfinished v w s key j n × HasLatched v w s key × FindsNoneFull v w s
-Cause v w s key act TailFull = MayWrite v s × Fits (row_seen (knows v s) key) act × FindsTails v w s key × HasLatched v w s key × WasJudged w.limits (knows w s) s key
+Cause v w s key act (Newer time) = MayWrite v s × ((knows v s).begin < time) × ((name : ℕ) × WroteAt (knows w s).seen time name key) × FindsNewer v w s key time × FindsNoneFull v w s
+Cause v w s key act (Unfinished j n) = MayWrite v s × FindsUnfinished v w s key j n × FindsNoneFull v w s
+Cause v w s key act TailFull = MayWrite v s × Fits (row_seen (knows v s) key) act × FindsTails v w s key
 
 -- ---- ends
 
