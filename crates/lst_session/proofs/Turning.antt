@@ -130,6 +130,7 @@ module _ (v w : View) (s : ℕ) (holds : traces.Holds v w s) where
     lists = record { drawn = ap (λ (k : Known). k.placing.drawn) e; latched = ap (λ (k : Known). k.latched) e; done = ap (λ (k : Known). k.done) e };
     wrote = holds.writes;
     found = record { more = HeldTurn ∷ []; grows = ap (λ (k : Known). k.finds) e; here = (0, omega arith, refl) };
+    other = holds.other;
     room = record { more = HeldTurn ∷ []; grows = ap (λ (k : Known). k.finds) e; room = one_not_full HeldTurn tt };
   }
 

@@ -1,5 +1,5 @@
 -- Writes: from what the steps leave to what the session answers.
-use Rattle.std.proofs.Common.{◌≡◌, ℕ, ◌+◌, ◌*◌, ◌<◌, ◌≤◌, ◌⊎◌, List, [], ◌∷◌, ◌++◌, length, Option, None, Result, Ok, Err, refl, sym, subst, ap, ◌∙◌, arith, append-nil, inl, inr}
+use Rattle.std.proofs.Common.{◌≡◌, ℕ, ◌+◌, ◌*◌, ◌<◌, ◌≤◌, ◌≢◌, ◌⊎◌, Bool, true, List, [], ◌∷◌, ◌++◌, length, Option, None, Result, Ok, Err, refl, sym, subst, ap, ◌∙◌, arith, append-nil, inl, inr}
 use Rattle.lst_layout.specs.declared.limits.Limits.{Limits}
 use Rattle.lst_model.specs.declared.acts.Act.{Act}
 use Rattle.lst_model.specs.declared.commits.Commit.{Commit}
@@ -15,7 +15,10 @@ use Rattle.lst_core_state.specs.declared.facts.Find.TheVariants.{LatchedRecord, 
 use Rattle.lst_core_state.specs.Cells.{range_of}
 use Rattle.lst_core_state.specs.State.{rank, mine, sight, no_hold}
 use Rattle.lst_rule.specs.declared.view.View.{View}
-use Rattle.lst_rule.specs.Rule.{knows}
+use Rattle.lst_core_state.specs.declared.known.Hold.{Hold}
+use Rattle.lst_rule.specs.Rule.{knows, hosts}
+use mathlib.Core.Logic.{dite}
+use native.Mathlib.Decide.{dec_lt}
 use Rattle.lst_rule.specs.Learned.{Learns}
 use Rattle.lst_rule.proofs.Learning.{learns_on}
 use Rattle.lst_sights.specs.Seen.{HasKey}
@@ -406,6 +409,17 @@ module _ (v u w : View) (s rec key most : ℕ) (act : Act) (may : MayWrite v s) 
       turn = λ e. e;
     }
 
+    -- each session had the latch in hand that it had before
+    latch_stays : (t : ℕ) → (knows u t).hold.latch ≡ (knows v t).hold.latch
+    latch_stays t = dite (dec_lt t s) (λ h. other t (omega arith)) (λ h. dite (dec_lt s t) (λ k. other t (omega arith)) (λ k. subst (λ (j : ℕ). (knows u j).hold.latch ≡ (knows v j).hold.latch) (let e : s ≡ t = omega arith in e) (ap (λ (d : Hold). d.latch) comes.hold)))
+      where
+        other : (j : ℕ) → j ≢ s → (knows u j).hold.latch ≡ (knows v j).hold.latch
+        other j apart = ap (λ (k : Known). k.hold.latch) (comes.steps.learns.others j apart)
+
+    other_has : ¬ ((t : ℕ) → t < v.limits.sessions → (hosts v t ≡ true) × ((knows v t).hold.latch ≢ rec + 1))
+    other_has none = f.other (λ t low. let n = none t (subst (λ (l : Limits). t < l.sessions) comes.steps.learns.limits low) in
+        (ap (λ (hs : List Bool). hosts record v { hosts = hs } t) comes.steps.learns.hosted ∙ n.0, λ e. n.1 (sym (latch_stays t) ∙ e)))
+
     pub latched_refuses : Refuses v w s key most
     latched_refuses = let st = steps_on v u w s comes.steps finds in record {
       called = steps_called v w s st;
@@ -429,6 +443,7 @@ module _ (v u w : View) (s rec key most : ℕ) (act : Act) (may : MayWrite v s) 
         rec = rec;
         placed = key_stays (knows u s) (knows w s) rec key finds.stays.grown comes.placed;
         found = found_on v u w s (LatchedRecord rec) comes.steps.stays.grown record { more = LatchedRecord rec ∷ []; grows = ap (λ (k : Known). k.finds) f.finds.view.now; here = (0, omega arith, refl) };
+        other = other_has;
       },
       ap (λ (k : Known). k.latched) f.finds.view.now ∙ comes.latched,
       none_full_on v u w s comes.room record { more = LatchedRecord rec ∷ []; grows = ap (λ (k : Known). k.finds) f.finds.view.now; room = one_not_full (LatchedRecord rec) tt },

@@ -13,9 +13,9 @@ use Rattle.lst_core_state.specs.declared.known.Known.{Known}
 use Rattle.lst_core_state.specs.declared.facts.Find.{Find}
 use Rattle.lst_core_state.specs.declared.facts.Find.TheVariants.{FreshClock, HeldTurn, LatchedRecord, UnfinishedVersion, FullRecords, FullTails}
 use Rattle.lst_core_state.specs.Cells.{range_of}
-use Rattle.lst_core_state.specs.State.{mine, name_of}
+use Rattle.lst_core_state.specs.State.{mine, name_of, rank}
 use Rattle.lst_rule.specs.declared.view.View.{View}
-use Rattle.lst_rule.specs.Rule.{knows}
+use Rattle.lst_rule.specs.Rule.{knows, hosts}
 use Rattle.lst_rule.specs.Learned.{Learns}
 use Rattle.lst_sights.specs.Copies.{Version, Includes}
 use Rattle.lst_sights.specs.Seen.{HasKey}
@@ -162,11 +162,12 @@ pub record HasNoRecord (v w : View) (s key : ℕ) : Type 0 where
   pub works : Works v w s []
   pub ended : Ended w s key
 
--- the key's record was found latched
+-- the key's record was found latched: never by a seat that hosts every session while none of them has this latch in hand
 pub record FindsLatch (v w : View) (s key : ℕ) : Type 0 where
   pub rec : ℕ
   pub placed : HasKey (knows w s).facts rec key
   pub found : FoundSince v w s (LatchedRecord rec)
+  pub other : ¬ ((t : ℕ) → t < v.limits.sessions → (hosts v t ≡ true) × ((knows v t).hold.latch ≢ rec + 1))
 
 -- the key's record was latched, and the chain that the latch found was judged: its newest version that isn't closed is one that the open
 -- transaction of s sees. The facts that say so stay, whatever comes after
@@ -242,11 +243,12 @@ pub record Ends (v w : View) (s : ℕ) : Type 0 where
   pub mine : mine s (knows w s) ≡ mine s (knows v s)
   pub room : FindsNoneFull v w s
 
--- the commit word was found held
+-- the commit word was found held: never by a seat that hosts every session while none of them has the turn
 pub record FindsHeld (v w : View) (s : ℕ) : Type 0 where
   pub called : Called v w s
   pub same : SameWork s (knows v s) (knows w s)
   pub lists : SameLists (knows v s) (knows w s)
   pub wrote : 0 < length (knows v s).own
   pub found : FoundSince v w s HeldTurn
+  pub other : ¬ ((t : ℕ) → t < v.limits.sessions → (hosts v t ≡ true) × (rank (knows v t).turn ≡ 0))
   pub room : FindsNoneFull v w s
