@@ -1,5 +1,5 @@
 -- The kinds of step that move no frame keep what holds.
-use Rattle.std.proofs.Common.{◌≡◌, ◌≢◌, ◌⊎◌, ℕ, suc, ◌+◌, ◌<◌, ◌≤◌, List, [], ◌∷◌, ◌++◌, Bool, true, false, Option, Some, None, IfSome, refl, sym, subst, ap, ◌∙◌, arith, inl, inr, ⊎_elim, length, slice_index, slice_index_or, slice_set}
+use Rattle.std.proofs.Common.{◌≡◌, ◌≢◌, ◌⊎◌, ℕ, ◌+◌, ◌<◌, ◌≤◌, List, [], ◌∷◌, ◌++◌, true, Option, Some, None, IfSome, refl, sym, subst, ap, ◌∙◌, arith, inl, inr, ⊎_elim, length, slice_index, slice_index_or, slice_set}
 use mathlib.Core.Logic.{dite}
 use native.Mathlib.Decide.{ℕ_discrete}
 use Rattle.std.proofs.lemmas.List.{length-set, length-replicate}
@@ -17,12 +17,12 @@ use Rattle.lst_core_pages.specs.declared.known.Retired.{Retired}
 use Rattle.lst_core_pages.specs.declared.known.PageInHand.{PageInHand}
 use Rattle.lst_core_pages.specs.declared.known.Reader.{Reader}
 use Rattle.lst_core_pages.specs.declared.known.Merger.{Merger}
-use Rattle.lst_core_pages.specs.Lists.{Every, Any, First, HasFirst, total, listed, word_in, with_word_in}
+use Rattle.lst_core_pages.specs.Lists.{Every, Any, First, HasFirst, total, listed, word_in}
 use Rattle.lst_core_pages.specs.State.{Pages, hand_of, empty_hand, is_clear, oldest_epoch}
 use Rattle.lst_core_pages.specs.Step.{IsWithin, Enabled, page_at, with_page, after, settled}
-use Rattle.lst_core_pages.specs.Sound.{IsPage, Inside, Outside, Distinct, Pinned, Kept, EachInHand, HandKept, HandRight, HandSame, Cleared, Built, Sound}
+use Rattle.lst_core_pages.specs.Sound.{IsPage, Outside, Distinct, Pinned, Kept, EachInHand, HandKept, HandRight, HandSame, Cleared, Sound}
 use Rattle.lst_core_pages.proofs.Functions.{put_in_here, each_put_in, each_set, get-replicate, get-listed, if_map, if_none, word_in-with, length-with, total-same}
-use Rattle.lst_core_pages.proofs.Lists.{every_map, any_every, first_both}
+use Rattle.lst_core_pages.proofs.Lists.{any_every, first_both}
 
 some_none : {A : Type 0} {a : A} → Some a ≡ None → ⊥
 some_none e = cc

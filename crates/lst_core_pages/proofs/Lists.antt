@@ -1,5 +1,5 @@
 -- Lists of retired frames, and what holds of items: nothing here speaks of a state.
-use Rattle.std.proofs.Common.{◌≡◌, ◌≢◌, ℕ, suc, ◌+◌, ◌<◌, ◌≤◌, List, [], ◌∷◌, ◌++◌, refl, sym, ap, ◌∙◌, arith, inl, inr, length}
+use Rattle.std.proofs.Common.{◌≡◌, ◌≢◌, ℕ, ◌+◌, ◌<◌, List, [], ◌∷◌, ◌++◌, refl, sym, ap, ◌∙◌, arith, inl, inr, length}
 use Rattle.lst_core_pages.specs.declared.known.Retired.{Retired}
 use Rattle.lst_core_pages.specs.Lists.{Every, Any, First, HasFirst, rest}
 use Rattle.lst_core_pages.specs.Sound.{Off, Distinct, Rise}

@@ -1,24 +1,22 @@
 -- The kinds of step that look at pins and move frames keep what holds.
-use Rattle.std.proofs.Common.{◌≡◌, ◌≢◌, ◌⊎◌, ℕ, suc, ◌+◌, ◌<◌, ◌≤◌, List, [], ◌∷◌, ◌++◌, Bool, true, false, cond, Option, Some, None, IfSome, refl, sym, subst, ap, ◌∙◌, arith, inl, inr, ⊎_elim, true≢false, length, eqb, nat_lt, ◌||◌, eqb-true, ltb-true, slice_index_or, slice_set}
+use Rattle.std.proofs.Common.{◌≡◌, ◌≢◌, ◌⊎◌, ℕ, ◌+◌, ◌<◌, ◌≤◌, List, [], ◌∷◌, ◌++◌, Bool, true, false, cond, Option, Some, None, IfSome, refl, sym, subst, ap, ◌∙◌, arith, inl, inr, ⊎_elim, true≢false, length, eqb, nat_lt, ◌||◌, eqb-true, ltb-true, slice_index_or, slice_set}
 use mathlib.Core.Logic.{dite}
 use native.Mathlib.Decide.{ℕ_discrete}
 use Rattle.std.proofs.lemmas.List.{length-append, length-set, length-replicate}
 use Rattle.lst_layout.specs.declared.limits.Limits.{Limits}
 use Rattle.lst_layout.specs.Areas.{frame_count}
-use Rattle.lst_layout.specs.Functions.{put, put_in}
+use Rattle.lst_layout.specs.Functions.{put_in}
 use Rattle.lst_layout.specs.Words.{Words}
 use Rattle.lst_layout.proofs.Functions.{put_in_else}
-use Rattle.lst_pages.specs.declared.tails.PageTail.{PageTail}
 use Rattle.lst_pages.specs.Pages.{IsRightPage}
 use Rattle.lst_core_pages.specs.declared.events.PageEvent.TheVariants.{LookPin, Swap, Raise}
 use Rattle.lst_core_pages.specs.declared.known.Retired.{Retired}
-use Rattle.lst_core_pages.specs.declared.known.PageInHand.{PageInHand}
 use Rattle.lst_core_pages.specs.declared.known.Reader.{Reader}
 use Rattle.lst_core_pages.specs.declared.known.Merger.{Merger}
 use Rattle.lst_core_pages.specs.Lists.{Every, Any, First, HasFirst, rest, total, word_in, with_word_in}
 use Rattle.lst_core_pages.specs.State.{Pages, hand_of, is_clear, nobody_clear, oldest_epoch, retired_at, frame_in}
-use Rattle.lst_core_pages.specs.Step.{IsWithin, MaySwap, Enabled, lets_go, after}
-use Rattle.lst_core_pages.specs.Sound.{IsPage, Inside, Outside, Distinct, Kept, EachInHand, Built, Rise, late, tps_at, Sound}
+use Rattle.lst_core_pages.specs.Step.{MaySwap, Enabled, lets_go, after}
+use Rattle.lst_core_pages.specs.Sound.{IsPage, Inside, Outside, Distinct, Kept, Built, Rise, late, tps_at, Sound}
 use Rattle.lst_core_pages.proofs.Functions.{same_place, put_in_here, each_put_in, each_set, get-replicate, if_map, if_none, word_in-with, length-with, total-same, total-more}
 use Rattle.lst_core_pages.proofs.Lists.{every_map, every_both, every_snoc, any_front, any_last, first_each, has_first_snoc, distinct_snoc, rise_next, rise_rest}
 use Rattle.lst_core_pages.proofs.Keeps as kept

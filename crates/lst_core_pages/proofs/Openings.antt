@@ -1,5 +1,5 @@
 -- The page core at opening tells the state at opening.
-use Rattle.std.proofs.Common.{◌≡◌, ℕ, suc, ◌+◌, ◌-◌, ◌*◌, ◌/◌, ◌%◌, ◌<◌, ◌≤◌, List, [], ◌∷◌, ◌++◌, Bool, true, false, cond, Option, Some, None, refl, sym, subst, ap, ◌∙◌, arith, length, replicate, slice_index, slice_index_or, inl, inr, take, drop, suc-mul, zero-mul}
+use Rattle.std.proofs.Common.{◌≡◌, ℕ, suc, ◌+◌, ◌-◌, ◌*◌, ◌/◌, ◌%◌, ◌<◌, ◌≤◌, List, [], ◌++◌, Bool, true, false, cond, Option, None, refl, sym, subst, ap, ◌∙◌, arith, length, replicate, slice_index, take, drop, suc-mul, zero-mul}
 use mathlib.Core.Logic.{dite}
 use native.Mathlib.Decide.{dec_lt, dec_le}
 use Rattle.std.proofs.lemmas.List.{length-replicate}
@@ -9,12 +9,12 @@ use Rattle.lst_layout.specs.declared.place.Place.TheVariants.{ClockWord, CommitW
 use Rattle.lst_layout.specs.Addresses.{IsWithin, is_within, address}
 use Rattle.lst_layout.specs.Areas.{page_count, frame_count, words_of, directory_start}
 use Rattle.lst_layout.specs.Limits.{IsValid}
-use Rattle.lst_layout.specs.Words.{Words, word_in, shown}
+use Rattle.lst_layout.specs.Words.{word_in, shown}
 use Rattle.lst_layout.proofs.Apart.{below, apart}
 use Rattle.lst_layout.proofs.Shown.{within}
 use Rattle.lst_pages.specs.declared.tails.PageTail.{PageTail}
 use Rattle.lst_core_pages.specs.declared.hands.PageId.{PageId}
-use Rattle.lst_core_pages.specs.State.{Pages, empty_hand, opening_directory, opening_words, opening_reader, opening}
+use Rattle.lst_core_pages.specs.State.{empty_hand, opening_directory, opening_words, opening_reader, opening}
 use Rattle.lst_core_pages.specs.Sound.{Sound}
 use Rattle.lst_core_pages.specs.Cells.{Queue, Cells, opening_queue, IsNumbered, IsOpeningRow, filled, reader_of, state_of, pages_of, IsCore}
 use Rattle.lst_core_pages.proofs.Functions.{get-replicate}

@@ -1,16 +1,16 @@
 -- What the page core reads of its row of words, and what a step on it needs.
-use Rattle.std.proofs.Common.{◌≡◌, ℕ, suc, ◌+◌, ◌-◌, ◌*◌, ◌<◌, ◌≤◌, ◌^◌, List, [], ◌∷◌, ◌++◌, Bool, true, false, cond, Option, Some, None, IfSome, refl, sym, subst, ap, ◌∙◌, arith, length, take, drop, slice_index, slice_index_or, slice_range, slice_set, mul-le-mul}
+use Rattle.std.proofs.Common.{◌≡◌, ℕ, ◌+◌, ◌-◌, ◌*◌, ◌<◌, ◌≤◌, ◌^◌, List, [], ◌∷◌, ◌++◌, Option, refl, sym, subst, ap, ◌∙◌, arith, length, take, drop, slice_index, slice_index_or, slice_range, slice_set, mul-le-mul}
 use Rattle.std.proofs.Math.Seq.{take-append_seam}
 use Rattle.std.proofs.lemmas.List.{get_or_default, get_or-take, get_or-drop}
 use Rattle.lst_layout.specs.declared.TheConstants.{FRAME_WORDS}
 use Rattle.lst_layout.specs.declared.limits.Limits.{Limits}
 use Rattle.lst_layout.specs.declared.place.Place.{Place}
-use Rattle.lst_layout.specs.declared.place.Place.TheVariants.{FrameWord, DirectoryWord, EpochWord}
+use Rattle.lst_layout.specs.declared.place.Place.TheVariants.{FrameWord, EpochWord}
 use Rattle.lst_layout.specs.Addresses as addresses
 use Rattle.lst_layout.specs.Addresses.{address}
-use Rattle.lst_layout.specs.Areas.{page_count, frame_count, words_of}
+use Rattle.lst_layout.specs.Areas.{frame_count}
 use Rattle.lst_layout.specs.Limits.{IsValid}
-use Rattle.lst_layout.specs.Words.{Words, word_at, shown}
+use Rattle.lst_layout.specs.Words.{word_at, shown}
 use Rattle.lst_layout.proofs.Apart.{below}
 use Rattle.lst_layout.proofs.Shown.{areas_are_shown}
 use Rattle.lst_core_pages.specs.declared.events.PageEvent.{PageEvent}
@@ -18,12 +18,13 @@ use Rattle.lst_core_pages.specs.declared.events.PageEvent.TheVariants.{Pin, Unpi
 use Rattle.lst_core_pages.specs.declared.hands.PageId.{PageId}
 use Rattle.lst_core_pages.specs.declared.known.Retired.{Retired}
 use Rattle.lst_core_pages.specs.declared.numbers.MergerNumbers.{MergerNumbers}
-use Rattle.lst_core_pages.specs.Lists.{Every, HasFirst}
+use Rattle.lst_core_pages.specs.Lists.{HasFirst}
 use Rattle.lst_core_pages.specs.Step.{IsWithin, Enabled, place_of}
 use Rattle.lst_core_pages.specs.Numbers.{IsWritable, written_of}
-use Rattle.lst_core_pages.specs.Sound.{IsPage, Outside, Built, late, Sound}
-use Rattle.lst_core_pages.specs.Cells.{Queue, Cells, pages_of, IsCore, hand_in, found_in, numbers_in, hands_after, HandsFit, queue_after, QueueFits, stepped}
-use Rattle.lst_core_pages.proofs.Tellings.{epoch_low, fits_law}
+use Rattle.lst_core_pages.specs.Sound.{IsPage, late, Sound}
+use Rattle.lst_core_pages.specs.Cells.{Queue, Cells, pages_of, IsCore, found_in, numbers_in, hands_after, HandsFit, queue_after, QueueFits, stepped}
+use Rattle.lst_core_pages.proofs.Safety.{epoch_low}
+use Rattle.lst_core_pages.proofs.Tellings.{fits_law}
 use Rattle.lst_core_pages.proofs.Moves.{built_is}
 use Rattle.lst_core_pages.proofs.Steppings.{hand_in_is, hand_long, in_hands, word_within, found_is, step_core}
 

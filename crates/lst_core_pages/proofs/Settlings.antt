@@ -1,11 +1,9 @@
 -- A settled tail on the page core's cells.
-use Rattle.std.proofs.Common.{◌≡◌, ℕ, ◌<◌, List, [], ◌∷◌, ◌++◌, Result, Ok, Err, OnOk, OnErr, refl, sym, subst, ap, ◌∙◌, arith, length, slice_index_or, slice_set}
+use Rattle.std.proofs.Common.{◌≡◌, ℕ, ◌<◌, List, [], ◌∷◌, ◌++◌, Result, Ok, Err, OnOk, OnErr, sym, subst, ap, ◌∙◌, arith, slice_index_or, slice_set}
 use Rattle.std.proofs.lemmas.List.{get_or_default, set-get_or}
 use Rattle.lst_model.specs.declared.memory.OutOfMemory.{OutOfMemory}
 use Rattle.lst_pages.specs.declared.tails.PageTail.{PageTail}
-use Rattle.lst_core_pages.specs.State.{Pages}
 use Rattle.lst_core_pages.specs.Step.{settled}
-use Rattle.lst_core_pages.specs.Sound.{Sound}
 use Rattle.lst_core_pages.specs.Cells.{Cells, IsCore, pages_of, settled_in}
 use Rattle.lst_core_pages.proofs.Steppings.{settle_state, settle_core}
 

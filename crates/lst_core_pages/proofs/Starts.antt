@@ -1,5 +1,5 @@
 -- The state at opening is sound.
-use Rattle.std.proofs.Common.{◌≡◌, ◌≢◌, ◌⊎◌, ℕ, zero, suc, ◌+◌, ◌*◌, ◌/◌, ◌%◌, ◌<◌, ◌≤◌, List, [], ◌∷◌, ◌++◌, add-one, Option, Some, None, Bool, true, false, cond, ◌&&◌, nat_lt, refl, sym, subst, ap, ◌∙◌, arith, inl, inr, true≢false, length, replicate, slice_index_or, lt-ltb, mul-le-mul_right, suc-mul}
+use Rattle.std.proofs.Common.{◌≡◌, ◌≢◌, ℕ, zero, suc, ◌+◌, ◌*◌, ◌/◌, ◌%◌, ◌<◌, ◌≤◌, List, [], ◌∷◌, ◌++◌, add-one, None, true, false, cond, ◌&&◌, refl, sym, ap, ◌∙◌, arith, inl, inr, length, slice_index_or, lt-ltb, mul-le-mul_right, suc-mul}
 use mathlib.Core.Logic.{dite}
 use native.Mathlib.Decide.{ℕ_discrete, dec_lt}
 use Rattle.std.proofs.lemmas.List.{length-replicate}
@@ -10,11 +10,10 @@ use Rattle.lst_layout.specs.Limits.{IsValid}
 use Rattle.lst_layout.specs.Areas.{page_count, frame_count}
 use Rattle.lst_pages.proofs.Pages.{right_blank}
 use Rattle.lst_core_pages.specs.declared.known.Retired.{Retired}
-use Rattle.lst_core_pages.specs.declared.known.PageInHand.{PageInHand}
-use Rattle.lst_core_pages.specs.Lists.{Every, Any, rows_of}
+use Rattle.lst_core_pages.specs.Lists.{Every, Any}
 use Rattle.lst_core_pages.specs.State.{opening_directory, nobody_clear, retired_at, spares, opening, hand_of, opening_reader}
-use Rattle.lst_core_pages.specs.Sound.{IsPage, Inside, Outside, Distinct, Rise, Sound}
-use Rattle.lst_core_pages.proofs.Functions.{get-replicate, if_none, rows-length, word_in-rows, length-listed}
+use Rattle.lst_core_pages.specs.Sound.{IsPage, Outside, Distinct, Rise, Sound}
+use Rattle.lst_core_pages.proofs.Functions.{if_none, rows-length, word_in-rows, length-listed}
 use Rattle.lst_core_pages.proofs.Lists.{every_map, first_each}
 use Rattle.lst_core_pages.proofs.Moves.{none_some}
 use Rattle.lst_core_pages.proofs.Keeps.{none_in}

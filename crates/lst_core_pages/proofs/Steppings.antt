@@ -1,6 +1,6 @@
 -- A step on cells is a step of the state that they tell.
-use Rattle.std.proofs.Common.{◌≡◌, ◌≢◌, ℕ, zero, suc, ◌+◌, ◌<◌, ◌≤◌, List, [], ◌∷◌, ◌++◌, Bool, true, false, cond, Option, Some, None, refl, sym, subst, ap, ◌∙◌, arith, length, replicate, slice_index, slice_index_or, slice_set}
-use Rattle.std.proofs.lemmas.List.{get_or-set_same, get_or-set_other, length-set, length-replicate, get_or_past, get_or_default}
+use Rattle.std.proofs.Common.{◌≡◌, ◌≢◌, ℕ, zero, suc, ◌+◌, ◌<◌, List, [], ◌∷◌, ◌++◌, Bool, true, false, cond, Option, Some, None, refl, sym, subst, ap, ◌∙◌, arith, length, replicate, slice_index_or, slice_set}
+use Rattle.std.proofs.lemmas.List.{get_or-set_same, get_or-set_other, length-set, get_or_past, get_or_default}
 use mathlib.Core.Logic.{dite}
 use native.Mathlib.Decide.{ℕ_discrete, dec_lt}
 use Rattle.lst_layout.specs.declared.TheConstants.{FRAME_WORDS}
@@ -18,13 +18,12 @@ use Rattle.lst_core_pages.specs.declared.events.PageEvent.TheVariants.{Pin, Unpi
 use Rattle.lst_core_pages.specs.declared.hands.PageId.{PageId}
 use Rattle.lst_core_pages.specs.declared.known.PageInHand.{PageInHand}
 use Rattle.lst_core_pages.specs.declared.known.Reader.{Reader}
-use Rattle.lst_core_pages.specs.declared.known.Merger.{Merger}
-use Rattle.lst_core_pages.specs.Lists.{rest, listed, rows_of, with_word_in}
-use Rattle.lst_core_pages.specs.State.{Pages, empty_hand, hand_of, oldest_epoch, frame_in}
+use Rattle.lst_core_pages.specs.Lists.{rest, listed}
+use Rattle.lst_core_pages.specs.State.{Pages, empty_hand, oldest_epoch, frame_in}
 use Rattle.lst_core_pages.specs.Step.{IsWithin, Enabled, lets_go, place_of, with_page, page_at, words_after, after, settled}
 use Rattle.lst_core_pages.specs.Numbers.{written_of}
 use Rattle.lst_core_pages.specs.Sound.{Sound}
-use Rattle.lst_core_pages.specs.Cells.{Queue, Cells, page_of, filled, hand_at, reader_of, merger_of, state_of, pages_of, unheld, IsCore, page_id, hand_in, found_in, numbers_in, hands_after, queue_after, stepped, settled_in}
+use Rattle.lst_core_pages.specs.Cells.{Cells, page_of, filled, hand_at, reader_of, state_of, pages_of, unheld, IsCore, page_id, hand_in, found_in, numbers_in, hands_after, queue_after, stepped, settled_in}
 use Rattle.lst_core_pages.proofs.Functions.{rows-put}
 use Rattle.lst_core_pages.proofs.Safety.{keeps, sound_safe}
 use Rattle.lst_core_pages.proofs.Keeps.{settle_keeps}

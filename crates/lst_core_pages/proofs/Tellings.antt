@@ -1,21 +1,20 @@
 -- A step is told by the numbers of whoever makes it and the word that it finds.
-use Rattle.std.proofs.Common.{◌≡◌, ◌≢◌, ℕ, suc, ◌+◌, ◌*◌, ◌<◌, ◌≤◌, ◌^◌, List, [], ◌∷◌, ◌++◌, Bool, true, false, cond, Option, Some, None, refl, sym, subst, ap, ◌∙◌, arith, eqb, mul-le-mul, slice_set}
+use Rattle.std.proofs.Common.{◌≡◌, ◌≢◌, ℕ, ◌+◌, [], ◌∷◌, ◌++◌, Bool, true, false, cond, Some, refl, sym, ap, ◌∙◌, arith, slice_set}
 use mathlib.Core.Logic.{dite}
 use native.Mathlib.Decide.{ℕ_discrete}
 use Rattle.lst_layout.specs.Functions.{put, put_in}
 use Rattle.lst_layout.specs.Words.{Words, word_at, with_word}
-use Rattle.lst_layout.proofs.Functions.{put_here, put_else, put_in_row, put_in_else}
+use Rattle.lst_layout.proofs.Functions.{put_here, put_else}
 use Rattle.lst_core_pages.specs.declared.events.PageEvent.{PageEvent}
 use Rattle.lst_core_pages.specs.declared.events.PageEvent.TheVariants.{Pin, Unpin, LookPage, LookPin, StoreFrame, Swap, Raise}
 use Rattle.lst_core_pages.specs.declared.known.Merger.{Merger}
 use Rattle.lst_core_pages.specs.declared.known.Reader.{Reader}
-use Rattle.lst_core_pages.specs.declared.numbers.MergerNumbers.{MergerNumbers}
 use Rattle.lst_core_pages.specs.State.{Pages, oldest_epoch, frame_in, empty_hand}
-use Rattle.lst_core_pages.specs.Step.{IsWithin, Enabled, lets_go, place_of, with_page, after, words_after, merger_after, readers_after}
+use Rattle.lst_core_pages.specs.Step.{IsWithin, Enabled, lets_go, place_of, with_page, after, words_after}
 use Rattle.lst_core_pages.specs.Sound.{Sound}
-use Rattle.lst_core_pages.specs.Numbers.{numbers_of, written_of, numbers_after, pin_after_of, IsPinnable, IsWritable, session_of, IsByNumbers}
-use Rattle.lst_core_pages.proofs.Safety.{sound_safe}
-use Rattle.lst_core_pages.proofs.Functions.{put_in_here, same_place, each_put_in}
+use Rattle.lst_core_pages.specs.Numbers.{numbers_of, written_of, numbers_after, pin_after_of, IsWritable, session_of, IsByNumbers}
+use Rattle.lst_core_pages.proofs.Safety.{epoch_low}
+use Rattle.lst_core_pages.proofs.Functions.{each_put_in}
 
 -- what is written again is there already
 put-again : (f : ℕ → ℕ) (k : ℕ) → put f k (f k) ≡ f
@@ -36,12 +35,6 @@ words_law w m (LookPin s) = λ i. record w { pins = put-again w.pins s i }
 words_law w m (StoreFrame f n x) = refl
 words_law w m (Swap r c) = refl
 words_law w m Raise = refl
-
--- the epoch fits a word, with one more
-pub epoch_low : (p : Pages) → Sound p → p.words.epoch + 2 < 2 ^ 64
-epoch_low p sound = let few = (sound_safe p sound).few_swaps in let v = sound.valid in
-    let a : p.limits.columns * p.limits.tails ≤ 8 * 16384 = mul-le-mul v.columns.1 v.tails.1 in
-    let b : p.limits.ranges * (p.limits.columns * p.limits.tails) ≤ 64 * (8 * 16384) = mul-le-mul v.ranges.1 a in omega arith
 
 pub fits_law : (p : Pages) → Sound p → (e : PageEvent) → Enabled p e → IsWritable (numbers_of p.merger) e
 fits_law p sound (Pin s e) ok = let low = epoch_low p sound in let h = ok.1 in omega arith

@@ -1,7 +1,7 @@
 //! What holds of every run. Each function is a law: its contract holds at all values, and its body does nothing.
 ghost use Rattle.lst_core_pages.specs.declared.events.PageEvent.{PageEvent};
 ghost use Rattle.lst_core_pages.specs.Numbers.{IsByNumbers};
-ghost use Rattle.lst_core_pages.specs.Runs.{EveryRunIsSound, OtherWordsAreFree, IsSafe};
+ghost use Rattle.lst_core_pages.specs.Runs.{EveryRunIsSound, OtherWordsAreFree, IsSafe, IsKnown};
 ghost use Rattle.lst_core_pages.specs.Sound.{Sound};
 ghost use Rattle.lst_core_pages.specs.State.{Pages};
 ghost use Rattle.lst_core_pages.specs.Step.{IsWithin, Enabled, after, settled};
@@ -20,10 +20,16 @@ pub fn steps_keep_soundness()
     ensures others { OtherWordsAreFree }
 {}
 
-/// In a sound state what a session has in hand is right and holds the words that were found, and no such frame is
-/// stored into.
+/// In a sound state what a session has in hand is right and holds the words that were found, while the session is pinned.
+/// No such frame is stored into, and none that a directory word names; no two directory words name one frame.
 pub fn sound_states_are_safe()
     ensures { (p : Pages) → Sound p → IsSafe p }
+{}
+
+/// In a sound state the merger knows the epoch, the directory and the frames as they are. So what it knows tells what a
+/// build reads of the page that it is to replace and, with the settled tails, whether a swap may be made.
+pub fn merger_knows_its_words()
+    ensures { (p : Pages) → Sound p → IsKnown p }
 {}
 
 /// A step that may be made is told by the numbers of whoever makes it and the one word that it finds.

@@ -20,7 +20,8 @@ pub use events::PageEvent;
 pub use hands::PageId;
 pub use known::{Merger, PageInHand, Reader, Retired};
 pub use laws::{
-    every_run_is_sound, sound_states_are_safe, steps_are_made_by_numbers, steps_keep_soundness,
+    every_run_is_sound, merger_knows_its_words, sound_states_are_safe, steps_are_made_by_numbers,
+    steps_keep_soundness,
 };
 pub use numbers::{MergerNumbers, lets_go, merger_after, pin_after, target, written};
 pub use page_core::{NotEnabled, PageCore};

@@ -1,40 +1,28 @@
 -- A page's entry is what a reader sees of a record's chain.
-use Rattle.std.proofs.Common.{◌≡◌, ℕ, zero, suc, ◌+◌, ◌-◌, ◌<◌, ◌≤◌, List, [], ◌∷◌, ◌++◌, Bool, true, false, cond, refl, sym, subst, ap, ◌∙◌, arith, inl, inr, ⊎_elim, true≢false, append_assoc, append-nil, length, take, nat_lt, nat_le, ◌&&◌, ltb-true, le-leb, eq-eqb, None}
+use Rattle.std.proofs.Common.{◌≡◌, ℕ, zero, suc, ◌+◌, ◌<◌, ◌≤◌, List, [], ◌∷◌, ◌++◌, Bool, true, false, cond, refl, sym, subst, ap, ◌∙◌, arith, inl, inr, true≢false, append_assoc, append-nil, length, take, nat_lt, ◌&&◌, ltb-true, lt-ltb, eq-eqb, None}
 use mathlib.Core.Logic.{dite}
 use native.Mathlib.Decide.{ℕ_discrete}
 use Rattle.lst_model.specs.Histories.{row_from}
 use Rattle.lst_model.specs.Soundness.{FitInTurn}
 use Rattle.lst_model.specs.declared.acts.Act.{Act}
-use Rattle.lst_versions.specs.Lists.{Has, Links, acts, Pairs, down, Below, Ordered}
-use Rattle.lst_versions.proofs.Lists.{links_low, acts_none, acts_same}
+use Rattle.lst_versions.specs.Lists.{Has, Links, acts, down}
+use Rattle.lst_versions.proofs.Lists.{links_low, links_positive, acts_none, acts_same}
 use Rattle.lst_pages.specs.Lists.{Every}
 use Rattle.lst_pages.specs.declared.tails.PageTail.{PageTail}
 use Rattle.lst_pages.specs.declared.entries.Entry.{Entry}
 use Rattle.lst_pages.specs.Tails.{touches_column, is_on, touches}
 use Rattle.lst_pages.specs.Entries.{blank, entry_by, folded}
 use Rattle.lst_pages.specs.Rows.{act_of, column_of}
-use Rattle.lst_pages.specs.Chains.{Told, TimesRise, IsWalked, entry_at, EntryIsSeen, EntryIsAnswer}
+use Rattle.lst_pages.specs.Chains.{Told, IsWalked, entry_at, EntryIsSeen, EntryIsAnswer}
 use Rattle.lst_pages.proofs.Folds.{folded-append}
 use Rattle.lst_pages.proofs.Rows.{acts_of, acts-of, folded_column}
 
 -- ---- lists
 
 module _ {A : Type 0} where
-  every_map : (P Q : A → Type 0) (xs : List A) → ((x : A) → P x → Q x) → Every P xs → Every Q xs
-  every_map P Q [] f a = tt
-  every_map P Q (x ∷ xs) f a = (f x a.0, every_map P Q xs f a.1)
-
   every_snoc : (P : A → Type 0) (xs : List A) (y : A) → Every P xs → P y → Every P (xs ++ y ∷ [])
   every_snoc P [] y a p = (p, tt)
   every_snoc P (x ∷ xs) y a p = (a.0, every_snoc P xs y a.1 p)
-
-  every_last : (P : A → Type 0) (xs : List A) (y : A) → Every P (xs ++ y ∷ []) → P y
-  every_last P [] y a = a.0
-  every_last P (x ∷ xs) y a = every_last P xs y a.1
-
-  every_init : (P : A → Type 0) (xs : List A) (y : A) → Every P (xs ++ y ∷ []) → Every P xs
-  every_init P [] y a = tt
-  every_init P (x ∷ xs) y a = (a.0, every_init P xs y a.1)
 
   -- a chain in two parts
   pub acts-append : (p : ℕ → Bool) (a : ℕ → A) (xs ys : List ℕ) → acts p a (xs ++ ys) ≡ acts p a ys ++ acts p a xs
@@ -53,39 +41,18 @@ module _ {A : Type 0} where
       step true e each = every_snoc P (acts p a ys) (a y) each (f y (inl refl) e)
       step false e each = each
 
-  -- the numbers from n down that p takes are those of a falling list that has them
-  acts_by_number : (p : ℕ → Bool) (a : ℕ → A) (back : ℕ → ℕ) (n h : ℕ) (ys : List ℕ) → Links back h ys → h ≤ n → ((t : ℕ) → t ≤ n → 0 < t → p t ≡ true → Has t ys) → acts p a (down n) ≡ acts p a ys
-  acts_by_number p a back zero h [] l low each = refl
-  acts_by_number p a back zero h (x ∷ xs) l low each = let e = l.0 in let q = l.1 in absurd (omega arith)
-  acts_by_number p a back (suc n) h ys l low each = dite (ℕ_discrete h (suc n))
-      (λ e. first ys l each e (acts_by_number p a back n))
-      (λ ne. skip (p (suc n)) refl (λ taken. let q = links_low back h ys l (suc n) (each (suc n) (omega arith) (omega arith) taken) in omega arith) ∙ acts_by_number p a back n h ys l (omega arith) (λ t at some taken. each t (omega arith) some taken))
-    where
-      skip : (b : Bool) → p (suc n) ≡ b → (¬ (p (suc n) ≡ true)) → cond b (acts p a (down n) ++ a (suc n) ∷ []) (acts p a (down n)) ≡ acts p a (down n)
-      skip true e none = absurd (none e)
-      skip false e none = refl
-
-      rest : (x : ℕ) (xs : List ℕ) → Links back h (x ∷ xs) → ((t : ℕ) → t ≤ suc n → 0 < t → p t ≡ true → Has t (x ∷ xs)) → h ≡ suc n → (t : ℕ) → t ≤ n → 0 < t → p t ≡ true → Has t xs
-      rest x xs l each e t at some taken = ⊎_elim (λ (f : t ≡ x). let g = l.0 in absurd (omega arith)) (λ (i : Has t xs). i) (each t (omega arith) some taken)
-
-      first : (ys : List ℕ) → Links back h ys → ((t : ℕ) → t ≤ suc n → 0 < t → p t ≡ true → Has t ys) → h ≡ suc n
-          → ((h : ℕ) (ys : List ℕ) → Links back h ys → h ≤ n → ((t : ℕ) → t ≤ n → 0 < t → p t ≡ true → Has t ys) → acts p a (down n) ≡ acts p a ys) → acts p a (down (suc n)) ≡ acts p a ys
-      first [] l each e again = let z : h ≡ 0 = l in absurd (omega arith)
-      first (x ∷ xs) l each e again = let f : suc n ≡ x = sym e ∙ l.0 in let falls = l.2 in let same : acts p a (down n) ≡ acts p a xs = again (back x) xs l.3 (omega arith) (rest x xs l each e) in
-          (λ i. cond (p (f i)) (same i ++ a (f i) ∷ []) (same i))
-
 abbrev every : ℕ → Bool
 every t = true
 
 -- the settled tails up to p, by number
-told_take : (a : ℕ → PageTail) (p : ℕ) (ts : List PageTail) → Told a 0 ts → p ≤ length ts → take p ts ≡ acts every a (down p)
+told_take : (a : ℕ → PageTail) (p : ℕ) (ts : List PageTail) → Told a 0 (take p ts) → p ≤ length ts → take p ts ≡ acts every a (down p)
 told_take a p ts told low = from 0 p ts told low ∙ ups p
   where
     up : ℕ → ℕ → List PageTail
     up n zero = []
     up n (suc k) = a (suc n) ∷ up (suc n) k
 
-    from : (n p : ℕ) (ts : List PageTail) → Told a n ts → p ≤ length ts → take p ts ≡ up n p
+    from : (n p : ℕ) (ts : List PageTail) → Told a n (take p ts) → p ≤ length ts → take p ts ≡ up n p
     from n zero ts told low = refl
     from n (suc p) [] told low = absurd (omega arith)
     from n (suc p) (t ∷ ts) told low = (λ i. told.0 i ∷ from (suc n) p ts told.1 (omega arith) i)
@@ -111,29 +78,20 @@ folded-acts q r c a (y ∷ ys) = step (acts r a ys) (acts (λ t. r t && q (a t))
         ∙ ap (λ (b : Bool). folded (λ t. true) c blank (cond b (new ++ a y ∷ []) new)) (sym e)
     step old new same true false e = folded-append q c blank old (a y ∷ []) ∙ (λ i. cond (e i) (entry_by c (a y)) (same i)) ∙ ap (λ (b : Bool). folded (λ t. true) c blank (cond b (new ++ a y ∷ []) new)) (sym e)
 
--- the times of the tails that p takes do not fall
-abbrev Rising : (PageTail → Bool) → List PageTail → Type 0
-Rising p [] = Unit {0}
-Rising p (t ∷ ts) = (p t ≡ true → Every (λ u. p u ≡ true → t.time ≤ u.time) ts) × Rising p ts
+-- the newest tail that r takes makes the entry
+newest : (r : ℕ → Bool) (c : ℕ) (a : ℕ → PageTail) (y : ℕ) (ys : List ℕ) → r y ≡ true → folded (λ t. true) c blank (acts r a (y ∷ ys)) ≡ entry_by c (a y)
+newest r c a y ys e = ap (λ (b : Bool). folded (λ t. true) c blank (cond b (acts r a ys ++ a y ∷ []) (acts r a ys))) e ∙ folded-append (λ t. true) c blank (acts r a ys) (a y ∷ [])
 
--- the last time is the greatest
-folded_rises : (p : PageTail → Bool) (c : ℕ) (e : Entry) (ts : List PageTail) → Every (λ t. p t ≡ true → e.time ≤ t.time) ts → Rising p ts
-    → (e.time ≤ (folded p c e ts).time) × Every (λ t. p t ≡ true → t.time ≤ (folded p c e ts).time) ts
-folded_rises p c e [] above rising = (omega arith, tt)
-folded_rises p c e (t ∷ ts) above rising = step (p t) refl (λ (f : Entry) (h : Every (λ u. p u ≡ true → f.time ≤ u.time) ts). folded_rises p c f ts h rising.1)
-  where
-    step : (b : Bool) → p t ≡ b → ((f : Entry) → Every (λ u. p u ≡ true → f.time ≤ u.time) ts → (f.time ≤ (folded p c f ts).time) × Every (λ u. p u ≡ true → u.time ≤ (folded p c f ts).time) ts)
-        → (e.time ≤ (folded p c (cond b (entry_by c t) e) ts).time) × ((p t ≡ true → t.time ≤ (folded p c (cond b (entry_by c t) e) ts).time) × Every (λ u. p u ≡ true → u.time ≤ (folded p c (cond b (entry_by c t) e) ts).time) ts)
-    step true is again = let q = again (entry_by c t) (rising.0 is) in let up = q.0 in let low = above.0 is in (omega arith, ((λ _. up), q.1))
-    step false is again = let q = again e above.1 in (q.0, ((λ i. absurd (true≢false (sym i ∙ is))), q.1))
+older : (r : ℕ → Bool) (c : ℕ) (a : ℕ → PageTail) (y : ℕ) (ys : List ℕ) → r y ≡ false → folded (λ t. true) c blank (acts r a (y ∷ ys)) ≡ folded (λ t. true) c blank (acts r a ys)
+older r c a y ys e = ap (λ (b : Bool). folded (λ t. true) c blank (cond b (acts r a ys ++ a y ∷ []) (acts r a ys))) e
 
-rising_snoc : (q : PageTail → Bool) (ts : List PageTail) (t : PageTail) → Rising q ts → Every (λ u. q u ≡ true → q t ≡ true → u.time ≤ t.time) ts → Rising q (ts ++ t ∷ [])
-rising_snoc q [] t r each = ((λ _. tt), tt)
-rising_snoc q (u ∷ ts) t r each = ((λ is. every_snoc (λ (v : PageTail). q v ≡ true → u.time ≤ v.time) ts t (r.0 is) (each.0 is)), rising_snoc q ts t r.1 each.1)
-
-rising_acts : (q : PageTail → Bool) (a : ℕ → PageTail) (ys : List ℕ) → Pairs (λ x y. q (a x) ≡ true → q (a y) ≡ true → (a x).time ≤ (a y).time) ys → Rising q (acts every a ys)
-rising_acts q a [] pairs = tt
-rising_acts q a (y ∷ ys) pairs = rising_snoc q (acts every a ys) (a y) (rising_acts q a ys pairs.1) (every_acts (λ (u : PageTail). q u ≡ true → q (a y) ≡ true → u.time ≤ (a y).time) every a ys (λ t i _. pairs.0 t i))
+-- where r takes the tail t of a falling chain, and none above it, t makes the entry
+last_makes : (r : ℕ → Bool) (c : ℕ) (a : ℕ → PageTail) (back : ℕ → ℕ) (h t : ℕ) (ys : List ℕ) → Links back h ys → Has t ys → r t ≡ true → ((u : ℕ) → Has u ys → t < u → r u ≡ false)
+    → folded (λ t. true) c blank (acts r a ys) ≡ entry_by c (a t)
+last_makes r c a back h t [] l none taken rest = absurd none
+last_makes r c a back h t (y ∷ ys) l (inl e) taken rest = newest r c a y ys (ap r (sym e) ∙ taken) ∙ ap (λ (k : ℕ). entry_by c (a k)) (sym e)
+last_makes r c a back h t (y ∷ ys) l (inr i) taken rest = let low = links_low back (back y) ys l.3 t i in let falls = l.2 in
+    older r c a y ys (rest y (inl refl) (omega arith)) ∙ last_makes r c a back (back y) t ys l.3 i taken (λ u j up. rest u (inr j) up)
 
 and_says : (a b : Bool) → (a && b) ≡ true → (a ≡ true) × (b ≡ true)
 and_says true true e = (refl, refl)
@@ -150,43 +108,47 @@ module _ (c i b p n : ℕ) (back : ℕ → ℕ) (a : ℕ → PageTail) (is_visib
   abbrev fold_of : List PageTail → Entry
   fold_of us = folded (touches c i) c blank us
 
-  is_fold : entry_at c i p ts ≡ fold_of (acts every a zs)
-  is_fold = ap fold_of (told_take a p ts walk.told walk.settled) ∙ folded-acts (touches c i) every c a (down p) ∙ ap (λ (us : List PageTail). folded (λ t. true) c blank us) (acts_by_number took a back p n zs walk.links walk.low walk.has) ∙ sym (folded-acts (touches c i) every c a zs)
+  abbrev fold_at : ℕ → Entry
+  fold_at m = folded (λ t. true) c blank (acts took a (down m))
 
-  committed : (t : PageTail) → touches c i t ≡ true → 0 < t.time
-  committed t is = ltb-true 0 t.time (and_says (nat_lt 0 t.time) (is_on c i t) is).0
+  is_fold : entry_at c i p ts ≡ fold_at p
+  is_fold = ap fold_of (told_take a p ts walk.told walk.settled) ∙ folded-acts (touches c i) every c a (down p)
 
-  weaker : (ys : List ℕ) → TimesRise a ys → Pairs (λ x y. touches c i (a x) ≡ true → touches c i (a y) ≡ true → (a x).time ≤ (a y).time) ys
-  weaker [] q = tt
-  weaker (y ∷ ys) q = ((λ x h k l. q.0 x h (committed (a x) k) (committed (a y) l)), weaker ys q.1)
+  both : (x y : Bool) → x ≡ true → y ≡ true → (x && y) ≡ true
+  both x y e f = (λ k. e k && f k)
 
-  blanks : (xs : List PageTail) → Every (λ t. touches c i t ≡ true → blank.time ≤ t.time) xs
-  blanks [] = tt
-  blanks (x ∷ xs) = ((λ _. omega arith), blanks xs)
+  -- what the reader sees below is committed and touches the column
+  seen_took : (t : ℕ) → Has t zs → seen t ≡ true → took t ≡ true
+  seen_took t h e = let q = and_says (is_visible t) (is_on c i (a t)) e in both (nat_lt 0 (a t).time) (is_on c i (a t)) (lt-ltb 0 (a t).time (walk.only t h q.0)) q.1
 
-  times : Every (λ t. touches c i t ≡ true → t.time ≤ (fold_of (acts every a zs)).time) (acts every a zs)
-  times = (folded_rises (touches c i) c blank (acts every a zs) (blanks (acts every a zs)) (rising_acts (touches c i) a zs (weaker zs walk.rises))).1
+  not_seen : (t : ℕ) → Has t zs → took t ≡ false → seen t ≡ false
+  not_seen t h e = choose (seen t) refl
+    where
+      choose : (x : Bool) → seen t ≡ x → seen t ≡ false
+      choose true s = absurd (true≢false (sym (seen_took t h s) ∙ e))
+      choose false s = s
 
-  has_acts : (P : PageTail → Type 0) (ys : List ℕ) → Every P (acts every a ys) → (t : ℕ) → Has t ys → P (a t)
-  has_acts P [] each t none = absurd none
-  has_acts P (y ∷ ys) each t (inl e) = subst (λ (k : ℕ). P (a k)) (sym e) (every_last P (acts every a ys) (a y) each)
-  has_acts P (y ∷ ys) each t (inr h) = has_acts P ys (every_init P (acts every a ys) (a y) each) t h
+  low : (t : ℕ) → Has t zs → t ≤ p
+  low t h = let at = links_low back n zs walk.links t h in let q = walk.low in omega arith
 
-  cases : (x y z : Bool) → (x ≡ true → y ≡ true → z ≡ true) → ((x && z) && y) ≡ (x && y)
-  cases true true z h = ap (λ (k : Bool). k && true) (h refl refl)
-  cases true false true h = refl
-  cases true false false h = refl
-  cases false y z h = refl
-
-  -- on the chain below, what is visible and touches the column is what is committed and touches it
-  alike : (t : ℕ) → Has t zs → seen t ≡ took t
-  alike t h = ap (λ (v : Bool). v && is_on c i (a t)) (walk.until t h) ∙ cases (nat_lt 0 (a t).time) (is_on c i (a t)) (nat_le (a t).time b)
-      (λ x y. le-leb (a t).time b (let q = has_acts (λ (u : PageTail). touches c i u ≡ true → u.time ≤ (fold_of (acts every a zs)).time) zs times t h (λ k. x k && y k) in let r : (fold_of (acts every a zs)).time ≤ b = subst (λ (e : Entry). e.time ≤ b) is_fold early in omega arith))
+  -- down from p, the first tail that is committed and touches the column is the last one that the reader sees
+  from : (m : ℕ) → m ≤ p → ((u : ℕ) → m < u → u ≤ p → took u ≡ false) → (fold_at m).time ≤ b → folded (λ t. true) c blank (acts seen a zs) ≡ fold_at m
+  from zero at none e = ap (λ (xs : List PageTail). folded (λ t. true) c blank xs) (acts_none seen a zs (λ t h. not_seen t h (none t (links_positive back n zs walk.links t h) (low t h))))
+  from (suc m) at none e = choose (took (suc m)) refl (λ above early. from m (omega arith) above early)
+    where
+      choose : (x : Bool) → took (suc m) ≡ x → (((u : ℕ) → m < u → u ≤ p → took u ≡ false) → (fold_at m).time ≤ b → folded (λ t. true) c blank (acts seen a zs) ≡ fold_at m)
+          → folded (λ t. true) c blank (acts seen a zs) ≡ fold_at (suc m)
+      choose true is again = let made = newest took c a (suc m) (down m) is in let timely : (a (suc m)).time ≤ b = subst (λ (f : Entry). f.time ≤ b) made e in
+          let has = walk.has (suc m) (omega arith) at is timely none in let q = and_says (nat_lt 0 (a (suc m)).time) (is_on c i (a (suc m))) is in
+          last_makes seen c a back n (suc m) zs walk.links has (both (is_visible (suc m)) (is_on c i (a (suc m))) (walk.until (suc m) has (ltb-true 0 (a (suc m)).time q.0) timely) q.1)
+          (λ u h up. not_seen u h (none u up (low u h))) ∙ sym made
+      choose false is again = let same = older took c a (suc m) (down m) is in
+          again (λ u up short. dite (ℕ_discrete u (suc m)) (λ f. ap took f ∙ is) (λ other. none u (omega arith) short)) (subst (λ (f : Entry). f.time ≤ b) same e) ∙ sym same
 
   pub entry_seen : folded (λ t. true) c blank (acts (λ t. is_visible t && is_on c i (a t)) a (above ++ zs)) ≡ entry_at c i p ts
   entry_seen = ap (λ (xs : List PageTail). folded (λ t. true) c blank xs)
-      (acts-append seen a above zs ∙ (λ k. acts_same took seen a a zs alike (λ _ _ _. refl) k ++ acts_none seen a above walk.passed k) ∙ append-nil (acts took a zs))
-      ∙ sym (folded-acts (touches c i) every c a zs) ∙ sym is_fold
+      (acts-append seen a above zs ∙ ap (λ (xs : List PageTail). acts seen a zs ++ xs) (acts_none seen a above walk.passed) ∙ append-nil (acts seen a zs))
+      ∙ from p (omega arith) (λ u up short. absurd (omega arith)) (subst (λ (f : Entry). f.time ≤ b) is_fold early) ∙ sym is_fold
 
   pub entry_answer : (columns : ℕ) → c < columns → ((t : ℕ) → Has t (above ++ zs) → ((a t).slot ≡ i) × (length (a t).values ≡ columns)) → FitInTurn None (acts is_visible (λ t. act_of (a t)) (above ++ zs))
       → (entry_at c i p ts).cell ≡ column_of c (row_from None (acts is_visible (λ t. act_of (a t)) (above ++ zs)))
@@ -212,22 +174,6 @@ entry_is_answer c i b p n back a is_visible ts above rest walk early = entry_ans
 
 -- ---- for the crates above: what gives the premises
 
--- the order of versions gives that times rise
-pub ordered_times : (st bw W : ℕ → ℕ) (a : ℕ → PageTail) (ys : List ℕ) → ((t : ℕ) → (a t).time ≡ st (W t) - 1) → ((t : ℕ) → Has t ys → 1 < st (W t) → bw (W t) < st (W t)) → Ordered st bw W ys → TimesRise a ys
-ordered_times st bw W a [] times early o = tt
-ordered_times st bw W a (y ∷ ys) times early o = (
-  (λ x i p q. let f = times x in let g = times y in let low = early y (inl refl) (omega arith) in under ys x i (o.0 (λ e. omega arith)) p low),
-  ordered_times st bw W a ys times (λ t i. early t (inr i)) o.1,
-)
-  where
-    under : (zs : List ℕ) (x : ℕ) → Has x zs → Below st bw W (W y) zs → 0 < (a x).time → bw (W y) < st (W y) → (a x).time ≤ (a y).time
-    under [] x none b p low = absurd none
-    under (z ∷ zs) x (inl e) b p low = let f = times x in let g = times y in ⊎_elim
-        (λ (same : W z ≡ W y). let h : st (W x) ≡ st (W y) = ap (λ (k : ℕ). st (W k)) e ∙ ap st same in omega arith)
-        (λ (before : (1 < st (W z)) × (st (W z) ≤ bw (W y))). let h : st (W x) ≡ st (W z) = ap (λ (k : ℕ). st (W k)) e in let l = before.1 in omega arith)
-        (b.0 (λ one. let h : st (W x) ≡ st (W z) = ap (λ (k : ℕ). st (W k)) e in omega arith))
-    under (z ∷ zs) x (inr i) b p low = under zs x i b.1 p low
-
 -- a walk that has passed the tails of xs is at the rest of the chain
 pub links_split : (back : ℕ → ℕ) (h : ℕ) (xs zs : List ℕ) → Links back h (xs ++ zs) → (n : ℕ) × Links back n zs
 links_split back h [] zs l = (h, l)
@@ -242,6 +188,12 @@ has_split p t (x ∷ xs) zs above low (inr has) = has_split p t xs zs above.1 lo
 pub told_same : (a a' : ℕ → PageTail) (n : ℕ) (ts : List PageTail) → ((t : ℕ) → n < t → t ≤ n + length ts → a' t ≡ a t) → Told a n ts → Told a' n ts
 told_same a a' n [] same told = tt
 told_same a a' n (t ∷ ts) same told = (told.0 ∙ sym (same (suc n) (omega arith) (omega arith)), told_same a a' (suc n) ts (λ k low high. same k (omega arith) (omega arith)) told.1)
+
+-- and so are its first ones
+pub told_front : (a : ℕ → PageTail) (n p : ℕ) (ts : List PageTail) → Told a n ts → Told a n (take p ts)
+told_front a n zero ts told = tt
+told_front a n (suc p) [] told = tt
+told_front a n (suc p) (t ∷ ts) told = (told.0, told_front a (suc n) p ts told.1)
 
 -- the next one
 pub told_snoc : (a : ℕ → PageTail) (n k : ℕ) (ts : List PageTail) (t : PageTail) → k ≡ suc (n + length ts) → t ≡ a k → Told a n ts → Told a n (ts ++ t ∷ [])

@@ -1,5 +1,5 @@
 -- The fold of tails.
-use Rattle.std.proofs.Common.{◌≡◌, ℕ, ◌+◌, ◌<◌, ◌≤◌, List, [], ◌∷◌, ◌++◌, Bool, true, false, cond, refl, sym, subst, ap, ◌∙◌, arith, length, take, drop, eqb, eq-eqb, ne_eqb, nat_lt, ◌&&◌, get_or, set, slice_index_or, slice_set}
+use Rattle.std.proofs.Common.{◌≡◌, ℕ, ◌+◌, ◌<◌, List, [], ◌∷◌, ◌++◌, Bool, true, false, cond, refl, sym, ap, ◌∙◌, arith, length, take, drop, eqb, eq-eqb, ne_eqb, nat_lt, ◌&&◌, get_or, slice_index_or, slice_set}
 use Rattle.std.proofs.Math.Seq.{take-add}
 use Rattle.std.proofs.lemmas.List.{take_more, get_or-set_same, get_or-set_other}
 use mathlib.Core.Logic.{dite}

@@ -1,5 +1,5 @@
 -- Right pages.
-use Rattle.std.proofs.Common.{◌≡◌, ℕ, ◌+◌, ◌<◌, ◌≤◌, List, [], ◌∷◌, ◌++◌, Bool, Option, Some, None, cond, sym, ap, ◌∙◌, subst, arith, length, take, drop}
+use Rattle.std.proofs.Common.{◌≡◌, ℕ, ◌+◌, ◌<◌, ◌≤◌, List, [], ◌∷◌, ◌++◌, Some, None, cond, sym, ap, ◌∙◌, arith, length, take, drop}
 use Rattle.std.proofs.lemmas.List.{take-append-le, length-append}
 use Rattle.lst_layout.specs.declared.TheConstants.{FRAME_WORDS, RANGE_RECORDS}
 use Rattle.lst_bits.specs.Times.{time_of, is_present}
@@ -7,7 +7,7 @@ use Rattle.lst_pages.specs.declared.tails.PageTail.{PageTail}
 use Rattle.lst_pages.specs.declared.entries.Entry.{Entry}
 use Rattle.lst_pages.specs.Tails.{touches}
 use Rattle.lst_pages.specs.Entries.{blank, folded}
-use Rattle.lst_pages.specs.Frames.{tps_in, value_in, stamp_in, entry_in}
+use Rattle.lst_pages.specs.Frames.{tps_in, entry_in}
 use Rattle.lst_pages.specs.Pages.{IsRightPage}
 use Rattle.lst_pages.proofs.Folds.{folded-take}
 

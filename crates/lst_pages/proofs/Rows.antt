@@ -1,10 +1,10 @@
 -- An entry is a column of the row.
-use Rattle.std.proofs.Common.{◌≡◌, ℕ, zero, suc, ◌+◌, ◌<◌, List, [], ◌∷◌, ◌++◌, Bool, true, false, cond, eqb, refl, sym, subst, ap, ◌∙◌, arith, Option, Some, None, unwrap_or, length, slice_index}
+use Rattle.std.proofs.Common.{◌≡◌, ℕ, zero, suc, ◌+◌, ◌<◌, List, [], ◌∷◌, ◌++◌, Bool, true, false, cond, eqb, refl, sym, ap, ◌∙◌, arith, Option, Some, None, unwrap_or, length, slice_index}
 use Rattle.std.specs.Int.{bit_at}
 use Rattle.lst_bits.specs.declared.encodings.Kind.{Kind}
 use Rattle.lst_bits.specs.declared.encodings.Kind.TheVariants.{Put, Set, Del}
 use Rattle.lst_model.specs.declared.acts.Act.{Act}
-use Rattle.lst_model.specs.Cells.{Cell, overlaid}
+use Rattle.lst_model.specs.Cells.{overlaid}
 use Rattle.lst_model.specs.Histories.{row_after, row_from}
 use Rattle.lst_model.specs.Soundness.{Fits, FitInTurn}
 use Rattle.lst_versions.specs.Lists.{acts}

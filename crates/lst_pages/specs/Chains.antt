@@ -1,14 +1,12 @@
 -- The settled tails of a range by number, and a record's chain of tails beside them, newest first.
-use Rattle.std.specs.Prelude.{◌≡◌, ℕ, suc, ◌<◌, ◌≤◌, List, [], ◌∷◌, ◌++◌, Bool, true, false, nat_lt, nat_le, ◌&&◌, None, length, take}
+use Rattle.std.specs.Prelude.{◌≡◌, ℕ, suc, ◌<◌, ◌≤◌, List, [], ◌∷◌, ◌++◌, Bool, true, false, ◌&&◌, None, length, take}
 use Rattle.lst_model.specs.Histories.{row_from}
 use Rattle.lst_model.specs.Soundness.{FitInTurn}
-use Rattle.lst_versions.specs.Lists.{Has, Links, acts, Pairs}
+use Rattle.lst_versions.specs.Lists.{Has, Links, acts}
 use Rattle.lst_pages.specs.declared.tails.PageTail.{PageTail}
 use Rattle.lst_pages.specs.declared.entries.Entry.{Entry}
 use Rattle.lst_pages.specs.Tails.{is_on, touches}
 use Rattle.lst_pages.specs.Entries.{blank, folded}
-use Rattle.lst_pages.specs.Pages.{IsRightPage}
-use Rattle.lst_pages.specs.Frames.{tps_in, entry_in}
 use Rattle.lst_pages.specs.Rows.{act_of, column_of}
 
 -- ts are the tails after number n: a t is tail t
@@ -16,22 +14,19 @@ abbrev pub Told : (ℕ → PageTail) → ℕ → List PageTail → Type 0
 Told a n [] = Unit {0}
 Told a n (t ∷ ts) = (t ≡ a (suc n)) × Told a (suc n) ts
 
--- the times of committed tails do not fall from a tail to one above it
-abbrev pub TimesRise : (ℕ → PageTail) → List ℕ → Type 0
-TimesRise a ys = Pairs (λ x y. 0 < (a x).time → 0 < (a y).time → (a x).time ≤ (a y).time) ys
-
 -- a reader that began at time b has walked a record's chain, passing the tails of above, down to tail n, which is at most the
 -- TPS p of a page of column c over the settled tails ts; rest is the chain from n on, and the record is at slot i
 pub record IsWalked (c i b p n : ℕ) (back : ℕ → ℕ) (a : ℕ → PageTail) (is_visible : ℕ → Bool) (ts : List PageTail) (above rest : List ℕ) : Type 0 where
-  pub told : Told a 0 ts
+  -- the first p of ts are the tails 1 to p
+  pub told : Told a 0 (take p ts)
   pub settled : p ≤ length ts
   pub links : Links back n rest
   pub low : n ≤ p
-  -- the chain has the record's committed tails up to p that touch the column
-  pub has : (t : ℕ) → t ≤ p → 0 < t → touches c i (a t) ≡ true → Has t rest
-  pub rises : TimesRise a rest
-  -- below, a tail is visible where it is committed by the begin
-  pub until : (t : ℕ) → Has t rest → is_visible t ≡ (nat_lt 0 (a t).time && nat_le (a t).time b)
+  -- the last tail up to p that is committed and touches the column is on the chain, if it is committed by the begin
+  pub has : (t : ℕ) → 0 < t → t ≤ p → touches c i (a t) ≡ true → (a t).time ≤ b → ((u : ℕ) → t < u → u ≤ p → touches c i (a u) ≡ false) → Has t rest
+  -- below, what is committed by the begin is visible, and what is visible is committed
+  pub until : (t : ℕ) → Has t rest → 0 < (a t).time → (a t).time ≤ b → is_visible t ≡ true
+  pub only : (t : ℕ) → Has t rest → is_visible t ≡ true → 0 < (a t).time
   -- nothing visible above touches the column
   pub passed : (t : ℕ) → Has t above → (is_visible t && is_on c i (a t)) ≡ false
 

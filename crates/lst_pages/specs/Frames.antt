@@ -1,5 +1,5 @@
 -- What the words of a frame say: a TPS, and for each record of the range a value word and a time word.
-use Rattle.std.specs.Prelude.{ℕ, ◌+◌, cond, Option, Some, None}
+use Rattle.std.specs.Prelude.{ℕ, ◌+◌, cond, Some, None}
 use Rattle.lst_layout.specs.declared.TheConstants.{RANGE_RECORDS}
 use Rattle.lst_bits.specs.Times.{time_of, is_present}
 use Rattle.lst_pages.specs.declared.entries.Entry.{Entry}

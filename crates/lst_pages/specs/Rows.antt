@@ -7,7 +7,6 @@ use Rattle.lst_model.specs.declared.acts.Act.{Act}
 use Rattle.lst_model.specs.declared.acts.Act.TheVariants as act
 use Rattle.lst_model.specs.Cells.{Cell, number_at}
 use Rattle.lst_pages.specs.declared.tails.PageTail.{PageTail}
-use Rattle.lst_pages.specs.declared.entries.Entry.{Entry}
 
 -- the cells from column c on that a mask holds
 abbrev pub patched : ℕ → ℕ → List Cell → List (Option Cell)

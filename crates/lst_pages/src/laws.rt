@@ -14,8 +14,8 @@ pub fn pages_are_built_on()
     ensures built { BuiltPageIsRight }
 {}
 
-/// An entry whose time is at most a reader's begin is what the reader sees of its column, once nothing visible above the
-/// page's TPS touches the column.
+/// An entry whose time is at most a reader's begin is what the reader sees of its column, once nothing visible on the part
+/// of the chain that was walked touches the column. Of the rest of the chain the last tail that touches the column counts.
 pub fn entries_are_answers()
     ensures seen { EntryIsSeen }
     ensures answer { EntryIsAnswer }

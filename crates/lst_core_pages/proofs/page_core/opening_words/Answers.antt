@@ -1,4 +1,4 @@
-use Rattle.std.proofs.Common.{◌≡◌, ◌+◌, ◌≤◌, ℕ, List, sym, subst, ◌∙◌, ap, arith, length, refl}
+use Rattle.std.proofs.Common.{◌≡◌, sym, ◌∙◌, ap, arith, length, refl}
 use Rattle.lst_layout.specs.Areas.{words_of}
 use Rattle.lst_core_pages.proofs.Openings.{directory_first, directory_room, opening_row}
 use Rattle.lst_core_pages.proofs.page_core.opening_words.Goals as goal

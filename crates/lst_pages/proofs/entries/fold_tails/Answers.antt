@@ -1,8 +1,7 @@
-use Rattle.std.proofs.Common.{◌≡◌, ◌<◌, ◌+◌, length, ℕ, slice_index_or, slice_set, sym, subst, ◌∙◌, ap, arith, refl, List}
+use Rattle.std.proofs.Common.{◌<◌, ◌+◌, length, ℕ, slice_index_or, slice_set, sym, subst, ◌∙◌, ap, arith, List}
 use Rattle.lst_layout.specs.declared.TheConstants.{RANGE_RECORDS}
 use Rattle.lst_pages.specs.declared.entries.Entry.{Entry}
-use Rattle.lst_pages.specs.Tails.{touches}
-use Rattle.lst_pages.specs.Entries.{blank, folded}
+use Rattle.lst_pages.specs.Entries.{blank}
 use Rattle.lst_pages.proofs.Folds.{So, fold_put, fold_skip}
 use Rattle.lst_pages.proofs.entries.fold_tails.Goals as goal
 use Rattle.lst_pages.proofs.entries.fold_tails.Goals.{then-touches, else-touches}

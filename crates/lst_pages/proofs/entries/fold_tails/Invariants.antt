@@ -1,4 +1,4 @@
-use Rattle.std.proofs.Common.{◌≡◌, ◌<◌, ℕ, length, slice_index_or, take}
+use Rattle.std.proofs.Common.{◌≡◌, ◌<◌, ℕ, slice_index_or, take}
 use Rattle.lst_layout.specs.declared.TheConstants.{RANGE_RECORDS}
 use Rattle.lst_pages.specs.Tails.{touches}
 use Rattle.lst_pages.specs.Entries.{blank, folded}

@@ -1,4 +1,4 @@
-use Rattle.std.proofs.Common.{◌≡◌, ◌<◌, ℕ, length, slice_index, slice_index_or, IsTrue, ◌↔◌, ◌∙◌, sym, ap, arith, take, rules, replicate, List}
+use Rattle.std.proofs.Common.{◌≡◌, ◌<◌, ℕ, slice_index, slice_index_or, ◌∙◌, sym, ap, arith, take, replicate, List}
 use Rattle.std.proofs.lemmas.List.{get_or-replicate}
 use Rattle.lst_layout.specs.declared.TheConstants.{RANGE_RECORDS}
 use Rattle.lst_pages.specs.declared.entries.Entry.{Entry}
@@ -6,7 +6,6 @@ use Rattle.lst_pages.specs.declared.tails.PageTail.{PageTail}
 use Rattle.lst_pages.specs.Tails.{touches}
 use Rattle.lst_pages.specs.Entries.{blank, folded}
 use Rattle.lst_pages.specs.Frames as frame
-use Rattle.lst_pages.specs.Pages.{IsRightPage}
 use Rattle.lst_pages.proofs.frames.is_right.Goals as goal
 
 -- src/frames.rt:27:1

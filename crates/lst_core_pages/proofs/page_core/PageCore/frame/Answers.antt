@@ -1,4 +1,4 @@
-use Rattle.std.proofs.Common.{◌≡◌, ◌<◌, ◌≤◌, ◌+◌, ℕ, length, List, Option, ap, sym, subst, ◌∙◌, arith, slice_index, slice_range, slice_set, take, drop}
+use Rattle.std.proofs.Common.{◌≤◌, ◌+◌, ℕ, length, List, ap, sym, subst, ◌∙◌, slice_range}
 use Rattle.lst_core_pages.specs.Cells.{Cells}
 use Rattle.lst_layout.specs.declared.TheConstants.{FRAME_WORDS}
 use Rattle.lst_core_pages.proofs.Readings.{frame_fits, frame_words}

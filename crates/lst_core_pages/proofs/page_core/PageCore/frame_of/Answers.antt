@@ -1,6 +1,4 @@
-use Rattle.std.proofs.Common.{◌≡◌, ◌<◌, ◌≤◌, ◌+◌, ℕ, length, List, Option, ap, sym, subst, ◌∙◌, arith, slice_index, slice_range, slice_set, take, drop}
 use Rattle.lst_core_pages.specs.Cells.{Cells}
-use Rattle.lst_layout.specs.Words.{shown}
 use Rattle.lst_layout.specs.declared.place.Place.TheVariants.{DirectoryWord}
 use Rattle.lst_core_pages.proofs.Readings.{word_read, directory_low}
 use Rattle.lst_core_pages.proofs.page_core.PageCore.frame_of.Goals as goal

@@ -1,6 +1,5 @@
-use Rattle.std.proofs.Common.{◌≡◌, ℕ, true, false, Option, Some, None, refl, ap, sym, subst, ◌∙◌, true≢false}
+use Rattle.std.proofs.Common.{◌≡◌, ℕ, true, Option, Some, None, refl, ap, sym, subst, ◌∙◌, true≢false}
 use Rattle.std.specs.Option.{is_some}
-use Rattle.lst_core_pages.specs.declared.events.PageEvent.{PageEvent}
 use Rattle.lst_core_pages.specs.Cells.{Cells, pages_of}
 use Rattle.lst_core_pages.specs.Step.{Enabled}
 use Rattle.lst_core_pages.proofs.page_core.PageCore.is_enabled.Goals as goal

@@ -1,6 +1,6 @@
-use Rattle.std.proofs.Common.{◌≡◌, ◌<◌, ◌≤◌, ◌+◌, ℕ, length, List, Option, ap, sym, subst, ◌∙◌, arith, slice_set, take, drop}
+use Rattle.std.proofs.Common.{◌≡◌, length, List, Option, ap, sym, subst, ◌∙◌}
 use Rattle.lst_core_pages.specs.declared.hands.PageId.{PageId}
-use Rattle.lst_core_pages.specs.Cells.{Cells, IsCore, HandsFit, found_in, numbers_in, hands_after, stepped}
+use Rattle.lst_core_pages.specs.Cells.{Cells, IsCore, HandsFit, found_in, hands_after}
 use Rattle.lst_core_pages.proofs.Readings.{found_at, numbers_at, writes, hands_fit, queue_fits, makes, made_core, same_step, written_back}
 use Rattle.lst_core_pages.proofs.page_core.PageCore.make.Goals as goal
 

@@ -1,4 +1,3 @@
-use Rattle.std.proofs.Common.{◌≡◌, ◌<◌, ◌≤◌, ◌+◌, ℕ, length, List, Option, ap, sym, subst, ◌∙◌, arith, slice_index, slice_range, slice_set, take, drop}
 use Rattle.lst_core_pages.specs.Cells.{Cells}
 use Rattle.lst_layout.specs.declared.place.Place.TheVariants.{PinWord}
 use Rattle.lst_core_pages.proofs.Readings.{word_read}
