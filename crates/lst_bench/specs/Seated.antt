@@ -2,9 +2,9 @@
 use Rattle.std.specs.Prelude.{◌≡◌, ◌<◌, true}
 use Rattle.lst_core_state.specs.declared.known.Stage.TheVariants.{Away}
 use Rattle.lst_rule.specs.Rule.{knows, hosts}
-use Rattle.lst_seat.specs.declared.store.Store.{Store}
-use Rattle.lst_seat.specs.Seats.{Sitting}
-use Rattle.lst_seat.specs.Stores.{IsSeatOf}
+use Rattle.lst_rule.specs.declared.store.Store.{Store}
+use Rattle.lst_rule.specs.Seats.{Sitting}
+use Rattle.lst_rule.specs.Stores.{IsSeatOf}
 
 pub record Stays (store : Store) (seat : Sitting) : Type 0 where
   pub seat_of : IsSeatOf store seat

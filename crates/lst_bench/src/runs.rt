@@ -4,7 +4,7 @@ ghost use Rattle.lst_rule.specs.Rule.{knows};
 ghost use Rattle.lst_bench.specs.Seated.{Stays, Rests};
 
 use lst_index::{find, place};
-use lst_seat::{Seat, Store, load_clock, load_head};
+use lst_rule::{Seat, Store, load_clock, load_head};
 use lst_txn::{begin, close};
 
 /// Loads the indirection words of all records in turn, and adds them up.

@@ -1,12 +1,12 @@
 //! The end of a transaction.
 ghost use Rattle.std.specs.Prelude.{◌≡◌, ◌<◌, true, IfOk, Err};
 ghost use Rattle.lst_rule.specs.Rule.{knows, hosts};
-ghost use Rattle.lst_seat.specs.Stores.{IsSeatOf};
+ghost use Rattle.lst_rule.specs.Stores.{IsSeatOf};
 ghost use Rattle.lst_crew_state.specs.Crews.{IsIdle};
 ghost use Rattle.lst_calls.specs.Traces.{Ends, Holds};
 
 use crate::kinds::{CommitRefusal, Outcome};
-use lst_seat::{Seat, Store};
+use lst_rule::{Seat, Store};
 use lst_txn::{TurnFault, close, take_turn};
 
 /// Commits the session's open transaction if it has writes, and else closes it.

@@ -1,12 +1,12 @@
 //! The row of a key.
 ghost use Rattle.std.specs.Prelude.{◌≡◌, ◌<◌, true};
 ghost use Rattle.lst_rule.specs.Rule.{knows, hosts};
-ghost use Rattle.lst_seat.specs.Stores.{IsSeatOf};
+ghost use Rattle.lst_rule.specs.Stores.{IsSeatOf};
 ghost use Rattle.lst_calls.specs.Traces.{Reads};
 
 use lst_index::find;
 use lst_model::{Key, Row};
-use lst_seat::{Seat, Store};
+use lst_rule::{Seat, Store};
 use lst_walk::row;
 
 /// The row of a key that the session's open transaction sees.

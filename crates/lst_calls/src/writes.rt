@@ -2,7 +2,7 @@
 //! given back.
 ghost use Rattle.std.specs.Prelude.{◌≡◌, ◌⊎◌, ◌↔◌, ◌<◌, true, false, Err, OnOk, IfErr};
 ghost use Rattle.lst_rule.specs.Rule.{knows, hosts};
-ghost use Rattle.lst_seat.specs.Stores.{IsSeatOf};
+ghost use Rattle.lst_rule.specs.Stores.{IsSeatOf};
 ghost use Rattle.lst_sights.specs.Seen.{HasKey};
 ghost use Rattle.lst_crew_state.specs.Crews.{IsIdle};
 ghost use Rattle.lst_write.specs.Cells.{IsActFor};
@@ -14,7 +14,7 @@ ghost use Rattle.lst_calls.specs.Traces.{misfit_of, Agrees, Prepares, Tries, Ins
 use crate::kinds::WriteRefusal;
 use lst_index::{find, place};
 use lst_model::{Act, Key};
-use lst_seat::{RecordId, Seat, Store};
+use lst_rule::{RecordId, Seat, Store};
 use lst_walk::row;
 use lst_write::{JudgeFault, append, install, judge, latch, release};
 

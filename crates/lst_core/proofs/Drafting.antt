@@ -10,7 +10,7 @@ use Rattle.lst_model.specs.declared.acts.Act.TheVariants.{Put, Set, Del}
 use Rattle.lst_model.specs.Cells.{Cell}
 use Rattle.lst_model.specs.Histories.{row_from}
 use Rattle.lst_model.specs.Soundness.{Fits}
-use Rattle.lst_versions.specs.Lists.{acts}
+use Rattle.lst_core_state.specs.Lists.{acts}
 use Rattle.lst_core_state.specs.declared.known.Hold.{Hold}
 use Rattle.lst_core_state.specs.Cells.{has_bit, kind_of, mask_of, IsCell, record_of, tail_range, act_of, listed, patched}
 use Rattle.lst_core_state.specs.State.{record_in, state_at, act_in, line}

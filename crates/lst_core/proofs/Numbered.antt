@@ -9,7 +9,7 @@ use Rattle.lst_layout.specs.Addresses as layout
 use Rattle.lst_layout.specs.Addresses.{place_of}
 use Rattle.lst_model.specs.declared.acts.Write.{Write}
 use Rattle.lst_model.specs.Histories.{joined}
-use Rattle.lst_versions.specs.Writes.{commit, write}
+use Rattle.lst_core_state.specs.Writes.{commit, write}
 use Rattle.lst_core_state.specs.declared.events.Event.{Event}
 use Rattle.lst_core_state.specs.declared.events.Event.TheVariants.{Look, Begin, Take, Log, State, Clock, Give, Close, DrawRecord, StoreKey, Claim, Latch, DrawTail, StoreCell, Install, Release, Stamp}
 use Rattle.lst_core_state.specs.declared.known.Known.{Known}

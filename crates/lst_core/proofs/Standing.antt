@@ -4,7 +4,7 @@ use Rattle.std.specs.Prelude.{◌↔◌, IsTrue}
 use Rattle.lst_layout.specs.declared.limits.Limits.{Limits}
 use Rattle.lst_layout.specs.Words.{Words, shown}
 use Rattle.lst_model.specs.declared.acts.Act.{Act}
-use Rattle.lst_versions.specs.Lists.{acts}
+use Rattle.lst_core_state.specs.Lists.{acts}
 use Rattle.lst_core_state.specs.declared.events.Event.{Event}
 use Rattle.lst_core_state.specs.declared.events.Event.TheVariants.{Claim, DrawTail, StoreCell}
 use Rattle.lst_core_state.specs.declared.known.Known.{Known}

@@ -23,7 +23,7 @@ use Rattle.lst_core_state.proofs.Histories.{length-history, starts_length}
 use Rattle.lst_core_state.proofs.CellsKept.{tail_at-some}
 use Rattle.lst_core_state.proofs.Keeps.{keeps, session_low}
 use Rattle.lst_core_state.proofs.Room.{clock_low, seen_few}
-use Rattle.lst_versions.specs.Lists.{Has}
+use Rattle.lst_core_state.specs.Lists.{Has}
 use Rattle.lst_core.specs.declared.numbers.Numbers.{Numbers}
 use Rattle.lst_core.specs.Numbers.{numbers_of, place_for, written_of, numbers_after, numbers_look, gives_up, Allows}
 use Rattle.lst_core.specs.Targets.{time_for}

@@ -9,7 +9,7 @@ use Rattle.lst_model.specs.Cells.{Cell}
 use Rattle.lst_model.specs.Histories.{row_from, row_after}
 use Rattle.lst_model.specs.Soundness.{Fits}
 use Rattle.lst_model.proofs.Folds.{row_from-append}
-use Rattle.lst_versions.specs.Lists.{Has, Links, Fitting, Judged, Under, acts, is_live}
+use Rattle.lst_core_state.specs.Lists.{Has, Links, Fitting, Judged, Under, acts, is_live}
 use Rattle.lst_core_state.specs.Cells.{record_count, tail_count, kind_of, act_of, listed, patched, mask_of, IsCell}
 use Rattle.lst_core_state.specs.State.{entry, writer_at, state_at, line, back_in, head_of, act_in, FitsAfter}
 use Rattle.lst_core.specs.Reading.{IsRead, IsPresent}

@@ -10,7 +10,7 @@ use Rattle.lst_core_state.specs.Cells.{record_count, tail_count, kind_of, mask_o
 use Rattle.lst_core_state.specs.declared.events.Event.{Event}
 use Rattle.lst_core_state.specs.declared.events.Event.TheVariants.{Stamp}
 use Rattle.lst_core_state.specs.declared.known.Hold.{Hold}
-use Rattle.lst_versions.specs.Lists.{acts}
+use Rattle.lst_core_state.specs.Lists.{acts}
 use Rattle.lst_core.specs.declared.numbers.Numbers.{Numbers}
 use Rattle.lst_core.specs.Numbers.{numbers_of}
 use Rattle.lst_core_state.specs.Sound.{Sound}

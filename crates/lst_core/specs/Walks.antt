@@ -2,7 +2,7 @@
 use Rattle.std.specs.Prelude.{◌≡◌, ◌↔◌, ℕ, ◌<◌, ◌≤◌, List, None, not, eqb}
 use Rattle.lst_layout.specs.declared.limits.Limits.{Limits}
 use Rattle.lst_model.specs.Histories.{row_from}
-use Rattle.lst_versions.specs.Lists.{Has, Links, Fitting, Judged, acts}
+use Rattle.lst_core_state.specs.Lists.{Has, Links, Fitting, Judged, acts}
 use Rattle.lst_core_state.specs.Cells.{tail_count}
 use Rattle.lst_core_state.specs.State.{Words, entry, writer_at, state_at, line, back_in, act_in, FitsAfter}
 

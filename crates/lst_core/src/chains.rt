@@ -5,7 +5,7 @@ ghost use Rattle.lst_layout.specs.Areas.{words_of};
 ghost use Rattle.lst_layout.specs.Words.{shown};
 ghost use Rattle.lst_layout.specs.declared.place.Place.TheVariants.{StateWord};
 ghost use Rattle.lst_model.specs.Histories.{row_from};
-ghost use Rattle.lst_versions.specs.Lists.{Judged, acts};
+ghost use Rattle.lst_core_state.specs.Lists.{Judged, acts};
 ghost use Rattle.lst_core_state.specs.Cells.{tail_count, record_count};
 ghost use Rattle.lst_core_state.specs.State.{entry, writer_at, state_at, line, head_of, back_in, act_in};
 ghost use Rattle.lst_core_state.specs.Step.{IsCommitted};

@@ -6,9 +6,9 @@ use native.Mathlib.Decide.{ℕ_discrete}
 use Rattle.lst_layout.specs.declared.limits.Limits.{Limits}
 use Rattle.lst_layout.specs.Limits.{IsValid}
 use Rattle.lst_layout.specs.Functions.{put, put_in}
-use Rattle.lst_versions.specs.Lists.{Has, Links, Below, acts, is_live}
+use Rattle.lst_core_state.specs.Lists.{Has, Links, Below, acts, is_live}
 use Rattle.lst_core_state.proofs.Functions.{put_here, put_else, each_put, put_in_row, put_in_else}
-use Rattle.lst_versions.proofs.Lists.{links_chain, below_step}
+use Rattle.lst_core_state.proofs.Lists.{links_chain, below_step}
 use Rattle.lst_core_state.specs.declared.known.Known.{Known}
 use Rattle.lst_core_state.specs.declared.known.Hold.{Hold}
 use Rattle.lst_core_state.specs.Cells.{record_count, range_of, tail_at, tail_range}

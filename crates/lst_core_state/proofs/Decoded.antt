@@ -6,10 +6,10 @@ use Rattle.lst_layout.specs.declared.limits.Limits.{Limits}
 use Rattle.lst_layout.specs.Limits.{IsValid}
 use Rattle.lst_model.specs.declared.acts.Act.{Act}
 use Rattle.lst_model.specs.Histories.{acts_on}
-use Rattle.lst_versions.specs.Lists.{Has, Links, acts, down}
-use Rattle.lst_versions.specs.Writes.{commit, line_by}
-use Rattle.lst_versions.proofs.Lists.{acts_all, acts_same, acts_none}
-use Rattle.lst_versions.proofs.Writes.{same_lines, writes_line, writes_rising, writes_same}
+use Rattle.lst_core_state.specs.Lists.{Has, Links, acts, down}
+use Rattle.lst_core_state.specs.Writes.{commit, line_by}
+use Rattle.lst_core_state.proofs.Lists.{acts_all, acts_same, acts_none}
+use Rattle.lst_core_state.proofs.Writes.{same_lines, writes_line, writes_rising, writes_same}
 use Rattle.lst_core_state.specs.declared.known.Known.{Known}
 use Rattle.lst_core_state.specs.Cells.{record_count, tail_count}
 use Rattle.lst_core_state.specs.Index.{is_placed}

@@ -7,7 +7,7 @@ use Rattle.lst_layout.specs.Addresses as layout
 use Rattle.lst_layout.specs.Addresses.{place_of}
 use Rattle.lst_layout.specs.Areas.{words_of}
 use Rattle.lst_layout.proofs.Places.{at}
-use Rattle.lst_versions.specs.Lists.{Has}
+use Rattle.lst_core_state.specs.Lists.{Has}
 use Rattle.lst_core_state.specs.declared.known.Known.{Known}
 use Rattle.lst_core_state.specs.declared.known.Hold.{Hold}
 use Rattle.lst_core_state.specs.declared.known.Done.{Done}

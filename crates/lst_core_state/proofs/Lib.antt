@@ -30,3 +30,6 @@ pub mod Starts
 pub mod Keeps
 pub mod Statements
 pub mod Room
+pub mod Lists
+pub mod Sights
+pub mod Writes

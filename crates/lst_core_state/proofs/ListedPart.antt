@@ -7,8 +7,8 @@ use mathlib.Core.Logic.{dite}
 use native.Mathlib.Decide.{ℕ_discrete, dec_lt}
 use Rattle.lst_layout.specs.declared.limits.Limits.{Limits}
 use Rattle.lst_layout.specs.Functions.{put}
-use Rattle.lst_versions.specs.Lists.{Has}
-use Rattle.lst_versions.proofs.Lists.{links_low}
+use Rattle.lst_core_state.specs.Lists.{Has}
+use Rattle.lst_core_state.proofs.Lists.{links_low}
 use Rattle.lst_core_state.specs.declared.known.Known.{Known}
 use Rattle.lst_core_state.specs.declared.known.Done.{Done}
 use Rattle.lst_core_state.specs.declared.events.Event.{Event}

@@ -5,7 +5,7 @@ use native.Mathlib.Decide.{ℕ_discrete}
 use Rattle.lst_layout.specs.Limits.{IsValid}
 use Rattle.lst_layout.specs.Functions.{put}
 use Rattle.lst_model.specs.Histories.{acts_on, joined}
-use Rattle.lst_versions.specs.Writes.{Rising, write}
+use Rattle.lst_core_state.specs.Writes.{Rising, write}
 use Rattle.lst_core_state.specs.Cells.{record_count}
 use Rattle.lst_core_state.specs.Index.{is_placed}
 use Rattle.lst_core_state.specs.State.{Words, writer_at, name_of, line, act_in}
@@ -17,9 +17,9 @@ use Rattle.lst_layout.specs.declared.limits.Limits.{Limits}
 use Rattle.lst_model.specs.declared.acts.Act.{Act}
 use Rattle.lst_core_state.specs.declared.known.Known.{Known}
 use Rattle.lst_model.specs.declared.acts.Write.{Write}
-use Rattle.lst_versions.specs.Lists.{Has, acts}
-use Rattle.lst_versions.proofs.Lists.{acts_same, acts_none}
-use Rattle.lst_versions.proofs.Writes.{line_joined-here, line_joined-else, rising_joined}
+use Rattle.lst_core_state.specs.Lists.{Has, acts}
+use Rattle.lst_core_state.proofs.Lists.{acts_same, acts_none}
+use Rattle.lst_core_state.proofs.Writes.{line_joined-here, line_joined-else, rising_joined}
 
 -- the index as it was, or with a new record of a new key that has no versions
 pub record Reindexed (l : Limits) (w w' : Words) : Type 0 where

@@ -2,13 +2,13 @@
 use Rattle.std.proofs.Common.{◌≡◌, ◌⊎◌, ℕ, zero, suc, ◌+◌, ◌*◌, ◌/◌, ◌%◌, ◌<◌, ◌≤◌, List, [], ◌∷◌, ◌++◌, true, take, sym, subst, arith, inl, inr, ⊎_elim}
 use mathlib.Core.Logic.{dite}
 use native.Mathlib.Decide.{ℕ_discrete}
-use Rattle.lst_versions.specs.Lists.{is_until}
+use Rattle.lst_core_state.specs.Lists.{is_until}
 use Rattle.lst_core_state.specs.State.{Words, Core, entry, writes_of, history, commit_at}
 use Rattle.lst_model.specs.declared.commits.Commit.{Commit}
 use Rattle.lst_core_state.specs.declared.known.Known.{Known}
 use Rattle.lst_core_state.specs.Laws.{Names}
 use Rattle.lst_core_state.specs.Sound.{Sound}
-use Rattle.lst_versions.proofs.Sights.{until_says, until_holds}
+use Rattle.lst_core_state.proofs.Sights.{until_says, until_holds}
 use Rattle.lst_core_state.proofs.Sightings.{seen_front, begin_low}
 
 names_front : (xs ys : List Commit) (s n : ℕ) → Names xs s n → Names (xs ++ ys) s n

@@ -8,8 +8,8 @@ use Rattle.lst_layout.specs.Functions.{put}
 use Rattle.lst_model.specs.declared.acts.Write.{Write}
 use Rattle.lst_model.specs.declared.commits.Commit.{Commit}
 use Rattle.lst_model.specs.Histories.{acts_on, all_acts_on, joined}
-use Rattle.lst_versions.specs.Writes.{write, commit}
-use Rattle.lst_versions.proofs.Writes.{all_acts_on-append, line_joined-else}
+use Rattle.lst_core_state.specs.Writes.{write, commit}
+use Rattle.lst_core_state.proofs.Writes.{all_acts_on-append, line_joined-else}
 use Rattle.lst_core_state.specs.declared.known.Known.{Known}
 use Rattle.lst_core_state.specs.declared.facts.Fact.{Fact}
 use Rattle.lst_core_state.specs.declared.facts.Fact.TheVariants.{IndexAt, RecordsAtLeast, TailsAtLeast, EpochAtLeast}

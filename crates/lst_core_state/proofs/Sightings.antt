@@ -5,24 +5,24 @@ use native.Mathlib.Decide.{ℕ_discrete}
 use Rattle.std.proofs.lemmas.List.{take-append-le}
 use Rattle.std.proofs.Math.Seq.{take-append_seam}
 use Rattle.lst_model.specs.Histories.{acts_on, all_acts_on}
-use Rattle.lst_versions.specs.Lists.{is_until}
+use Rattle.lst_core_state.specs.Lists.{is_until}
 use Rattle.lst_core_state.specs.Cells.{record_count}
 use Rattle.lst_core_state.specs.Index.{is_placed}
 use Rattle.lst_core_state.specs.State.{Words, Core, rank, entry, writer_at, name_of, line, is_visible, writes_of, history, history_of, commit_at, FitsAfter, sight, act_in}
-use Rattle.lst_versions.proofs.Writes.{all_acts_on-append}
+use Rattle.lst_core_state.proofs.Writes.{all_acts_on-append}
 use Rattle.lst_core_state.proofs.Decoded.{by_line, by_none, find_key, logged_apart, writes_on}
 use Rattle.lst_layout.specs.declared.limits.Limits.{Limits}
 use Rattle.lst_model.specs.declared.acts.Act.{Act}
 use Rattle.lst_model.specs.declared.acts.Write.{Write}
 use Rattle.lst_model.specs.declared.commits.Commit.{Commit}
 use Rattle.lst_core_state.specs.declared.known.Known.{Known}
-use Rattle.lst_versions.specs.Lists.{Has, acts, Under, Below, Fitted}
+use Rattle.lst_core_state.specs.Lists.{Has, acts, Under, Below, Fitted}
 use Rattle.lst_core_state.specs.Sound.{Versions, Sound}
 use Rattle.lst_core_state.proofs.Histories.{length-history, starts_length}
-use Rattle.lst_versions.proofs.Lists.{acts_none, acts_same, ordered_pairs}
+use Rattle.lst_core_state.proofs.Lists.{acts_none, acts_same, ordered_pairs}
 use Rattle.lst_core_state.proofs.Steps.{name_entry}
 use Rattle.lst_core_state.proofs.VersionsKept.{early_of}
-use Rattle.lst_versions.proofs.Sights.{same_truth, until_says, until_not, acts_until, acts_sight, acts_live, acts_some, two_of, fitted_line}
+use Rattle.lst_core_state.proofs.Sights.{same_truth, until_says, until_not, acts_until, acts_sight, acts_live, acts_some, two_of, fitted_line}
 
 -- an earlier history is the front of a later one
 pub history_front : (c b : ℕ) (log : ℕ → ℕ) (begins : ℕ → ℕ → ℕ) (ws : ℕ → List Write) → b ≤ c → take b (history c log begins ws) ≡ history b log begins ws

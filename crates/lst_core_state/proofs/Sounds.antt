@@ -12,7 +12,7 @@ use Rattle.lst_model.specs.Histories.{acts_on, all_acts_on, row_from, Extends}
 use Rattle.lst_model.specs.Soundness.{FitInTurn, Follows, IsSound}
 use Rattle.lst_model.proofs.Folds.{row_from-append}
 use Rattle.lst_model.proofs.Fitting.{in_order}
-use Rattle.lst_versions.specs.Lists.{Fitted}
+use Rattle.lst_core_state.specs.Lists.{Fitted}
 use Rattle.lst_core_state.specs.Cells.{record_count}
 use Rattle.lst_core_state.specs.Index.{is_placed}
 use Rattle.lst_core_state.specs.State.{Words, Core, entry, writes_of, history, history_of, commit_at, FitsAfter}

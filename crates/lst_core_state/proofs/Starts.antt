@@ -4,7 +4,7 @@ use Rattle.std.proofs.lemmas.List.{length-replicate, get_or-replicate}
 use Rattle.lst_layout.specs.declared.limits.Limits.{Limits}
 use Rattle.lst_layout.specs.Limits.{IsValid}
 use Rattle.lst_layout.specs.Words as layout
-use Rattle.lst_versions.specs.Lists.{Has, chain_of}
+use Rattle.lst_core_state.specs.Lists.{Has, chain_of}
 use Rattle.lst_core_state.specs.Cells.{range_of, tail_at}
 use Rattle.lst_core_state.specs.State.{history, line, back_in, no_counter, newcomer}
 use Rattle.lst_core_state.specs.Runs.{opening}

@@ -7,7 +7,7 @@ use Rattle.lst_model.specs.declared.acts.Act.{Act}
 use Rattle.lst_model.specs.declared.commits.Commit.{Commit}
 use Rattle.lst_model.specs.Histories.{all_acts_on, acts_on, Extends}
 use Rattle.lst_model.specs.Soundness.{IsSound, IsConflictFree}
-use Rattle.lst_versions.proofs.Lists.{judged_below}
+use Rattle.lst_core_state.proofs.Lists.{judged_below}
 use Rattle.lst_core_state.specs.declared.known.Known.{Known}
 use Rattle.lst_core_state.specs.declared.facts.Fact.{Fact}
 use Rattle.lst_layout.specs.Functions.{put}

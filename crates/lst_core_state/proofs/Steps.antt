@@ -4,9 +4,9 @@ use mathlib.Core.Logic.{dite}
 use native.Mathlib.Decide.{ℕ_discrete}
 use Rattle.lst_layout.specs.declared.limits.Limits.{Limits}
 use Rattle.lst_layout.specs.Functions.{put}
-use Rattle.lst_versions.specs.Lists.{Has, Links, Below}
+use Rattle.lst_core_state.specs.Lists.{Has, Links, Below}
 use Rattle.lst_core_state.proofs.Functions.{put_here, put_else}
-use Rattle.lst_versions.proofs.Lists.{links_chain, links_same, ordered_step, below_step, fitting_step}
+use Rattle.lst_core_state.proofs.Lists.{links_chain, links_same, ordered_step, below_step, fitting_step}
 use Rattle.lst_core_state.specs.declared.known.Known.{Known}
 use Rattle.lst_core_state.specs.declared.known.Hold.{Hold}
 use Rattle.lst_core_state.specs.Cells.{range_of, tail_at, tail_range, record_of, act_of, listed, record_count}

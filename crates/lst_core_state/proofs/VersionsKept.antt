@@ -5,7 +5,7 @@ use native.Mathlib.Decide.{ℕ_discrete, dec_le, dec_lt}
 use Rattle.lst_layout.specs.declared.limits.Limits.{Limits}
 use Rattle.lst_core_state.specs.declared.known.Known.{Known}
 use Rattle.lst_layout.specs.Functions.{put, put_in}
-use Rattle.lst_versions.specs.Lists.{Has, Links, Judged}
+use Rattle.lst_core_state.specs.Lists.{Has, Links, Judged}
 use Rattle.lst_core_state.specs.declared.known.Hold.{Hold}
 use Rattle.lst_core_state.specs.Cells.{record_count, range_of, tail_at}
 use Rattle.lst_core_state.specs.Index.{is_placed}
@@ -13,7 +13,7 @@ use Rattle.lst_core_state.specs.State.{Words, entry, writer_at, name_of, line, r
 use Rattle.lst_layout.specs.Limits.{IsValid}
 use Rattle.lst_core_state.specs.Sound.{LineOf, Begun, InHand, StoredOf, Hand, HandOf, Versions, TimesOf, Each, Latched, Drawn}
 use Rattle.lst_core_state.proofs.Functions.{put_here, put_else, each_put, put_in_else}
-use Rattle.lst_versions.proofs.Lists.{judged_below}
+use Rattle.lst_core_state.proofs.Lists.{judged_below}
 use Rattle.lst_core_state.proofs.Steps.{writer_odd, writer_log, name_session, name_entry, Same, line_step, stored_step, hand_none, hand_idle, hand_step, Distinct, distinct_put, distinct_same}
 
 -- what a kind has to show of another session's hand

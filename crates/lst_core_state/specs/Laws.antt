@@ -3,8 +3,8 @@ use Rattle.std.specs.Prelude.{◌≡◌, ◌≢◌, ◌⊎◌, ◌↔◌, ℕ, �
 use Rattle.lst_model.specs.declared.commits.Commit.{Commit}
 use Rattle.lst_model.specs.Histories.{all_acts_on, Extends}
 use Rattle.lst_model.specs.Soundness.{IsSound, IsConflictFree}
-use Rattle.lst_versions.specs.Lists.{acts, Judged, is_until}
-use Rattle.lst_versions.specs.Writes.{commit}
+use Rattle.lst_core_state.specs.Lists.{acts, Judged, is_until}
+use Rattle.lst_core_state.specs.Writes.{commit}
 use Rattle.lst_layout.specs.Functions.{put}
 use Rattle.lst_core_state.specs.declared.known.Known.{Known}
 use Rattle.lst_core_state.specs.declared.events.Event.{Event}

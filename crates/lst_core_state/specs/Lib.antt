@@ -6,3 +6,5 @@ pub mod Step
 pub mod Sound
 pub mod Runs
 pub mod Laws
+pub mod Lists
+pub mod Writes

@@ -7,8 +7,8 @@ use Rattle.lst_model.specs.declared.acts.Act.{Act}
 use Rattle.lst_model.specs.declared.acts.Write.{Write}
 use Rattle.lst_model.specs.declared.commits.Commit.{Commit}
 use Rattle.lst_model.specs.Histories.{acts_on, all_acts_on, Extends}
-use Rattle.lst_versions.specs.Lists.{Has, Links, acts, Below, Ordered, Fitting}
-use Rattle.lst_versions.specs.Writes.{Rising}
+use Rattle.lst_core_state.specs.Lists.{Has, Links, acts, Below, Ordered, Fitting}
+use Rattle.lst_core_state.specs.Writes.{Rising}
 use Rattle.lst_core_state.specs.declared.known.Known.{Known}
 use Rattle.lst_core_state.specs.declared.known.Counter.{Counter}
 use Rattle.lst_core_state.specs.declared.known.Placing.{Placing}

@@ -7,8 +7,8 @@ use Rattle.lst_model.specs.declared.acts.Write.{Write}
 use Rattle.lst_model.specs.declared.commits.Commit.{Commit}
 use Rattle.lst_model.specs.Histories.{acts_on, all_acts_on, row_from}
 use Rattle.lst_model.specs.Soundness.{Fits}
-use Rattle.lst_versions.specs.Lists.{chain_of, is_until}
-use Rattle.lst_versions.specs.Writes.{commit, writes_by}
+use Rattle.lst_core_state.specs.Lists.{chain_of, is_until}
+use Rattle.lst_core_state.specs.Writes.{commit, writes_by}
 use Rattle.lst_core_state.specs.declared.known.Known.{Known}
 use Rattle.lst_core_state.specs.declared.known.Counter.{Counter}
 use Rattle.lst_core_state.specs.declared.known.Placing.{Placing}

@@ -4,8 +4,8 @@ use Rattle.lst_layout.specs.declared.limits.Limits.{Limits}
 use Rattle.lst_layout.specs.Areas.{words_of}
 use Rattle.lst_model.specs.Histories.{joined}
 use Rattle.lst_layout.specs.Functions.{put, put_in}
-use Rattle.lst_versions.specs.Lists.{Judged}
-use Rattle.lst_versions.specs.Writes.{write, commit}
+use Rattle.lst_core_state.specs.Lists.{Judged}
+use Rattle.lst_core_state.specs.Writes.{write, commit}
 use Rattle.lst_core_state.specs.declared.events.Event.{Event}
 use Rattle.lst_core_state.specs.declared.events.Event.TheVariants.{Look, Begin, Take, Log, State, Clock, Give, Close, DrawRecord, StoreKey, Claim, Latch, DrawTail, StoreCell, Install, Release, Stamp}
 use Rattle.lst_layout.specs.declared.place.Place.{Place}

@@ -4,7 +4,7 @@ use Rattle.std.proofs.Math.Nat.{mul-le-mul_right, suc-mul, le-div_iff_mul-le}
 use mathlib.Core.Logic.{dite}
 use native.Mathlib.Decide.{dec_lt}
 use Rattle.lst_layout.specs.declared.limits.Limits.{Limits}
-use Rattle.lst_versions.specs.Lists.{Has}
+use Rattle.lst_core_state.specs.Lists.{Has}
 use Rattle.lst_core_state.specs.declared.known.Hold.{Hold}
 use Rattle.lst_core_state.specs.Cells.{record_count, tail_range, record_of}
 use Rattle.lst_core_state.specs.Index.{is_placed}

@@ -8,9 +8,9 @@ use Rattle.lst_model.specs.declared.acts.Write.{Write}
 use Rattle.lst_model.specs.Tables.{row_of}
 use Rattle.lst_model.specs.Histories.{row_from, joined, acts_on, all_acts_on, snapshot}
 use Rattle.lst_model.proofs.Folds.{get_snapshot}
-use Rattle.lst_versions.specs.Lists.{Has}
-use Rattle.lst_versions.specs.Writes.{write, writes_by}
-use Rattle.lst_versions.proofs.Sights.{same_truth}
+use Rattle.lst_core_state.specs.Lists.{Has}
+use Rattle.lst_core_state.specs.Writes.{write, writes_by}
+use Rattle.lst_core_state.proofs.Sights.{same_truth}
 use Rattle.lst_machine.specs.State.{Accepted}
 use Rattle.lst_machine.specs.Writes.{gathered, accepted_below, own_writes}
 use Rattle.lst_core_state.specs.declared.known.Known.{Known}

@@ -4,7 +4,7 @@ use Rattle.std.specs.Prelude.{Option, Some, None, is_some, ◌==◌}
 use Rattle.std.specs.List.{position_or_len}
 use Rattle.lst_layout.specs.declared.limits.Limits.{Limits}
 use Rattle.lst_layout.proofs.Functions.{put_here, put_else}
-use Rattle.lst_versions.specs.Writes.{write}
+use Rattle.lst_core_state.specs.Writes.{write}
 use Rattle.lst_machine.specs.Writes.{place_of, with_key}
 use Rattle.lst_machine.specs.Calls.{with_placed}
 use Rattle.lst_core_state.specs.Cells.{listed, record_count}

@@ -8,9 +8,9 @@ use Rattle.lst_model.specs.declared.acts.Write.{Write}
 use Rattle.lst_model.specs.declared.commits.Commit.{Commit}
 use Rattle.lst_model.specs.declared.replies.Cause.{Cause}
 use Rattle.lst_model.specs.declared.replies.Cause.TheVariants.{Newer, Unfinished}
-use Rattle.lst_versions.specs.Lists.{Has, Links}
-use Rattle.lst_versions.proofs.Lists.{links_low}
-use Rattle.lst_versions.proofs.Sights.{is_false}
+use Rattle.lst_core_state.specs.Lists.{Has, Links}
+use Rattle.lst_core_state.proofs.Lists.{links_low}
+use Rattle.lst_core_state.proofs.Sights.{is_false}
 use Rattle.lst_machine.specs.State.{Accepted}
 use Rattle.lst_machine.specs.Writes.{time_of, last_where, rival_of, conflict_at, conflict_with, conflict_of}
 use Rattle.lst_core_state.specs.Cells.{record_count, range_of}

@@ -1,8 +1,8 @@
 -- Words that name the same writers of the same tails tell the same commits and the same accepted writes. Stamps leave both.
 use Rattle.std.proofs.Common.{◌≡◌, ℕ, zero, suc, ◌+◌, ◌-◌, ◌*◌, ◌/◌, ◌%◌, ◌<◌, eqb, nat_lt, [], ◌∷◌, ◌++◌, refl, ap, ◌∙◌, sym, arith, true≢false, ne_eqb, lt-ltb, ◌&&◌}
 use Rattle.lst_layout.specs.declared.limits.Limits.{Limits}
-use Rattle.lst_versions.specs.Writes.{write}
-use Rattle.lst_versions.proofs.Writes.{writes_same}
+use Rattle.lst_core_state.specs.Writes.{write}
+use Rattle.lst_core_state.proofs.Writes.{writes_same}
 use Rattle.lst_core_state.specs.declared.known.Known.{Known}
 use Rattle.lst_core_state.specs.Cells.{tail_count}
 use Rattle.lst_core_state.specs.State.{Words, writer, writer_at, record_in, act_in, is_by, writes_of, history_of}

@@ -7,7 +7,7 @@ use Rattle.lst_layout.specs.declared.limits.Limits.{Limits}
 use Rattle.lst_layout.specs.Functions.{put}
 use Rattle.lst_layout.proofs.Functions.{put_here, put_else}
 use Rattle.lst_model.specs.declared.acts.Act.{Act}
-use Rattle.lst_versions.specs.Writes.{write}
+use Rattle.lst_core_state.specs.Writes.{write}
 use Rattle.lst_machine.specs.State.{Accepted}
 use Rattle.lst_machine.specs.Writes as machine
 use Rattle.lst_machine.specs.Calls.{with_accepted}

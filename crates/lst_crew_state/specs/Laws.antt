@@ -9,7 +9,7 @@ use Rattle.lst_model.specs.declared.replies.Cause.{Cause}
 use Rattle.lst_model.specs.declared.replies.Cause.TheVariants.{Newer, Unfinished}
 use Rattle.lst_model.specs.Tables.{row_of}
 use Rattle.lst_model.specs.Histories.{row_from}
-use Rattle.lst_versions.specs.Lists.{Has}
+use Rattle.lst_core_state.specs.Lists.{Has}
 use Rattle.lst_machine.specs.State.{Store, opening_store}
 use Rattle.lst_machine.specs.Writes.{place_of, range_of, own_writes, sight_of, conflict_of}
 use Rattle.lst_machine.specs.Calls.{with_opened, with_closed, with_commit, with_placed, with_accepted}

@@ -1,7 +1,7 @@
 -- The state of the machine of one thread that a store tells: its lists, read off the words.
 use Rattle.std.specs.Prelude.{ℕ, zero, suc, ◌+◌, ◌*◌, ◌/◌, ◌%◌, List, [], ◌∷◌, ◌++◌, cond, eqb, nat_lt, Option, Some, None}
 use Rattle.lst_layout.specs.declared.limits.Limits.{Limits}
-use Rattle.lst_versions.specs.Writes.{write}
+use Rattle.lst_core_state.specs.Writes.{write}
 use Rattle.lst_machine.specs.State.{Accepted, Opened, Store}
 use Rattle.lst_core_state.specs.declared.known.Known.{Known}
 use Rattle.lst_core_state.specs.Cells.{listed}

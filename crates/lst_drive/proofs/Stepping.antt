@@ -19,9 +19,9 @@ use Rattle.lst_rule.specs.Rule.{knows, hosts, crew}
 use Rattle.lst_rule.specs.Learned.{Learns}
 use Rattle.lst_rule.proofs.Opening.{same_at}
 use Rattle.lst_rule.proofs.Learning.{learns_on}
-use Rattle.lst_seat.specs.declared.store.Store.{Store}
-use Rattle.lst_seat.specs.Seats.{Sitting}
-use Rattle.lst_seat.specs.Stores.{IsSeatOf}
+use Rattle.lst_rule.specs.declared.store.Store.{Store}
+use Rattle.lst_rule.specs.Seats.{Sitting}
+use Rattle.lst_rule.specs.Stores.{IsSeatOf}
 use Rattle.lst_txn.specs.Transactions.{IsFree, Opens, Commits}
 use Rattle.lst_drive.specs.declared.pairs.Pair.{Pair}
 use Rattle.lst_index.specs.Searches.{Works}

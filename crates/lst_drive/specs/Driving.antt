@@ -7,9 +7,9 @@ use Rattle.lst_core_state.specs.State.{sight}
 use Rattle.lst_rule.specs.declared.view.View.{View}
 use Rattle.lst_rule.specs.Rule.{knows, hosts}
 use Rattle.lst_rule.specs.Learned.{Learns}
-use Rattle.lst_seat.specs.declared.store.Store.{Store}
-use Rattle.lst_seat.specs.Seats.{Sitting}
-use Rattle.lst_seat.specs.Stores.{IsSeatOf}
+use Rattle.lst_rule.specs.declared.store.Store.{Store}
+use Rattle.lst_rule.specs.Seats.{Sitting}
+use Rattle.lst_rule.specs.Stores.{IsSeatOf}
 use Rattle.lst_sights.specs.Seen.{HasKey}
 use Rattle.lst_txn.specs.Transactions.{IsFree}
 use Rattle.lst_drive.specs.declared.pairs.Pair.{Pair}

@@ -7,7 +7,7 @@ use crate::stages::{Answer, Deed, Stage};
 use arrayvec::ArrayVec;
 use lst_index::place;
 use lst_model::{Act, Key, Row};
-use lst_seat::{RecordId, Seat, Store};
+use lst_rule::{RecordId, Seat, Store};
 use lst_txn::{begin, close, take_turn};
 use lst_write::{append, install, judge, latch, release};
 

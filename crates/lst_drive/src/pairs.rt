@@ -7,7 +7,7 @@ use crate::deeds::step;
 use crate::stages::{Answer, Deed, Stage};
 use lst_layout::Layout;
 use lst_model::OutOfMemory;
-use lst_seat::{Seat, Store, load, open_store};
+use lst_rule::{Seat, Store, load, open_store};
 use std::alloc::Global;
 
 /// How far the sessions 0 and 1 are.

@@ -10,7 +10,7 @@ use crate::{
 use arrayvec::ArrayVec;
 use lst_layout::Limits;
 use lst_model::{Patch, Row};
-use lst_seat::{Seat, Store};
+use lst_rule::{Seat, Store};
 use lst_txn::{BeginFault, TurnFault};
 use lst_write::JudgeFault;
 use std::alloc::Global;

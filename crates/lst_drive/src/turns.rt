@@ -1,13 +1,13 @@
 //! A session that tries for the turn while another has it.
 ghost use Rattle.std.specs.Prelude.{◌≡◌, ◌<◌, length};
 ghost use Rattle.lst_rule.specs.Rule.{knows};
-ghost use Rattle.lst_seat.specs.Stores.{IsSeatOf};
+ghost use Rattle.lst_rule.specs.Stores.{IsSeatOf};
 ghost use Rattle.lst_drive.specs.Driving.{IsCrew, IsDriven, ArePair, Rests};
 
 use crate::pairs::Pair;
 use crate::stages::Stage;
 use lst_model::Time;
-use lst_seat::{Seat, Store};
+use lst_rule::{Seat, Store};
 use lst_txn::{BeginFault, TurnFault, as_of, take_turn};
 
 /// A session that has something to commit, or no open transaction, tries for the turn, and gives it back. Why it was refused, or None.

@@ -3,7 +3,7 @@ ghost use Rattle.std.specs.Prelude.{◌≡◌, ℕ, ◌<◌, List, [], ◌∷◌
 ghost use Rattle.lst_model.specs.declared.acts.Act.{Act};
 ghost use Rattle.lst_model.specs.Lines.{IsPatch};
 ghost use Rattle.lst_rule.specs.Rule.{knows, hosts};
-ghost use Rattle.lst_seat.specs.Stores.{IsSeatOf};
+ghost use Rattle.lst_rule.specs.Stores.{IsSeatOf};
 ghost use Rattle.lst_txn.specs.Transactions.{IsFree};
 ghost use Rattle.lst_write.specs.Cells.{IsActFor};
 ghost use Rattle.lst_write.specs.Holding.{MayLatch, IsPlaced};
@@ -12,7 +12,7 @@ ghost use Rattle.lst_drive.specs.Driving.{SeesActs, Writes};
 
 use lst_index::{RecordId, find, place};
 use lst_model::{Act, Key, Patch, Row, Time};
-use lst_seat::{Seat, Store};
+use lst_rule::{Seat, Store};
 use lst_txn::{begin, take_turn};
 use lst_write::{append, install, judge, latch, release};
 

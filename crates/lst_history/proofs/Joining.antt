@@ -9,8 +9,8 @@ use Rattle.lst_layout.specs.declared.limits.Limits.{Limits}
 use Rattle.lst_model.specs.declared.acts.Write.{Write}
 use Rattle.lst_model.specs.declared.commits.Commit.{Commit}
 use Rattle.lst_model.specs.Histories.{joined}
-use Rattle.lst_versions.specs.Writes.{Rising}
-use Rattle.lst_versions.proofs.Writes.{writes_rising}
+use Rattle.lst_core_state.specs.Writes.{Rising}
+use Rattle.lst_core_state.proofs.Writes.{writes_rising}
 use Rattle.lst_core_state.specs.State.{Words, history, commit_at, is_by, record_in, act_in}
 use Rattle.lst_core_state.proofs.Histories.{length-history, history_same}
 use Rattle.lst_history.specs.Commits.{writes_until, history_until, write_at, IsOfCommit, IsOfNone, with_write, entered}

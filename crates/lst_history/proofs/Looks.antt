@@ -23,9 +23,9 @@ use Rattle.lst_rule.specs.declared.view.View.{View}
 use Rattle.lst_rule.specs.Rule.{knows, Allowed}
 use Rattle.lst_rule.proofs.Knowing.{is_seen, knows_own}
 use Rattle.lst_rule.proofs.Learning.{learns_on, learns_same, kept_same, kept_on}
-use Rattle.lst_seat.specs.declared.store.Store.{Store}
-use Rattle.lst_seat.specs.Seats.{Sitting}
-use Rattle.lst_seat.specs.Stores.{IsSeatOf, Looked}
+use Rattle.lst_rule.specs.declared.store.Store.{Store}
+use Rattle.lst_rule.specs.Seats.{Sitting}
+use Rattle.lst_rule.specs.Stores.{IsSeatOf, Looked}
 use Rattle.lst_history.specs.Peeks.{Peeked, Peeks, words_in, IsReader, Reads}
 
 -- ---- several looks

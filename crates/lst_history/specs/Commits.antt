@@ -6,7 +6,7 @@ use Rattle.lst_model.specs.declared.acts.Act.TheVariants.{Put, Set, Del}
 use Rattle.lst_model.specs.declared.acts.Write.{Write}
 use Rattle.lst_model.specs.declared.commits.Commit.{Commit}
 use Rattle.lst_model.specs.Histories.{joined}
-use Rattle.lst_versions.specs.Writes.{write, writes_by}
+use Rattle.lst_core_state.specs.Writes.{write, writes_by}
 use Rattle.lst_bits.specs.declared.encodings.Kind.{Kind}
 use Rattle.lst_bits.specs.declared.encodings.Kind.TheVariants as kinds
 use Rattle.lst_core_state.specs.Cells.{patched}

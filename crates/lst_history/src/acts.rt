@@ -8,7 +8,7 @@ use crate::words::cell_word;
 use arrayvec::ArrayVec;
 use lst_bits::{Encoding, Kind, has_column};
 use lst_model::{Act, Patch, Row};
-use lst_seat::{Seat, Store};
+use lst_rule::{Seat, Store};
 
 /// What a tail record with this encoding does.
 pub(crate) fn act(store: &Store, seat: &mut Seat, s: u32, tail: u32, encoding: Encoding) -> Act

@@ -9,7 +9,7 @@ ghost use Rattle.lst_history.specs.Commits.{history_until};
 use crate::words::{begin_word, log_word};
 use lst_bits::{Log, unpack_begin, unpack_log};
 use lst_model::{Commit, OutOfMemory, Writes};
-use lst_seat::{Seat, Store};
+use lst_rule::{Seat, Store};
 use std::alloc::Global;
 
 /// The commits at the times from 1 to the clock, each without writes. It answers want of memory where the list finds none.

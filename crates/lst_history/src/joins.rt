@@ -3,7 +3,7 @@ ghost use Rattle.std.specs.Prelude.{◌≡◌, ℕ, ◌-◌, ◌<◌, ◌≤◌,
 ghost use Rattle.lst_model.specs.declared.acts.Write.{Write};
 ghost use Rattle.lst_model.specs.declared.commits.Commit.{Commit};
 ghost use Rattle.lst_model.specs.Histories.{joined};
-ghost use Rattle.lst_versions.specs.Writes.{Rising};
+ghost use Rattle.lst_core_state.specs.Writes.{Rising};
 ghost use Rattle.lst_history.specs.Commits.{with_write, entered};
 
 use lst_model::{Commit, Key, OutOfMemory, Write, Writes};

@@ -4,7 +4,7 @@ ghost use Rattle.lst_layout.specs.Words.{shown};
 ghost use Rattle.lst_core_state.specs.Cells.{tail_count};
 ghost use Rattle.lst_core_state.specs.State.{history_of, rank};
 ghost use Rattle.lst_rule.specs.Rule.{knows, hosts};
-ghost use Rattle.lst_seat.specs.Stores.{IsSeatOf};
+ghost use Rattle.lst_rule.specs.Stores.{IsSeatOf};
 ghost use Rattle.lst_history.specs.Peeks.{words_in, IsReader, Peeks, Reads};
 ghost use Rattle.lst_history.specs.Commits.{history_until};
 
@@ -13,7 +13,7 @@ use crate::joins::enter;
 use crate::tails::{commit_time, tail_write};
 use crate::words::clock;
 use lst_model::{Commit, History, OutOfMemory};
-use lst_seat::{Seat, Store};
+use lst_rule::{Seat, Store};
 use std::alloc::Global;
 
 /// The history of the store, as its log and its tail records have it, read by a seat that knows each word: each commit at its time, with its

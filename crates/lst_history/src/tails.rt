@@ -11,7 +11,7 @@ use crate::acts::act;
 use crate::words::{cell_word, key_word, state_word};
 use lst_bits::{Start, State, unpack_encoding, unpack_start, unpack_state};
 use lst_model::Write;
-use lst_seat::{Seat, Store};
+use lst_rule::{Seat, Store};
 
 /// The time of the commit that a tail record has a write of. None comes where it isn't stored, or its transaction isn't committed.
 pub(crate) fn commit_time(

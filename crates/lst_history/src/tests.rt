@@ -2,7 +2,7 @@
 
 use crate::history;
 use lst_layout::Limits;
-use lst_seat::open_store;
+use lst_rule::open_store;
 use std::test::Fail;
 
 const SMALL: Limits = Limits {

@@ -4,7 +4,7 @@ ghost use Rattle.lst_layout.specs.Addresses as layout;
 ghost use Rattle.lst_layout.specs.declared.place.Place.TheVariants.{BeginWord, StateWord, KeyWord, CellWord};
 ghost use Rattle.lst_history.specs.Peeks.{words_in, IsReader, Reads};
 
-use lst_seat::{Seat, Store, load, load_cell, load_clock, load_key, load_state};
+use lst_rule::{Seat, Store, load, load_cell, load_clock, load_key, load_state};
 
 /// The number of commits.
 pub(crate) fn clock(store: &Store, seat: &mut Seat, s: u32) -> u64

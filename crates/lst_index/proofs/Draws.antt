@@ -19,7 +19,7 @@ use Rattle.lst_core_state.specs.Step.{served, spent, drawn_full, if_full}
 use Rattle.lst_rule.specs.declared.view.View.{View}
 use Rattle.lst_rule.specs.Rule.{knows}
 use Rattle.lst_rule.specs.Learned.{Learns, Made, Met}
-use Rattle.lst_seat.specs.Stores.{Looked}
+use Rattle.lst_rule.specs.Stores.{Looked}
 use Rattle.lst_index.specs.Searches.{Works}
 use Rattle.lst_index.specs.Placings.{IsFull, drawn_words}
 use Rattle.lst_index.specs.Visits.{one, Uses, HasOne, Draws}

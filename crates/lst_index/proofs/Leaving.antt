@@ -9,9 +9,9 @@ use Rattle.lst_rule.specs.declared.view.View.{View}
 use Rattle.lst_rule.specs.Rule.{knows, hosts}
 use Rattle.lst_rule.specs.Learned.{Possible, Kept}
 use Rattle.lst_rule.proofs.Knowing.{whole_words}
-use Rattle.lst_seat.specs.declared.store.Store.{Store}
-use Rattle.lst_seat.specs.Seats.{Sitting}
-use Rattle.lst_seat.specs.declared.records.RecordId.{RecordId}
+use Rattle.lst_rule.specs.declared.store.Store.{Store}
+use Rattle.lst_rule.specs.Seats.{Sitting}
+use Rattle.lst_rule.specs.declared.records.RecordId.{RecordId}
 use Rattle.lst_index.specs.Searches.{Ended}
 use Rattle.lst_index.specs.Placings.{HasRecord, HasNone, drawn_words, claimed_words, PlacedAnew, Leaves, LeavesFull}
 use Rattle.lst_index.specs.Visits.{Draws, Claims, Places}

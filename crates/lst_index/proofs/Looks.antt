@@ -18,7 +18,7 @@ use Rattle.lst_rule.specs.declared.view.View.{View}
 use Rattle.lst_rule.specs.Rule.{knows, hosts}
 use Rattle.lst_rule.specs.Learned.{Learns, Possible}
 use Rattle.lst_rule.proofs.Knowing.{is_fact, knows_own}
-use Rattle.lst_seat.specs.Stores.{Looked}
+use Rattle.lst_rule.specs.Stores.{Looked}
 use Rattle.lst_index.specs.Searches.{IsPlaced, Passed, Ended, Works, Keeps}
 use Rattle.lst_index.specs.Placings.{HasRecord}
 use Rattle.lst_index.specs.Visits.{Shows, Holds, HasOne}

@@ -17,9 +17,9 @@ use Rattle.lst_rule.specs.declared.view.View.{View}
 use Rattle.lst_rule.specs.Rule.{knows, hosts, crew}
 use Rattle.lst_rule.proofs.Opening.{same_at}
 use Rattle.lst_rule.specs.Learned.{Possible}
-use Rattle.lst_seat.specs.declared.store.Store.{Store}
-use Rattle.lst_seat.specs.Seats.{Sitting}
-use Rattle.lst_seat.specs.Stores.{IsSeatOf}
+use Rattle.lst_rule.specs.declared.store.Store.{Store}
+use Rattle.lst_rule.specs.Seats.{Sitting}
+use Rattle.lst_rule.specs.Stores.{IsSeatOf}
 use Rattle.lst_index.specs.Searches.{Passed, Works, Keeps}
 use Rattle.lst_index.specs.Visits.{HasOne}
 use Rattle.lst_index.specs.Pairs.{IsPair, IsIdle}

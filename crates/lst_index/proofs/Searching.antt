@@ -10,9 +10,9 @@ use Rattle.lst_rule.specs.declared.view.View.{View}
 use Rattle.lst_rule.specs.Rule.{knows}
 use Rattle.lst_rule.specs.Learned.{Kept}
 use Rattle.lst_rule.proofs.Learning.{kept_on}
-use Rattle.lst_seat.specs.declared.store.Store.{Store}
-use Rattle.lst_seat.specs.Seats.{Sitting}
-use Rattle.lst_seat.specs.Stores.{IsSeatOf}
+use Rattle.lst_rule.specs.declared.store.Store.{Store}
+use Rattle.lst_rule.specs.Seats.{Sitting}
+use Rattle.lst_rule.specs.Stores.{IsSeatOf}
 use Rattle.lst_index.specs.Searches.{Passed, Works, Keeps}
 use Rattle.lst_index.specs.Visits.{Searches}
 use Rattle.lst_index.proofs.Hashing.{size_is}

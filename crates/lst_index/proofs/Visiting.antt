@@ -12,10 +12,10 @@ use Rattle.lst_core_state.specs.Index.{position_of}
 use Rattle.lst_rule.specs.declared.view.View.{View}
 use Rattle.lst_rule.specs.Rule.{knows, hosts}
 use Rattle.lst_rule.specs.Learned.{Possible}
-use Rattle.lst_seat.specs.declared.store.Store.{Store}
-use Rattle.lst_seat.specs.Seats.{Sitting}
-use Rattle.lst_seat.specs.Stores.{IsSeatOf}
-use Rattle.lst_seat.specs.declared.records.RecordId.{RecordId}
+use Rattle.lst_rule.specs.declared.store.Store.{Store}
+use Rattle.lst_rule.specs.Seats.{Sitting}
+use Rattle.lst_rule.specs.Stores.{IsSeatOf}
+use Rattle.lst_rule.specs.declared.records.RecordId.{RecordId}
 use Rattle.lst_index.specs.Searches.{Passed, Ended, IsUnseen, Works, Keeps}
 use Rattle.lst_index.specs.Placings.{Drew, IsFull, FoundFull, full_finds, WasUnplaced, DrawsAfterLook}
 use Rattle.lst_index.specs.Visits.{one, Uses, HasOne, Holds, Rests, Places}

@@ -1,9 +1,9 @@
 -- Two sessions that one seat hosts, which the tests drive against each other.
 use Rattle.std.specs.Prelude.{◌≡◌, ℕ, ◌<◌, true}
 use Rattle.lst_rule.specs.Rule.{knows, hosts}
-use Rattle.lst_seat.specs.declared.store.Store.{Store}
-use Rattle.lst_seat.specs.Seats.{Sitting}
-use Rattle.lst_seat.specs.Stores.{IsSeatOf}
+use Rattle.lst_rule.specs.declared.store.Store.{Store}
+use Rattle.lst_rule.specs.Seats.{Sitting}
+use Rattle.lst_rule.specs.Stores.{IsSeatOf}
 
 -- the session has no record in hand
 abbrev pub IsIdle : Sitting → ℕ → Type 0

@@ -15,7 +15,7 @@ use Rattle.lst_core_state.specs.State.{sight}
 use Rattle.lst_rule.specs.declared.view.View.{View}
 use Rattle.lst_rule.specs.Rule.{knows, Allowed}
 use Rattle.lst_rule.specs.Learned.{Learns}
-use Rattle.lst_seat.specs.Stores.{Looked}
+use Rattle.lst_rule.specs.Stores.{Looked}
 
 -- the key has this record: a position of the index holds it, for good
 abbrev pub IsPlaced : Known → ℕ → ℕ → Type 0

@@ -11,9 +11,9 @@ use Rattle.lst_core_state.specs.Index.{size, position_of}
 use Rattle.lst_rule.specs.declared.view.View.{View}
 use Rattle.lst_rule.specs.Rule.{knows, hosts}
 use Rattle.lst_rule.specs.Learned.{Kept}
-use Rattle.lst_seat.specs.declared.store.Store.{Store}
-use Rattle.lst_seat.specs.Seats.{Sitting}
-use Rattle.lst_seat.specs.Stores.{IsSeatOf}
+use Rattle.lst_rule.specs.declared.store.Store.{Store}
+use Rattle.lst_rule.specs.Seats.{Sitting}
+use Rattle.lst_rule.specs.Stores.{IsSeatOf}
 use Rattle.lst_index.specs.Searches.{Passed, Ended, Works, Keeps}
 use Rattle.lst_index.specs.Placings.{drawn_words, claimed_words, DrawsAfterLook}
 

@@ -3,13 +3,13 @@ ghost use Rattle.std.specs.Prelude.{◌≡◌, ◌<◌, [], true, IfSome, IfNone
 ghost use Rattle.lst_core_state.specs.Cells.{record_count};
 ghost use Rattle.lst_rule.specs.Rule.{knows, hosts};
 ghost use Rattle.lst_rule.specs.Learned.{Kept};
-ghost use Rattle.lst_seat.specs.Stores.{IsSeatOf};
+ghost use Rattle.lst_rule.specs.Stores.{IsSeatOf};
 ghost use Rattle.lst_index.specs.Searches.{Ended, IsPlaced, IsUnseen, Works, Keeps};
 
 use crate::positions::position;
 use crate::visits::{compare, look};
 use lst_model::Key;
-use lst_seat::{RecordId, Seat, Store};
+use lst_rule::{RecordId, Seat, Store};
 
 /// The record of a key. None comes exactly where the key's run was found to end without it: then no commit that the session has
 /// seen wrote the key, and its open transaction sees nothing of it.

@@ -9,5 +9,5 @@ mod tests;
 mod visits;
 
 pub use finding::find;
-pub use lst_seat::RecordId;
+pub use lst_rule::RecordId;
 pub use placing::{TableFull, place};

@@ -6,7 +6,7 @@ ghost use Rattle.lst_core_state.specs.Cells.{record_count};
 ghost use Rattle.lst_core_state.specs.Index.{size, position_of};
 ghost use Rattle.lst_rule.specs.Rule.{knows, hosts};
 ghost use Rattle.lst_rule.specs.Learned.{Kept};
-ghost use Rattle.lst_seat.specs.Stores.{IsSeatOf};
+ghost use Rattle.lst_rule.specs.Stores.{IsSeatOf};
 ghost use Rattle.lst_index.specs.Searches.{IsPlaced, Passed, Works};
 ghost use Rattle.lst_index.specs.Placings.{Drew, IsFull, FoundFull, full_finds, HasRecord, Leaves, LeavesFull, DrawsAfterLook};
 ghost use Rattle.lst_index.specs.Visits.{one, Holds, HasOne, Uses, Shows, Draws, Claims, Rests};
@@ -14,7 +14,7 @@ ghost use Rattle.lst_index.specs.Visits.{one, Holds, HasOne, Uses, Shows, Draws,
 use crate::positions::position;
 use crate::visits::{compare, look};
 use lst_model::Key;
-use lst_seat::{
+use lst_rule::{
     RecordId, Seat, Store, load_record_counter, step_claim, step_draw_record, step_store_key,
 };
 

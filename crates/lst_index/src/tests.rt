@@ -11,7 +11,7 @@ use crate::positions::position;
 use crate::visits::look;
 use crate::{find, place};
 use lst_layout::Limits;
-use lst_seat::{Seat, Store, open_store};
+use lst_rule::{Seat, Store, open_store};
 use std::alloc::Global;
 use std::test::Fail;
 

@@ -6,13 +6,13 @@ ghost use Rattle.lst_core_state.specs.Cells.{record_count};
 ghost use Rattle.lst_core_state.specs.Index.{size};
 ghost use Rattle.lst_rule.specs.Rule.{knows, hosts};
 ghost use Rattle.lst_rule.specs.Learned.{Kept};
-ghost use Rattle.lst_seat.specs.Stores.{IsSeatOf};
+ghost use Rattle.lst_rule.specs.Stores.{IsSeatOf};
 ghost use Rattle.lst_index.specs.Searches.{IsPlaced, Works, Keeps};
 ghost use Rattle.lst_index.specs.Placings.{HasRecord};
 ghost use Rattle.lst_index.specs.Visits.{Holds, Shows, Ends};
 
 use lst_model::Key;
-use lst_seat::{RecordId, Seat, Store, load_index, load_key};
+use lst_rule::{RecordId, Seat, Store, load_index, load_key};
 
 /// The record at a position of the index, if there is one.
 pub(crate) fn look(store: &Store, seat: &mut Seat, s: u32, position: u32) -> Option<u32>

@@ -2,10 +2,10 @@
 use Rattle.std.proofs.Common.{◌≡◌, ◌↔◌, IsTrue, Bool, List, subst}
 use Rattle.lst_layout.specs.declared.limits.Limits.{Limits}
 use Rattle.lst_model.specs.declared.lines.Line.{Line}
-use Rattle.lst_report.specs.declared.reports.Report.{Report}
-use Rattle.lst_report.specs.Runs.{Answered, run_of}
-use Rattle.lst_report.specs.ReplyKinds.{HaveReplyShape}
-use Rattle.lst_report.specs.Legal.{IsLegalReport}
+use Rattle.lst_replies.specs.declared.reports.Report.{Report}
+use Rattle.lst_replies.specs.Runs.{Answered, run_of}
+use Rattle.lst_replies.specs.ReplyKinds.{HaveReplyShape}
+use Rattle.lst_replies.specs.Legal.{IsLegalReport}
 use Rattle.lst_legal.specs.Judged.{IsJudged}
 
 pub legal_is : (b : Bool) (limits : Limits) (lines : List Line) (report : Report) (run : List Answered) → HaveReplyShape lines report.replies → run ≡ run_of lines report.replies → IsTrue b ↔ IsJudged limits run report.history → IsTrue b ↔ IsLegalReport limits lines report

@@ -7,8 +7,8 @@ use Rattle.lst_model.specs.declared.lines.Line.TheVariants.{Phase, Merge, Call}
 use Rattle.lst_model.specs.declared.replies.Reply.{Reply}
 use Rattle.lst_model.specs.declared.replies.Reply.TheVariants.{Begun, Done, Row, Absent, Committed, Ended, Aborted, Sum, Count, Rows, Keys, Refused, Merged, NothingNew, NoFrame, Silent}
 use Rattle.lst_legal.specs.Judged.{AreSessionsBelow}
-use Rattle.lst_report.specs.Runs.{Answered, answered, run_of, commit_time, speaker_of}
-use Rattle.lst_report.specs.ReplyKinds.{HaveReplyShape, can_answer_merge}
+use Rattle.lst_replies.specs.Runs.{Answered, answered, run_of, commit_time, speaker_of}
+use Rattle.lst_replies.specs.ReplyKinds.{HaveReplyShape, can_answer_merge}
 use Rattle.lst_legal_runs.specs.Places.{AreWithin}
 use Rattle.lst_legal_runs.specs.Gathering.{CommitsNothing}
 

@@ -12,12 +12,12 @@ use Rattle.lst_model.specs.declared.replies.Reply.{Reply}
 use Rattle.lst_model.specs.Tables.{Rows, applied}
 use Rattle.lst_model.specs.Histories.{joined, snapshot}
 use Rattle.lst_model.proofs.Joining.{joins}
-use Rattle.lst_report.specs.declared.states.Transaction.{Transaction}
-use Rattle.lst_report.specs.declared.states.SessionState.{SessionState}
-use Rattle.lst_report.specs.Runs.{Answered, answered, AtEachCall, write_of}
-use Rattle.lst_report.specs.States.{after_call, state_of, with_write, sight_of}
-use Rattle.lst_report.specs.Explained.{ReadIsAnswered, WriteIsAnswered}
-use Rattle.lst_report.specs.Legal.{AtEachWrite}
+use Rattle.lst_replies.specs.declared.states.Transaction.{Transaction}
+use Rattle.lst_replies.specs.declared.states.SessionState.{SessionState}
+use Rattle.lst_replies.specs.Runs.{Answered, answered, AtEachCall, write_of}
+use Rattle.lst_replies.specs.States.{after_call, state_of, with_write, sight_of}
+use Rattle.lst_replies.specs.Explained.{ReadIsAnswered, WriteIsAnswered}
+use Rattle.lst_replies.specs.Legal.{AtEachWrite}
 use Rattle.lst_legal_runs.specs.declared.outlines.OpenOutline.{OpenOutline}
 use Rattle.lst_legal_runs.specs.Outlines.{outline_of_open}
 use Rattle.lst_legal_runs.specs.Places.{AtEach}

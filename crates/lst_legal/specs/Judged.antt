@@ -3,12 +3,12 @@ use Rattle.std.specs.Prelude.{ℕ, ◌<◌, List, IfSome}
 use Rattle.std.specs.List.{All}
 use Rattle.lst_layout.specs.declared.limits.Limits.{Limits}
 use Rattle.lst_model.specs.declared.commits.Commit.{Commit}
-use Rattle.lst_report.specs.declared.reports.Stamp.{Stamp}
-use Rattle.lst_report.specs.Runs.{Answered, AtEachCall, AtEachMerge, speaker_of}
+use Rattle.lst_replies.specs.declared.reports.Stamp.{Stamp}
+use Rattle.lst_replies.specs.Runs.{Answered, AtEachCall, AtEachMerge, speaker_of}
 use Rattle.lst_model.specs.declared.lines.Line.{Line}
-use Rattle.lst_report.specs.States.{state_of, floor_of}
-use Rattle.lst_report.specs.Explained.{TimeIsBounded, ReadIsAnswered, StateIsTold, WriteIsAnswered, ConflictIsExplained, FullnessIsExplained, MergeIsAnswered}
-use Rattle.lst_report.specs.Legal.{AtEachWrite, HistoryMatches}
+use Rattle.lst_replies.specs.States.{state_of, floor_of}
+use Rattle.lst_replies.specs.Explained.{TimeIsBounded, ReadIsAnswered, StateIsTold, WriteIsAnswered, ConflictIsExplained, FullnessIsExplained, MergeIsAnswered}
+use Rattle.lst_replies.specs.Legal.{AtEachWrite, HistoryMatches}
 
 -- the sessions of a script are below a number
 abbrev pub AreSessionsBelow : ℕ → List Line → Type 0

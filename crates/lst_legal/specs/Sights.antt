@@ -3,11 +3,11 @@ use Rattle.std.specs.Prelude.{◌≡◌, ℕ, ◌<◌, List, length, slice_index
 use Rattle.lst_layout.specs.declared.limits.Limits.{Limits}
 use Rattle.lst_model.specs.declared.commits.Commit.{Commit}
 use Rattle.lst_model.specs.Histories.{StandByKey}
-use Rattle.lst_report.specs.declared.states.Transaction.{Transaction}
-use Rattle.lst_report.specs.declared.states.SessionState.{SessionState}
-use Rattle.lst_report.specs.Runs.{Answered, write_of}
-use Rattle.lst_report.specs.States.{state_of}
-use Rattle.lst_report.specs.Explained.{ReadIsAnswered, WriteIsAnswered, commit_at, has_write_on}
+use Rattle.lst_replies.specs.declared.states.Transaction.{Transaction}
+use Rattle.lst_replies.specs.declared.states.SessionState.{SessionState}
+use Rattle.lst_replies.specs.Runs.{Answered, write_of}
+use Rattle.lst_replies.specs.States.{state_of}
+use Rattle.lst_replies.specs.Explained.{ReadIsAnswered, WriteIsAnswered, commit_at, has_write_on}
 use Rattle.lst_model.specs.Cells.{Cell}
 use Rattle.lst_model.specs.declared.replies.Reply.{Reply}
 use Rattle.lst_model.specs.declared.replies.Reply.TheVariants.{Done, Refused}

@@ -6,7 +6,7 @@ use crate::{are_sessions_below, legal};
 use arrayvec::ArrayVec;
 use lst_layout::Limits;
 use lst_model::{Call, Cause, KeyList, Line, OutOfMemory, Patch, Reply, Row, RowList, Table};
-use lst_report::{Replies, Report, Stamp, Stamps};
+use lst_replies::{Replies, Report, Stamp, Stamps};
 use std::alloc::Global;
 use std::test::Fail;
 

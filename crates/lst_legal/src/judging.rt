@@ -1,10 +1,10 @@
 //! Whether a report is legal.
 ghost use Rattle.std.specs.Prelude.{◌↔◌, ◌<◌, IsTrue, IfSome, IfOk, All};
-ghost use Rattle.lst_report.specs.Legal.{IsLegalReport};
+ghost use Rattle.lst_replies.specs.Legal.{IsLegalReport};
 ghost use Rattle.lst_legal_runs.specs.Places.{AreTraced, AreWithin, run_at};
 ghost use Rattle.lst_legal_runs.specs.Gathering.{CommitsNothing};
 ghost use Rattle.lst_legal.specs.Judged.{AreSessionsBelow, FollowsRules, IsJudged};
-ghost use Rattle.lst_report.specs.Runs.{speaker_of};
+ghost use Rattle.lst_replies.specs.Runs.{speaker_of};
 
 use crate::sights::are_sights_told;
 use lst_layout::Limits;
@@ -13,7 +13,7 @@ use lst_legal_runs::{
     gather, is_fullness_explained, trace,
 };
 use lst_model::{Line, OutOfMemory};
-use lst_report::{Report, Stamp, has_reply_shape, paired};
+use lst_replies::{Report, Stamp, has_reply_shape, paired};
 use lst_snapshots::{Snapshots, snapshots_of};
 use std::alloc::Global;
 

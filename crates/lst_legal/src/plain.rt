@@ -4,7 +4,7 @@
 use crate::plain_replies::{can_answer, key_of, lacks_index, tells};
 use lst_layout::Limits;
 use lst_model::{Act, Call, Cause, Line, OutOfMemory, Reply, Table, Time, Write, apply};
-use lst_report::Stamp;
+use lst_replies::Stamp;
 use std::alloc::Global;
 
 /// The keys of a drawn script are below this.

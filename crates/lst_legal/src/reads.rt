@@ -2,7 +2,7 @@
 ghost use Rattle.std.specs.Prelude.{◌≡◌, ◌↔◌, IsTrue};
 ghost use Rattle.lst_machine.specs.Calls.{is_indexed};
 ghost use Rattle.lst_model.specs.Tables.{row_of, sum_of, count_of};
-ghost use Rattle.lst_report.specs.Explained.{TellsSight, is_not_indexed_reply, lacks_index};
+ghost use Rattle.lst_replies.specs.Explained.{TellsSight, is_not_indexed_reply, lacks_index};
 ghost use Rattle.lst_snapshots.specs.Sights.{seen};
 
 use lst_layout::Limits;

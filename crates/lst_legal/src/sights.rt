@@ -1,14 +1,14 @@
 //! Reads answer their snapshot, and write replies fit it.
 ghost use Rattle.std.specs.Prelude.{◌≡◌, ◌↔◌, ℕ, ◌<◌, List, [], ◌∷◌, ◌++◌, Option, Some, None, length, replicate, slice_index_or, IsTrue, IfSome, IfOk, OnOk};
-ghost use Rattle.lst_report.specs.declared.states.SessionState.{SessionState};
-ghost use Rattle.lst_report.specs.declared.states.Transaction.{Transaction};
-ghost use Rattle.lst_report.specs.Runs.{Answered, AtEachCall, speaker_of, write_of};
-ghost use Rattle.lst_report.specs.States.{state_of, after_call, sight_of};
-ghost use Rattle.lst_report.specs.Explained.{ReadIsAnswered, WriteIsAnswered};
-ghost use Rattle.lst_report.specs.Legal.{AtEachWrite};
+ghost use Rattle.lst_replies.specs.declared.states.SessionState.{SessionState};
+ghost use Rattle.lst_replies.specs.declared.states.Transaction.{Transaction};
+ghost use Rattle.lst_replies.specs.Runs.{Answered, AtEachCall, speaker_of, write_of};
+ghost use Rattle.lst_replies.specs.States.{state_of, after_call, sight_of};
+ghost use Rattle.lst_replies.specs.Explained.{ReadIsAnswered, WriteIsAnswered};
+ghost use Rattle.lst_replies.specs.Legal.{AtEachWrite};
 ghost use Rattle.lst_legal_runs.specs.Outlines.{outline_of, outline_of_open};
 ghost use Rattle.lst_legal_runs.specs.Places.{AreTraced, AreWithin, outline_at, run_at, seen_at};
-ghost use Rattle.lst_report.specs.Seen.{seen as seen_answer};
+ghost use Rattle.lst_replies.specs.Seen.{seen as seen_answer};
 ghost use Rattle.lst_snapshots.specs.Sights.{seen};
 ghost use Rattle.lst_legal.specs.Sights.{IsSightOf, AreSights, TellsSeen};
 
@@ -17,7 +17,7 @@ use crate::writes::is_write_answered;
 use lst_layout::Limits;
 use lst_legal_runs::{OpenOutline, Place, write_of};
 use lst_model::{Call, OutOfMemory, Reply, Time};
-use lst_report::Answer;
+use lst_replies::Answer;
 use lst_snapshots::{Sight, Snapshots};
 use std::alloc::Global;
 

@@ -4,7 +4,7 @@ use crate::{are_sessions_below, legal};
 use arrayvec::ArrayVec;
 use lst_layout::Limits;
 use lst_model::{Call, Line, Row};
-use lst_report::parse_report;
+use lst_replies::parse_report;
 use lst_script::parse;
 use std::alloc::Global;
 use std::process::Abort;

@@ -1,10 +1,10 @@
 //! Replies to the writes of open transactions.
 ghost use Rattle.std.specs.Prelude.{◌≡◌, ◌↔◌, IsTrue, IfSome};
 ghost use Rattle.lst_model.specs.Tables.{row_of};
-ghost use Rattle.lst_report.specs.declared.states.Transaction.{Transaction};
-ghost use Rattle.lst_report.specs.Runs.{write_of};
-ghost use Rattle.lst_report.specs.States.{sight_of};
-ghost use Rattle.lst_report.specs.Explained.{WriteIsAnswered};
+ghost use Rattle.lst_replies.specs.declared.states.Transaction.{Transaction};
+ghost use Rattle.lst_replies.specs.Runs.{write_of};
+ghost use Rattle.lst_replies.specs.States.{sight_of};
+ghost use Rattle.lst_replies.specs.Explained.{WriteIsAnswered};
 ghost use Rattle.lst_snapshots.specs.Sights.{seen};
 ghost use Rattle.lst_legal.specs.Sights.{IsKeyAnswered};
 

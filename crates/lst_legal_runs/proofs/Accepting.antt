@@ -6,9 +6,9 @@ use Rattle.std.proofs.lemmas.Bool.{ne_eqb, eq-eqb}
 use Rattle.lst_model.specs.declared.lines.Line.TheVariants.{Call}
 use Rattle.lst_model.specs.declared.lines.Call.{Call as CallKind}
 use Rattle.lst_model.specs.declared.replies.Reply.TheVariants.{Done}
-use Rattle.lst_report.specs.Runs.{Answered, answered}
-use Rattle.lst_report.specs.States.{state_of}
-use Rattle.lst_report.specs.Explained.{HasAccepted}
+use Rattle.lst_replies.specs.Runs.{Answered, answered}
+use Rattle.lst_replies.specs.States.{state_of}
+use Rattle.lst_replies.specs.Explained.{HasAccepted}
 use Rattle.lst_legal_runs.specs.declared.marks.Marks.{Marks}
 use Rattle.lst_legal_runs.specs.Marks.{number_at}
 use Rattle.lst_legal_runs.specs.Conflicts.{AcceptsHere, IsAcceptedAt, AreAccepted, names_all, another_took}

@@ -4,8 +4,8 @@ use Rattle.std.specs.List.{filter, filter_map, list_any}
 use Rattle.std.proofs.lemmas.List.{append-nil}
 use Rattle.std.proofs.lemmas.List.Elements.{filter-append, filter_map-append}
 use Rattle.std.proofs.lemmas.List.Folds.{list_any-append}
-use Rattle.lst_report.specs.Runs.{Answered, is_by, is_phase, commit_time, commit_times}
-use Rattle.lst_report.specs.States.{greatest, time_told, times_told, ended_phases}
+use Rattle.lst_replies.specs.Runs.{Answered, is_by, is_phase, commit_time, commit_times}
+use Rattle.lst_replies.specs.States.{greatest, time_told, times_told, ended_phases}
 use Rattle.lst_legal_runs.specs.declared.floors.Floors.{Floors}
 use Rattle.lst_legal_runs.specs.Marks.{number_at}
 use Rattle.lst_legal_runs.specs.Floors.{AreFloors, max_with}

@@ -13,12 +13,12 @@ use Rattle.lst_model.specs.declared.lines.Line.TheVariants.{Phase, Merge, Call}
 use Rattle.lst_model.specs.declared.lines.Call.{Call as CallKind}
 use Rattle.lst_model.specs.declared.replies.Reply.{Reply}
 use Rattle.lst_model.specs.Histories.{StandByKey, AreByKey}
-use Rattle.lst_report.specs.declared.reports.Stamp.{Stamp}
-use Rattle.lst_report.specs.declared.states.Transaction.{Transaction}
-use Rattle.lst_report.specs.Runs.{Answered, answered, commit_time, commit_times}
-use Rattle.lst_report.specs.States.{state_of, commit_of}
-use Rattle.lst_report.specs.Explained.{commit_at}
-use Rattle.lst_report.specs.Legal.{stamp_of, IsEntered}
+use Rattle.lst_replies.specs.declared.reports.Stamp.{Stamp}
+use Rattle.lst_replies.specs.declared.states.Transaction.{Transaction}
+use Rattle.lst_replies.specs.Runs.{Answered, answered, commit_time, commit_times}
+use Rattle.lst_replies.specs.States.{state_of, commit_of}
+use Rattle.lst_replies.specs.Explained.{commit_at}
+use Rattle.lst_replies.specs.Legal.{stamp_of, IsEntered}
 use Rattle.lst_legal_runs.specs.Places.{AtEach, IfCall}
 use Rattle.lst_legal_runs.specs.Gathering.{IsTold, HasSlot, IsEnteredIn, AreGathered, CanEnter}
 use Rattle.lst_legal_runs.proofs.Splits.{at_each_push, calls_of}

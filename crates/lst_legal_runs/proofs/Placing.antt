@@ -2,9 +2,9 @@
 use Rattle.std.proofs.Common.{◌≡◌, ℕ, ◌+◌, ◌<◌, List, [], ◌∷◌, ◌++◌, length, get_or, take, drop, map, sym, ap, ◌∙◌, subst, ⊎_elim, IfSome}
 use Rattle.std.proofs.lemmas.List.{map_more, map_push, length-map, get_or-map}
 use Rattle.std.proofs.lemmas.List.Elements.{All-get_or}
-use Rattle.lst_report.specs.Runs.{Answered, speaker_of}
-use Rattle.lst_report.specs.Seen.{seen, seen_all}
-use Rattle.lst_report.specs.declared.answers.Answer.{Answer}
+use Rattle.lst_replies.specs.Runs.{Answered, speaker_of}
+use Rattle.lst_replies.specs.Seen.{seen, seen_all}
+use Rattle.lst_replies.specs.declared.answers.Answer.{Answer}
 use Rattle.lst_legal_runs.specs.declared.outlines.StateOutline.{StateOutline}
 use Rattle.lst_legal_runs.specs.declared.places.Place.{Place}
 use Rattle.lst_legal_runs.specs.Places.{AreWithin, AreOutlines, outline_at, seen_at, run_at, AreTraced}

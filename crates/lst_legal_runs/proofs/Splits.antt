@@ -5,7 +5,7 @@ use Rattle.lst_model.specs.declared.lines.Line.{Line}
 use Rattle.lst_model.specs.declared.lines.Line.TheVariants.{Phase, Merge, Call}
 use Rattle.lst_model.specs.declared.lines.Call.{Call as CallKind}
 use Rattle.lst_model.specs.declared.replies.Reply.{Reply}
-use Rattle.lst_report.specs.Runs.{Answered, answered, AtEachCall, AtEachMerge}
+use Rattle.lst_replies.specs.Runs.{Answered, answered, AtEachCall, AtEachMerge}
 use Rattle.lst_legal_runs.specs.Places.{AtEach, IfCall, IfMerge}
 
 -- a list with one more element, split: at that element, or before it

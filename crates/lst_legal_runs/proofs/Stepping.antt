@@ -8,10 +8,10 @@ use Rattle.lst_model.specs.declared.lines.Line.TheVariants.{Call}
 use Rattle.lst_model.specs.declared.lines.Call.{Call as CallKind}
 use Rattle.lst_model.specs.declared.replies.Reply.{Reply}
 use Rattle.lst_model.specs.Histories.{StandByKey}
-use Rattle.lst_report.specs.declared.reports.Stamp.{Stamp}
-use Rattle.lst_report.specs.declared.states.Transaction.{Transaction}
-use Rattle.lst_report.specs.Runs.{Answered, answered, commit_time, speaker_of}
-use Rattle.lst_report.specs.States.{state_of, commit_of}
+use Rattle.lst_replies.specs.declared.reports.Stamp.{Stamp}
+use Rattle.lst_replies.specs.declared.states.Transaction.{Transaction}
+use Rattle.lst_replies.specs.Runs.{Answered, answered, commit_time, speaker_of}
+use Rattle.lst_replies.specs.States.{state_of, commit_of}
 use Rattle.lst_legal_runs.specs.declared.outlines.OpenOutline.{OpenOutline}
 use Rattle.lst_legal_runs.specs.Outlines.{outline_of_open}
 use Rattle.lst_legal_runs.specs.Gathering.{ArePending, AreGathered, CanEnter, IsTold, IsStep, IsNext, CommitsNothing}

@@ -2,8 +2,8 @@
 use Rattle.std.proofs.Common.{◌≡◌, ◌↔◌, ℕ, ◌∙◌, Bool, IsTrue, Option, Some, None, IfSome, option_map, sym}
 use Rattle.std.proofs.lemmas.Option.{same_Some, none-some}
 use Rattle.lst_model.specs.declared.acts.Write.{Write}
-use Rattle.lst_report.specs.declared.states.Transaction.{Transaction}
-use Rattle.lst_report.specs.Runs.{key_of}
+use Rattle.lst_replies.specs.declared.states.Transaction.{Transaction}
+use Rattle.lst_replies.specs.Runs.{key_of}
 use Rattle.lst_legal_runs.specs.declared.outlines.OpenOutline.{OpenOutline}
 use Rattle.lst_legal_runs.specs.Outlines.{outline_of_open}
 

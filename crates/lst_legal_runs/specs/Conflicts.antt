@@ -5,9 +5,9 @@ use Rattle.lst_model.specs.declared.commits.Commit.{Commit}
 use Rattle.lst_model.specs.declared.lines.Line.TheVariants.{Call}
 use Rattle.lst_model.specs.declared.lines.Call.{Call as CallKind}
 use Rattle.lst_model.specs.declared.replies.Reply.TheVariants.{Done}
-use Rattle.lst_report.specs.Runs.{Answered, answered, write_of, key_of, names, is_by, may_take_latch}
-use Rattle.lst_report.specs.States.{state_of}
-use Rattle.lst_report.specs.Explained.{HasAccepted, ConflictIsExplained}
+use Rattle.lst_replies.specs.Runs.{Answered, answered, write_of, key_of, names, is_by, may_take_latch}
+use Rattle.lst_replies.specs.States.{state_of}
+use Rattle.lst_replies.specs.Explained.{HasAccepted, ConflictIsExplained}
 use Rattle.lst_legal_runs.specs.declared.outlines.OpenOutline.{OpenOutline}
 use Rattle.lst_legal_runs.specs.declared.marks.Marks.{Marks}
 use Rattle.lst_legal_runs.specs.declared.conflicts.Conflicts.{Conflicts}

@@ -2,7 +2,7 @@
 use Rattle.std.specs.Prelude.{◌↔◌, ℕ, ◌<◌, ◌≤◌, ◌==◌, ◌&&◌, Bool, cond, List, IsTrue, length, take}
 use Rattle.std.specs.List.{list_any}
 use Rattle.lst_model.specs.declared.commits.Commit.{Commit}
-use Rattle.lst_report.specs.Explained.{has_write_on, is_numbered}
+use Rattle.lst_replies.specs.Explained.{has_write_on, is_numbered}
 use Rattle.lst_legal_runs.specs.declared.marks.Marks.{Marks}
 use Rattle.lst_legal_runs.specs.Marks.{number_at}
 

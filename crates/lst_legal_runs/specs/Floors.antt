@@ -1,9 +1,9 @@
 -- What is kept along a run to know the floor of each session.
 use Rattle.std.specs.Prelude.{◌≡◌, ℕ, ◌==◌, cond, max, List, Option, Some, None}
 use Rattle.lst_model.specs.declared.commits.Commit.{Commit}
-use Rattle.lst_report.specs.Runs.{Answered, commit_times}
-use Rattle.lst_report.specs.States.{greatest, times_told, ended_phases, floor_of}
-use Rattle.lst_report.specs.Explained.{TimeIsBounded}
+use Rattle.lst_replies.specs.Runs.{Answered, commit_times}
+use Rattle.lst_replies.specs.States.{greatest, times_told, ended_phases, floor_of}
+use Rattle.lst_replies.specs.Explained.{TimeIsBounded}
 use Rattle.lst_legal_runs.specs.declared.floors.Floors.{Floors}
 use Rattle.lst_legal_runs.specs.Marks.{number_at}
 use Rattle.lst_legal_runs.specs.Places.{IfCall}

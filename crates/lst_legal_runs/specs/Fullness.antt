@@ -3,9 +3,9 @@ use Rattle.std.specs.Prelude.{◌≡◌, ◌↔◌, ℕ, ◌<◌, ◌==◌, ◌&
 use Rattle.std.specs.List.{count_by, list_any}
 use Rattle.lst_layout.specs.declared.limits.Limits.{Limits}
 use Rattle.lst_model.specs.declared.commits.Commit.{Commit}
-use Rattle.lst_report.specs.Runs.{Answered, write_of, is_by, is_accepted_on, is_accepted, may_take_record}
-use Rattle.lst_report.specs.States.{state_of}
-use Rattle.lst_report.specs.Explained.{FullnessIsExplained}
+use Rattle.lst_replies.specs.Runs.{Answered, write_of, is_by, is_accepted_on, is_accepted, may_take_record}
+use Rattle.lst_replies.specs.States.{state_of}
+use Rattle.lst_replies.specs.Explained.{FullnessIsExplained}
 use Rattle.lst_legal_runs.specs.declared.marks.Marks.{Marks}
 use Rattle.lst_legal_runs.specs.declared.fullness.Fullness.{Fullness}
 use Rattle.lst_legal_runs.specs.Marks.{number_at}

@@ -7,11 +7,11 @@ use Rattle.lst_model.specs.declared.lines.Call.{Call as CallKind}
 use Rattle.lst_model.specs.declared.replies.Reply.{Reply}
 use Rattle.lst_model.specs.declared.replies.Reply.TheVariants.{Begun, Done, Committed}
 use Rattle.lst_model.specs.Histories.{joined, StandByKey}
-use Rattle.lst_report.specs.declared.reports.Stamp.{Stamp}
-use Rattle.lst_report.specs.declared.states.Transaction.{Transaction}
-use Rattle.lst_report.specs.Runs.{Answered, AtEachCall, commit_time, commit_times, write_of, speaker_of}
-use Rattle.lst_report.specs.States.{state_of, commit_of}
-use Rattle.lst_report.specs.Legal.{stamp_of, IsEntered}
+use Rattle.lst_replies.specs.declared.reports.Stamp.{Stamp}
+use Rattle.lst_replies.specs.declared.states.Transaction.{Transaction}
+use Rattle.lst_replies.specs.Runs.{Answered, AtEachCall, commit_time, commit_times, write_of, speaker_of}
+use Rattle.lst_replies.specs.States.{state_of, commit_of}
+use Rattle.lst_replies.specs.Legal.{stamp_of, IsEntered}
 use Rattle.lst_legal_runs.specs.Places.{AtEach, IfCall, IfMerge, outline_at, seen_at}
 use Rattle.lst_legal_runs.specs.declared.places.Place.{Place}
 

@@ -2,8 +2,8 @@
 use Rattle.std.specs.Prelude.{◌≡◌, ◌↔◌, ℕ, ◌<◌, List, ◌&&◌, IsTrue}
 use Rattle.std.specs.List.{count_by, list_any}
 use Rattle.lst_layout.specs.declared.limits.Limits.{Limits}
-use Rattle.lst_report.specs.Runs.{Answered, is_by, is_begun, is_merged}
-use Rattle.lst_report.specs.Explained.{last_merged, MergeIsAnswered}
+use Rattle.lst_replies.specs.Runs.{Answered, is_by, is_begun, is_merged}
+use Rattle.lst_replies.specs.Explained.{last_merged, MergeIsAnswered}
 use Rattle.lst_legal_runs.specs.declared.merges.Merges.{Merges}
 use Rattle.lst_legal_runs.specs.declared.marks.Marks.{Marks}
 use Rattle.lst_legal_runs.specs.Marks.{number_at}

@@ -4,10 +4,10 @@ use Rattle.lst_model.specs.declared.acts.Write.{Write}
 use Rattle.lst_model.specs.declared.lines.Call.{Call as CallKind}
 use Rattle.lst_model.specs.declared.replies.Reply.{Reply}
 use Rattle.lst_model.specs.declared.replies.Reply.TheVariants.{Begun, Done, Committed, Ended, Aborted}
-use Rattle.lst_report.specs.declared.states.Transaction.{Transaction}
-use Rattle.lst_report.specs.declared.states.SessionState.{SessionState}
-use Rattle.lst_report.specs.Runs.{write_of}
-use Rattle.lst_report.specs.States.{is_as_of}
+use Rattle.lst_replies.specs.declared.states.Transaction.{Transaction}
+use Rattle.lst_replies.specs.declared.states.SessionState.{SessionState}
+use Rattle.lst_replies.specs.Runs.{write_of}
+use Rattle.lst_replies.specs.States.{is_as_of}
 use Rattle.lst_legal_runs.specs.declared.outlines.OpenOutline.{OpenOutline}
 use Rattle.lst_legal_runs.specs.declared.outlines.StateOutline.{StateOutline}
 

@@ -5,9 +5,9 @@ use Rattle.lst_model.specs.declared.lines.Line.{Line}
 use Rattle.lst_model.specs.declared.lines.Line.TheVariants.{Phase, Merge, Call}
 use Rattle.lst_model.specs.declared.lines.Call.{Call as CallKind}
 use Rattle.lst_model.specs.declared.replies.Reply.{Reply}
-use Rattle.lst_report.specs.Runs.{Answered, speaker_of}
-use Rattle.lst_report.specs.Seen.{seen}
-use Rattle.lst_report.specs.States.{state_of, unbegun}
+use Rattle.lst_replies.specs.Runs.{Answered, speaker_of}
+use Rattle.lst_replies.specs.Seen.{seen}
+use Rattle.lst_replies.specs.States.{state_of, unbegun}
 use Rattle.lst_legal_runs.specs.declared.outlines.StateOutline.{StateOutline}
 use Rattle.lst_legal_runs.specs.declared.places.Place.{Place}
 use Rattle.lst_legal_runs.specs.Outlines.{outline_of}

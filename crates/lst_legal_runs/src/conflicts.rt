@@ -4,11 +4,11 @@ ghost use Rattle.std.specs.Prelude.{◌≡◌, ◌↔◌, ℕ, ◌<◌, ◌+◌,
 ghost use Rattle.std.specs.List.{count_by, list_any};
 ghost use Rattle.lst_model.specs.declared.acts.Write.{Write as WriteTold};
 ghost use Rattle.lst_model.specs.declared.commits.Commit.{Commit as CommitTold};
-ghost use Rattle.lst_report.specs.declared.states.Transaction.{Transaction};
-ghost use Rattle.lst_report.specs.Runs.{Answered, speaker_of, key_of, write_of, is_by, may_take_latch, takes_no_latch};
-ghost use Rattle.lst_report.specs.Seen.{seen};
-ghost use Rattle.lst_report.specs.Explained.{ConflictIsExplained, IsInTheWay};
-ghost use Rattle.lst_report.specs.Legal.{AtEachWrite};
+ghost use Rattle.lst_replies.specs.declared.states.Transaction.{Transaction};
+ghost use Rattle.lst_replies.specs.Runs.{Answered, speaker_of, key_of, write_of, is_by, may_take_latch, takes_no_latch};
+ghost use Rattle.lst_replies.specs.Seen.{seen};
+ghost use Rattle.lst_replies.specs.Explained.{ConflictIsExplained, IsInTheWay};
+ghost use Rattle.lst_replies.specs.Legal.{AtEachWrite};
 ghost use Rattle.lst_legal_runs.specs.Outlines.{outline_of_open};
 ghost use Rattle.lst_legal_runs.specs.Places.{AreTraced, outline_at, run_at, seen_at};
 ghost use Rattle.lst_legal_runs.specs.Conflicts.{AreTakers, takes_latch, numbered_write, IsAcceptedAt, AreAccepted, IsConflictsOf, TellsConflict};
@@ -20,7 +20,7 @@ use crate::merges::is_done;
 use crate::outlines::OpenOutline;
 use crate::places::Place;
 use lst_model::{Cause, Commit, Key, OutOfMemory, Reply, Time};
-use lst_report::Answer;
+use lst_replies::Answer;
 use std::alloc::Global;
 
 /// By key: a session that may have taken its latch, plus one, and whether another has; by session, number and key:

@@ -2,7 +2,7 @@
 ghost use Rattle.std.specs.Prelude.{◌≡◌, ℕ, ◌==◌, length, IfOk, OnOk};
 ghost use Rattle.std.specs.List.{list_any};
 ghost use Rattle.lst_model.specs.declared.acts.Write.{Write as WriteTold};
-ghost use Rattle.lst_report.specs.Explained.{is_numbered};
+ghost use Rattle.lst_replies.specs.Explained.{is_numbered};
 ghost use Rattle.lst_legal_runs.specs.Marks.{number_at};
 ghost use Rattle.lst_legal_runs.specs.Firsts.{AreFirstWrites, AreFirstNumbers, first_after};
 

@@ -1,17 +1,17 @@
 //! Time bounds: what a session is told of times is at least its floor, and no later than the last commit.
 ghost use Rattle.std.specs.Prelude.{◌≡◌, ◌↔◌, ℕ, ◌<◌, ◌-◌, ◌^◌, max, List, [], ◌∷◌, ◌++◌, length, IsTrue, IfOk, OnOk};
 ghost use Rattle.lst_model.specs.declared.commits.Commit.{Commit as CommitTold};
-ghost use Rattle.lst_report.specs.Runs.{Answered, AtEachCall, commit_time};
-ghost use Rattle.lst_report.specs.Seen.{seen};
-ghost use Rattle.lst_report.specs.States.{time_told, floor_of};
-ghost use Rattle.lst_report.specs.Explained.{TimeIsBounded};
+ghost use Rattle.lst_replies.specs.Runs.{Answered, AtEachCall, commit_time};
+ghost use Rattle.lst_replies.specs.Seen.{seen};
+ghost use Rattle.lst_replies.specs.States.{time_told, floor_of};
+ghost use Rattle.lst_replies.specs.Explained.{TimeIsBounded};
 ghost use Rattle.lst_legal_runs.specs.Places.{run_at, seen_at};
 ghost use Rattle.lst_legal_runs.specs.Floors.{AreFloors, TellsTime, IsTold, max_with};
 
 use crate::marks::Marks;
 use crate::places::Place;
 use lst_model::{Call, Cause, Commit, OutOfMemory, Reply, Time};
-use lst_report::Answer;
+use lst_replies::Answer;
 use std::alloc::Global;
 
 /// By session: the greatest time that was told to it; and the greatest time of a commit in the phases that have ended,

@@ -4,11 +4,11 @@ ghost use Rattle.std.specs.Prelude.{◌≡◌, ◌↔◌, ℕ, ◌<◌, ◌&&◌
 ghost use Rattle.std.specs.List.{count_by, list_any};
 ghost use Rattle.lst_model.specs.declared.acts.Write.{Write as WriteTold};
 ghost use Rattle.lst_model.specs.declared.commits.Commit.{Commit as CommitTold};
-ghost use Rattle.lst_report.specs.declared.states.Transaction.{Transaction};
-ghost use Rattle.lst_report.specs.Runs.{Answered, speaker_of, key_of, write_of, is_by, is_accepted_on, may_take_record, is_insert_call, takes_no_record};
-ghost use Rattle.lst_report.specs.Seen.{seen};
-ghost use Rattle.lst_report.specs.Explained.{IsNewKey, FullnessIsExplained};
-ghost use Rattle.lst_report.specs.Legal.{AtEachWrite};
+ghost use Rattle.lst_replies.specs.declared.states.Transaction.{Transaction};
+ghost use Rattle.lst_replies.specs.Runs.{Answered, speaker_of, key_of, write_of, is_by, is_accepted_on, may_take_record, is_insert_call, takes_no_record};
+ghost use Rattle.lst_replies.specs.Seen.{seen};
+ghost use Rattle.lst_replies.specs.Explained.{IsNewKey, FullnessIsExplained};
+ghost use Rattle.lst_replies.specs.Legal.{AtEachWrite};
 ghost use Rattle.lst_legal_runs.specs.Outlines.{outline_of_open};
 ghost use Rattle.lst_legal_runs.specs.Places.{AreTraced, outline_at, run_at, seen_at};
 ghost use Rattle.lst_legal_runs.specs.Fullness.{names_both, AreWritten, IsFullnessOf, TellsFullness};
@@ -20,7 +20,7 @@ use crate::outlines::OpenOutline;
 use crate::places::Place;
 use lst_layout::Limits;
 use lst_model::{Call, Cause, Commit, Key, OutOfMemory, Reply};
-use lst_report::Answer;
+use lst_replies::Answer;
 use std::alloc::Global;
 
 /// How many inserts may have taken a record, and how many writes were accepted; by key, the time of the first commit with

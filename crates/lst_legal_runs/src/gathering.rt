@@ -2,15 +2,15 @@
 ghost use Rattle.std.specs.Prelude.{◌≡◌, ◌↔◌, ℕ, ◌<◌, List, [], ◌∷◌, ◌++◌, length, map, slice_index_or, IsTrue, IfOk, IfSome, IfNone, IsOk, IsSomeAnd, Some, None, All, option_map, replicate, slice_set, ◌+◌, ◌-◌, MatchBool};
 ghost use Rattle.lst_model.specs.declared.commits.Commit.{Commit as CommitTold};
 ghost use Rattle.lst_model.specs.Histories.{AreByKey};
-ghost use Rattle.lst_report.specs.Runs.{Answered, speaker_of, write_of, commit_time};
+ghost use Rattle.lst_replies.specs.Runs.{Answered, speaker_of, write_of, commit_time};
 ghost use Rattle.lst_legal_runs.specs.Places.{AreTraced, AreWithin, run_at, seen_at};
 ghost use Rattle.lst_legal_runs.specs.Gathering.{IsTold, CommitsNothing, by_key, ArePending, AreGathered, AreFilled, CanEnter, pending_after, IsNext, IsStep};
-ghost use Rattle.lst_report.specs.declared.reports.Stamp.{Stamp as StampTold};
+ghost use Rattle.lst_replies.specs.declared.reports.Stamp.{Stamp as StampTold};
 
 use crate::outlines::OpenOutline;
 use crate::places::Place;
 use lst_model::{Act, Call, Commit, History, OutOfMemory, Reply, Time, Write, Writes};
-use lst_report::{Answer, Stamp};
+use lst_replies::{Answer, Stamp};
 use std::alloc::Global;
 use std::mem;
 

@@ -2,9 +2,9 @@
 //! wanting only where all spare ones were swapped in, for a session that begins a transaction.
 ghost use Rattle.std.specs.Prelude.{◌≡◌, ◌↔◌, ℕ, ◌+◌, ◌<◌, ◌-◌, ◌^◌, cond, List, [], ◌∷◌, ◌++◌, ◌&&◌, length, map, IsTrue, IfOk, OnOk};
 ghost use Rattle.std.specs.List.{count_by, list_any};
-ghost use Rattle.lst_report.specs.Runs.{Answered, AtEachMerge, is_accepted, is_merged, is_begun, is_by, is_done, names};
-ghost use Rattle.lst_report.specs.Seen.{seen};
-ghost use Rattle.lst_report.specs.Explained.{MergeIsAnswered};
+ghost use Rattle.lst_replies.specs.Runs.{Answered, AtEachMerge, is_accepted, is_merged, is_begun, is_by, is_done, names};
+ghost use Rattle.lst_replies.specs.Seen.{seen};
+ghost use Rattle.lst_replies.specs.Explained.{MergeIsAnswered};
 ghost use Rattle.lst_legal_runs.specs.Places.{run_at, seen_at};
 ghost use Rattle.lst_legal_runs.specs.Merges.{AreMerges, AreBeginners, TellsMerge};
 
@@ -13,7 +13,7 @@ use crate::outlines::is_write;
 use crate::places::Place;
 use lst_layout::Limits;
 use lst_model::{OutOfMemory, Reply};
-use lst_report::Answer;
+use lst_replies::Answer;
 use std::alloc::Global;
 
 /// By range and column: the number last merged; and how many merges there were.

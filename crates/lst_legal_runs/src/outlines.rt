@@ -1,7 +1,7 @@
 //! What a session has done by a place of a run, without the writes of its open transaction.
 ghost use Rattle.std.specs.Prelude.{◌≡◌, ◌<◌, ◌^◌, ◌+◌, ◌-◌, ◌||◌, Some, false, option_map, is_some};
-ghost use Rattle.lst_report.specs.Runs.{write_of};
-ghost use Rattle.lst_report.specs.States.{is_as_of};
+ghost use Rattle.lst_replies.specs.Runs.{write_of};
+ghost use Rattle.lst_replies.specs.States.{is_as_of};
 ghost use Rattle.lst_legal_runs.specs.Outlines.{outline_after};
 
 use lst_model::{Call, Reply, Time};

@@ -1,13 +1,13 @@
 //! The places of a run: each line with its reply, and an outline of the state in which its session comes to it.
 ghost use Rattle.std.specs.Prelude.{◌≡◌, ℕ, ◌<◌, ◌-◌, ◌^◌, List, [], ◌∷◌, ◌++◌, length, slice_index_or, IfOk, IfSome};
-ghost use Rattle.lst_report.specs.Runs.{Answered, speaker_of};
-ghost use Rattle.lst_report.specs.Seen.{seen, seen_all};
+ghost use Rattle.lst_replies.specs.Runs.{Answered, speaker_of};
+ghost use Rattle.lst_replies.specs.Seen.{seen, seen_all};
 ghost use Rattle.lst_legal_runs.specs.declared.outlines.StateOutline.{StateOutline as Outline};
 ghost use Rattle.lst_legal_runs.specs.Places.{AreWithin, AreOutlines, outline_at, run_at, AreTraced};
 
 use crate::outlines::StateOutline;
 use lst_model::OutOfMemory;
-use lst_report::Answer;
+use lst_replies::Answer;
 use std::alloc::Global;
 
 /// A line with its reply, and the outline of the state in which its session comes to it: that of a session that has

@@ -1,11 +1,11 @@
 //! State refusals are exact: Idle, Active, ReadOnly and Spent are answered exactly where the session's state refuses the
 //! call for this cause, and a transaction with writes ends with a commit time, one without with its begin.
 ghost use Rattle.std.specs.Prelude.{◌≡◌, ◌↔◌, IsTrue, List, Option, option_map};
-ghost use Rattle.lst_report.specs.declared.states.SessionState.{SessionState};
-ghost use Rattle.lst_report.specs.declared.states.Transaction.{Transaction};
-ghost use Rattle.lst_report.specs.Runs.{Answered, AtEachCall, speaker_of};
-ghost use Rattle.lst_report.specs.States.{state_of};
-ghost use Rattle.lst_report.specs.Explained.{state_cause, begin_cause, open_cause, cause_by_state, EndsBy, EndIsExact, StateIsTold};
+ghost use Rattle.lst_replies.specs.declared.states.SessionState.{SessionState};
+ghost use Rattle.lst_replies.specs.declared.states.Transaction.{Transaction};
+ghost use Rattle.lst_replies.specs.Runs.{Answered, AtEachCall, speaker_of};
+ghost use Rattle.lst_replies.specs.States.{state_of};
+ghost use Rattle.lst_replies.specs.Explained.{state_cause, begin_cause, open_cause, cause_by_state, EndsBy, EndIsExact, StateIsTold};
 ghost use Rattle.lst_legal_runs.specs.Outlines.{outline_of, outline_of_open};
 ghost use Rattle.lst_legal_runs.specs.Places.{AreTraced, outline_at, run_at, seen_at};
 ghost use Rattle.lst_legal_runs.specs.Rules.{TellsState};
@@ -14,7 +14,7 @@ use crate::outlines::{OpenOutline, StateOutline, is_write};
 use crate::places::Place;
 use lst_layout::Limits;
 use lst_model::{Call, Cause, Reply};
-use lst_report::Answer;
+use lst_replies::Answer;
 
 /// Whether the replies of a run tell the refusals by the sessions' states, and the ends, exactly.
 pub fn are_refusals_exact(limits: &Limits, places: &[Place]) -> bool

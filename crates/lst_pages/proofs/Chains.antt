@@ -5,8 +5,8 @@ use native.Mathlib.Decide.{ℕ_discrete}
 use Rattle.lst_model.specs.Histories.{row_from}
 use Rattle.lst_model.specs.Soundness.{FitInTurn}
 use Rattle.lst_model.specs.declared.acts.Act.{Act}
-use Rattle.lst_versions.specs.Lists.{Has, Links, acts, down}
-use Rattle.lst_versions.proofs.Lists.{links_low, links_positive, acts_none, acts_same}
+use Rattle.lst_core_state.specs.Lists.{Has, Links, acts, down}
+use Rattle.lst_core_state.proofs.Lists.{links_low, links_positive, acts_none, acts_same}
 use Rattle.lst_pages.specs.Lists.{Every}
 use Rattle.lst_pages.specs.declared.tails.PageTail.{PageTail}
 use Rattle.lst_pages.specs.declared.entries.Entry.{Entry}

@@ -7,7 +7,7 @@ use Rattle.lst_model.specs.declared.acts.Act.{Act}
 use Rattle.lst_model.specs.Cells.{overlaid}
 use Rattle.lst_model.specs.Histories.{row_after, row_from}
 use Rattle.lst_model.specs.Soundness.{Fits, FitInTurn}
-use Rattle.lst_versions.specs.Lists.{acts}
+use Rattle.lst_core_state.specs.Lists.{acts}
 use Rattle.lst_pages.specs.Lists.{Every}
 use Rattle.lst_pages.specs.declared.tails.PageTail.{PageTail}
 use Rattle.lst_pages.specs.declared.entries.Entry.{Entry}

@@ -2,7 +2,7 @@
 use Rattle.std.specs.Prelude.{◌≡◌, ℕ, suc, ◌<◌, ◌≤◌, List, [], ◌∷◌, ◌++◌, Bool, true, false, ◌&&◌, None, length, take}
 use Rattle.lst_model.specs.Histories.{row_from}
 use Rattle.lst_model.specs.Soundness.{FitInTurn}
-use Rattle.lst_versions.specs.Lists.{Has, Links, acts}
+use Rattle.lst_core_state.specs.Lists.{Has, Links, acts}
 use Rattle.lst_pages.specs.declared.tails.PageTail.{PageTail}
 use Rattle.lst_pages.specs.declared.entries.Entry.{Entry}
 use Rattle.lst_pages.specs.Tails.{is_on, touches}

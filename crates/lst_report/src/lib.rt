@@ -1,24 +1,9 @@
-//! Replies and reports: their texts, and which reports are legal.
+//! Reports of runs: how they are written and read, and whether a report is legal for a script.
 #![tactic(auto)]
 
-mod answers;
-mod laws;
-mod lines;
-mod long;
-mod numbers;
-mod parse;
-mod print;
-mod reports;
-mod short;
-mod states;
-#[cfg(test)]
-mod tests;
-mod words;
-
-pub use answers::{Answer, has_reply_shape, paired};
-pub use laws::printed_report_is_read;
-pub use lines::{print_line, push_line};
-pub use parse::{ReportFault, parse_report};
-pub use print::print_report;
-pub use reports::{Replies, Report, Stamp, Stamps};
-pub use states::{SessionState, Transaction};
+pub use lst_legal::legal;
+pub use lst_replies::{
+    Answer, Replies, Report, ReportFault, SessionState, Stamp, Stamps, Transaction,
+    has_reply_shape, paired, parse_report, print_line, print_report, printed_report_is_read,
+    push_line,
+};

@@ -5,3 +5,11 @@ pub mod Learning
 pub mod Knowing
 pub mod Opening
 pub mod Bounded
+pub mod Doing
+pub mod Telling
+pub mod Acting
+pub mod Looking
+pub mod Clocks
+pub mod Opens
+pub mod Quiets
+pub mod Stating

@@ -1,2 +1,6 @@
 pub mod Rule
 pub mod Learned
+pub mod Seats
+pub mod Stores
+pub mod Operations
+pub mod Statuses

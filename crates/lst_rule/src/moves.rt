@@ -3,7 +3,7 @@ ghost use Rattle.std.specs.Prelude.{◌≡◌, ◌<◌, ◌+◌, ◌%◌, ◌^�
 ghost use prog.Atomic.{either};
 ghost use Rattle.lst_rule.specs.Rule.{Ready, Told};
 
-use crate::rule::{Adds, Exchanges, Joins, Loads, Means, StoreRule, Stores};
+use crate::rule::{Adds, Exchanges, Loads, Means, SetsBits, StoreRule, Stores};
 use crate::view::View;
 use atomic_table::{Seat, Shared};
 use lst_core_state::Event;
@@ -11,12 +11,17 @@ use lst_layout::Limits;
 use std::marker::Brand;
 
 /// The table of the words, as threads share it.
-pub type Words = Shared<(), View, Limits, StoreRule>;
+pub type SharedWords = Shared<(), View, Limits, StoreRule>;
 
 /// A place at the table, with a view.
-pub type Place = Seat<(), View>;
+pub type TableSeat = Seat<(), View>;
 
-fn load_word_as<E: Means>(words: &Words, seat: &mut Place, _event: Event, word: usize) -> u64
+fn load_word_as<E: Means>(
+    words: &SharedWords,
+    seat: &mut TableSeat,
+    _event: Event,
+    word: usize,
+) -> u64
     requires table { (seat.old.table_id ≡ words.now.table_id) × (word < words.now.table_id.words) }
     requires ready { Ready seat.old.me.0 E.event word (λ n. n) }
     ensures table { (seat.new.table_id ≡ seat.old.table_id) × (seat.new.id ≡ seat.old.id) × (seat.new.me.1 ≡ seat.old.me.1) }
@@ -27,7 +32,7 @@ fn load_word_as<E: Means>(words: &Words, seat: &mut Place, _event: Event, word: 
 
 /// Loads the word as a step of the event, and answers what it found. The seat's view has to show that
 /// the step may be made and makes of the word what the event makes of it.
-pub fn load_word(words: &Words, seat: &mut Place, event: Event, word: usize) -> u64
+pub fn load_word(words: &SharedWords, seat: &mut TableSeat, event: Event, word: usize) -> u64
     requires table { (seat.old.table_id ≡ words.now.table_id) × (word < words.now.table_id.words) }
     requires ready { Ready seat.old.me.0 event word (λ n. n) }
     ensures table { (seat.new.table_id ≡ seat.old.table_id) × (seat.new.id ≡ seat.old.id) × (seat.new.me.1 ≡ seat.old.me.1) }
@@ -36,7 +41,13 @@ pub fn load_word(words: &Words, seat: &mut Place, event: Event, word: usize) -> 
     load_word_as::<Brand>(words, seat, event, word)
 }
 
-fn store_word_as<E: Means>(words: &Words, seat: &mut Place, _event: Event, word: usize, new: u64)
+fn store_word_as<E: Means>(
+    words: &SharedWords,
+    seat: &mut TableSeat,
+    _event: Event,
+    word: usize,
+    new: u64,
+)
     requires table { (seat.old.table_id ≡ words.now.table_id) × (word < words.now.table_id.words) }
     requires ready { Ready seat.old.me.0 E.event word (λ _. new) }
     ensures table { (seat.new.table_id ≡ seat.old.table_id) × (seat.new.id ≡ seat.old.id) × (seat.new.me.1 ≡ seat.old.me.1) }
@@ -47,7 +58,7 @@ fn store_word_as<E: Means>(words: &Words, seat: &mut Place, _event: Event, word:
 
 /// Stores a number in the word as a step of the event. The seat's view has to show that
 /// the step may be made and makes of the word what the event makes of it.
-pub fn store_word(words: &Words, seat: &mut Place, event: Event, word: usize, new: u64)
+pub fn store_word(words: &SharedWords, seat: &mut TableSeat, event: Event, word: usize, new: u64)
     requires table { (seat.old.table_id ≡ words.now.table_id) × (word < words.now.table_id.words) }
     requires ready { Ready seat.old.me.0 event word (λ _. new) }
     ensures table { (seat.new.table_id ≡ seat.old.table_id) × (seat.new.id ≡ seat.old.id) × (seat.new.me.1 ≡ seat.old.me.1) }
@@ -57,8 +68,8 @@ pub fn store_word(words: &Words, seat: &mut Place, event: Event, word: usize, ne
 }
 
 fn compare_exchange_as<E: Means>(
-    words: &Words,
-    seat: &mut Place,
+    words: &SharedWords,
+    seat: &mut TableSeat,
     _event: Event,
     word: usize,
     old: u64,
@@ -75,8 +86,8 @@ fn compare_exchange_as<E: Means>(
 /// Stores `new` in the word where it is `old`, as a step of the event, and answers what it found. The seat's view has to show that
 /// the step may be made and makes of the word what the event makes of it.
 pub fn compare_exchange(
-    words: &Words,
-    seat: &mut Place,
+    words: &SharedWords,
+    seat: &mut TableSeat,
     event: Event,
     word: usize,
     old: u64,
@@ -90,7 +101,12 @@ pub fn compare_exchange(
     compare_exchange_as::<Brand>(words, seat, event, word, old, new)
 }
 
-fn add_one_as<E: Means>(words: &Words, seat: &mut Place, _event: Event, word: usize) -> u64
+fn add_one_as<E: Means>(
+    words: &SharedWords,
+    seat: &mut TableSeat,
+    _event: Event,
+    word: usize,
+) -> u64
     requires table { (seat.old.table_id ≡ words.now.table_id) × (word < words.now.table_id.words) }
     requires ready { Ready seat.old.me.0 E.event word (λ n. (n + 1) % 2 ^ 64) }
     ensures table { (seat.new.table_id ≡ seat.old.table_id) × (seat.new.id ≡ seat.old.id) × (seat.new.me.1 ≡ seat.old.me.1) }
@@ -101,7 +117,7 @@ fn add_one_as<E: Means>(words: &Words, seat: &mut Place, _event: Event, word: us
 
 /// Adds 1 to the word as a step of the event, and answers what it found. The seat's view has to show that
 /// the step may be made and makes of the word what the event makes of it.
-pub fn add_one(words: &Words, seat: &mut Place, event: Event, word: usize) -> u64
+pub fn add_one(words: &SharedWords, seat: &mut TableSeat, event: Event, word: usize) -> u64
     requires table { (seat.old.table_id ≡ words.now.table_id) × (word < words.now.table_id.words) }
     requires ready { Ready seat.old.me.0 event word (λ n. (n + 1) % 2 ^ 64) }
     ensures table { (seat.new.table_id ≡ seat.old.table_id) × (seat.new.id ≡ seat.old.id) × (seat.new.me.1 ≡ seat.old.me.1) }
@@ -110,18 +126,23 @@ pub fn add_one(words: &Words, seat: &mut Place, event: Event, word: usize) -> u6
     add_one_as::<Brand>(words, seat, event, word)
 }
 
-fn set_lowest_bit_as<E: Means>(words: &Words, seat: &mut Place, _event: Event, word: usize) -> u64
+fn set_lowest_bit_as<E: Means>(
+    words: &SharedWords,
+    seat: &mut TableSeat,
+    _event: Event,
+    word: usize,
+) -> u64
     requires table { (seat.old.table_id ≡ words.now.table_id) × (word < words.now.table_id.words) }
     requires ready { Ready seat.old.me.0 E.event word (λ n. bit_or n 1) }
     ensures table { (seat.new.table_id ≡ seat.old.table_id) × (seat.new.id ≡ seat.old.id) × (seat.new.me.1 ≡ seat.old.me.1) }
     ensures told { (t : Told E.event word (bit_or result 1) seat.old.me.0 seat.new.me.0) × (slice_index t.words word ≡ result) }
 {
-    words.fetch_or::<Joins<E>>(seat, word, 1)
+    words.fetch_or::<SetsBits<E>>(seat, word, 1)
 }
 
 /// Sets the lowest bit of the word as a step of the event, and answers what it found. The seat's view has to show that
 /// the step may be made and makes of the word what the event makes of it.
-pub fn set_lowest_bit(words: &Words, seat: &mut Place, event: Event, word: usize) -> u64
+pub fn set_lowest_bit(words: &SharedWords, seat: &mut TableSeat, event: Event, word: usize) -> u64
     requires table { (seat.old.table_id ≡ words.now.table_id) × (word < words.now.table_id.words) }
     requires ready { Ready seat.old.me.0 event word (λ n. bit_or n 1) }
     ensures table { (seat.new.table_id ≡ seat.old.table_id) × (seat.new.id ≡ seat.old.id) × (seat.new.me.1 ≡ seat.old.me.1) }

@@ -63,10 +63,10 @@ impl<E: Means> Play<(), View> for Adds<E> {
 }
 
 /// Bits that are set.
-pub struct Joins<E> {
+pub struct SetsBits<E> {
     marker: PhantomData<E>,
 }
 
-impl<E: Means> Play<(), View> for Joins<E> {
+impl<E: Means> Play<(), View> for SetsBits<E> {
     ghost then = { joined E.event };
 }

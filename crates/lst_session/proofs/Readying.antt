@@ -6,8 +6,8 @@ use Rattle.lst_core_state.specs.State.{newcomer}
 use Rattle.lst_rule.specs.declared.view.View.{View}
 use Rattle.lst_rule.specs.Rule.{crew, knows, hosts}
 use Rattle.lst_rule.proofs.Opening.{same_at}
-use Rattle.lst_seat.specs.declared.store.Store.{Store}
-use Rattle.lst_seat.specs.Stores.{IsSeatOf}
+use Rattle.lst_rule.specs.declared.store.Store.{Store}
+use Rattle.lst_rule.specs.Stores.{IsSeatOf}
 use Rattle.lst_crew_state.specs.Crews.{IsIdle}
 use Rattle.lst_session.specs.declared.session.Session.{Session}
 use Rattle.lst_session.specs.Passes.{IsReady}

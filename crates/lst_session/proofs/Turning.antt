@@ -1,7 +1,7 @@
 -- Transactions that begin and end: from what the steps leave to what the session answers.
 use Rattle.std.proofs.Common.{◌≡◌, ℕ, ◌+◌, ◌<◌, List, [], ◌∷◌, ◌++◌, Bool, false, length, Contains, Result, Ok, Err, IfOk, refl, subst, ap, ◌∙◌, arith, append_assoc}
 use Rattle.lst_model.specs.declared.commits.Commit.{Commit}
-use Rattle.lst_versions.specs.Writes.{commit}
+use Rattle.lst_core_state.specs.Writes.{commit}
 use Rattle.lst_core_state.specs.declared.known.Known.{Known}
 use Rattle.lst_core_state.specs.declared.facts.Find.TheVariants.{FreshClock, HeldTurn}
 use Rattle.lst_core_state.specs.Facts.{early_find}
@@ -13,7 +13,7 @@ use Rattle.lst_rule.specs.Rule.{knows}
 use Rattle.lst_rule.specs.Learned.{Learns}
 use Rattle.lst_rule.proofs.Learning.{learns_then}
 use Rattle.lst_sights.proofs.Watching.{one_not_full, clock_not_full}
-use Rattle.lst_seat.specs.Stores.{clocked}
+use Rattle.lst_rule.specs.Stores.{clocked}
 use Rattle.lst_write.specs.Standings.{FoundSince}
 use Rattle.lst_txn.specs.Transactions as txn
 use Rattle.lst_crew_state.specs.Crews.{IsIdle}

@@ -6,7 +6,7 @@ use Rattle.lst_model.specs.declared.commits.Commit.{Commit}
 use Rattle.lst_model.specs.Cells.{Cell}
 use Rattle.lst_model.specs.declared.acts.Write.{Write}
 use Rattle.lst_model.specs.Histories.{row_from, joined}
-use Rattle.lst_versions.specs.Writes.{write as write_on}
+use Rattle.lst_core_state.specs.Writes.{write as write_on}
 use Rattle.lst_model.specs.Soundness.{Fits}
 use Rattle.lst_core_state.specs.declared.known.Known.{Known}
 use Rattle.lst_core_state.specs.declared.known.Placing.{Placing}

@@ -8,7 +8,7 @@ use Rattle.lst_model.specs.Cells.{Cell}
 use Rattle.lst_model.specs.Tables.{row_of}
 use Rattle.lst_model.specs.Histories.{Extends, snapshot, joined}
 use Rattle.lst_model.specs.Soundness.{Fits}
-use Rattle.lst_versions.specs.Writes.{write, commit}
+use Rattle.lst_core_state.specs.Writes.{write, commit}
 use Rattle.lst_core_state.specs.declared.known.Known.{Known}
 use Rattle.lst_core_state.specs.declared.facts.Find.{Find}
 use Rattle.lst_core_state.specs.declared.facts.Find.TheVariants.{FreshClock, HeldTurn, LatchedRecord, UnfinishedVersion, FullRecords, FullTails}

@@ -1,3 +1,5 @@
 pub mod Calls
 pub mod Laws
 pub mod Passes
+pub mod Crews
+pub mod Replies

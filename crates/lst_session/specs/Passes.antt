@@ -1,8 +1,8 @@
 -- A session's pass: when its calls may be made, and what each answers.
 use Rattle.std.specs.Prelude.{◌≡◌, ◌<◌, true}
 use Rattle.lst_rule.specs.Rule.{knows, hosts}
-use Rattle.lst_seat.specs.declared.store.Store.{Store}
-use Rattle.lst_seat.specs.Stores.{IsSeatOf}
+use Rattle.lst_rule.specs.declared.store.Store.{Store}
+use Rattle.lst_rule.specs.Stores.{IsSeatOf}
 use Rattle.lst_crew_state.specs.Crews.{IsIdle}
 use Rattle.lst_session.specs.declared.session.Session.{Session}
 

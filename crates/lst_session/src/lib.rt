@@ -1,11 +1,21 @@
-//! Sessions: each call of a transaction, with what it answers and what it leaves of what the session has seen and done.
+//! Sessions, each with its transactions, and the crew that hosts all sessions of a store on one thread.
+//!
+//! What a session is promised holds under every interleaving of other threads' steps; what the crew is promised is that each of its
+//! calls answers as the machine of one thread does.
 #![tactic(auto)]
 
+mod crew;
+#[cfg(test)]
+mod crew_tests;
+mod histories;
 mod laws;
+mod lines;
+mod replies;
 mod session;
 #[cfg(test)]
 mod tests;
 
+pub use crew::{Crew, open_crew};
 pub use laws::seen_is_sound;
 pub use lst_calls::{CommitRefusal, Outcome, WriteRefusal};
 pub use lst_txn::{BeginFault as BeginRefusal, Idle as NotBegun};

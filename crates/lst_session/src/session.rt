@@ -8,7 +8,7 @@ ghost use Rattle.lst_session.specs.Passes.{IsReady};
 
 use lst_calls::{CommitRefusal, Outcome, WriteRefusal, change, end, insert, read};
 use lst_model::{Act, Key, Patch, Row, Time};
-use lst_seat::{Seat, Store};
+use lst_rule::{Seat, Store};
 use lst_txn::{BeginFault as BeginRefusal, Idle as NotBegun, as_of, begin, close};
 
 /// A session at a seat that hosts it, by its number.

@@ -3,8 +3,8 @@ use Rattle.std.proofs.Common.{◌≡◌, ℕ, List, Option, Some, subst, ◌∙�
 use Rattle.std.specs.Prelude.{take}
 use Rattle.std.specs.Io.KnownBytes.{Appends}
 use Rattle.lst_model.specs.declared.lines.Line.{Line}
-use Rattle.lst_seat.specs.declared.store.Store.{Store}
-use Rattle.lst_crew.specs.declared.crew.Crew.{Crew}
+use Rattle.lst_rule.specs.declared.store.Store.{Store}
+use Rattle.lst_session.specs.declared.crew.Crew.{Crew}
 use Rattle.lst_shell.specs.Answers.{Change, HasFailed, ReadsScript, RunsScript, RunsInPart, run_text}
 use Rattle.lst_shell.specs.Lefts.{IsLeft}
 use Rattle.lst_shell.specs.Runs.{LeftBy}

@@ -8,7 +8,7 @@ use Rattle.lst_model.specs.declared.lines.Line.TheVariants as lines
 use Rattle.lst_model.specs.declared.lines.Call.{Call}
 use Rattle.lst_model.specs.declared.lines.Call.TheVariants.{Begin, AsOf, Get, Insert, Update, Delete, Sum, Count, Scan, Find, Commit, Abort}
 use Rattle.lst_model.specs.Lines.{CallFits, LineFits}
-use Rattle.lst_crew.specs.Replies.{IsCrewCall}
+use Rattle.lst_session.specs.Replies.{IsCrewCall}
 use Rattle.lst_script.specs.Table.{Form, phase, merge, sum, count, scan, find_keys, first_forms, session_forms, form_named, name_of}
 use Rattle.lst_script.specs.Grammar.{AreArguments, IsCall, IsLine, form_of_call}
 use Rattle.lst_script.specs.Scripts.{AreScript, IsScript}

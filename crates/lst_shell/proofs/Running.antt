@@ -6,11 +6,11 @@ use Rattle.lst_model.specs.declared.lines.Line.{Line}
 use Rattle.lst_model.specs.declared.replies.Reply.{Reply}
 use Rattle.lst_machine.specs.State.{State, opening}
 use Rattle.lst_machine.specs.Machine.{reply, next, replies, state_after}
-use Rattle.lst_report.specs.Texts.{line_text, script_text}
+use Rattle.lst_replies.specs.Texts.{line_text, script_text}
 use Rattle.lst_rule.specs.declared.view.View.{View}
-use Rattle.lst_seat.specs.declared.store.Store.{Store}
-use Rattle.lst_crew.specs.declared.crew.Crew.{Crew}
-use Rattle.lst_crew.specs.Crews.{IsCrewOf, AnswersLine, state_told}
+use Rattle.lst_rule.specs.declared.store.Store.{Store}
+use Rattle.lst_session.specs.declared.crew.Crew.{Crew}
+use Rattle.lst_session.specs.Crews.{IsCrewOf, AnswersLine, state_told}
 use Rattle.lst_shell.specs.Answers.{store_limits, run_text}
 use Rattle.lst_shell.specs.Runs.{HasRun, LeftBy}
 

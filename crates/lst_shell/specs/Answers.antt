@@ -8,7 +8,7 @@ use Rattle.lst_layout.specs.declared.limits.Limits.{Limits}
 use Rattle.lst_layout.specs.Limits.{default_limits}
 use Rattle.lst_machine.specs.State.{opening}
 use Rattle.lst_machine.specs.Machine.{replies}
-use Rattle.lst_report.specs.Texts.{script_text}
+use Rattle.lst_replies.specs.Texts.{script_text}
 use Rattle.lst_script.specs.declared.faults.FaultKind.{FaultKind}
 use Rattle.lst_shell.specs.declared.status.Status.{Status}
 use Rattle.lst_shell.specs.declared.status.Status.TheVariants.{Done, Usage, BadScript, TooLong, ReadFault, WriteFault, OutOfMemory}

@@ -1,8 +1,8 @@
 -- What a run leaves to its caller.
 use Rattle.std.specs.Prelude.{◌≡◌, List, Option, Some}
 use Rattle.lst_model.specs.declared.lines.Line.{Line}
-use Rattle.lst_seat.specs.declared.store.Store.{Store}
-use Rattle.lst_crew.specs.declared.crew.Crew.{Crew}
+use Rattle.lst_rule.specs.declared.store.Store.{Store}
+use Rattle.lst_session.specs.declared.crew.Crew.{Crew}
 use Rattle.lst_shell.specs.declared.status.Status.{Status}
 use Rattle.lst_shell.specs.declared.status.Status.TheVariants.{Done, WriteFault}
 use Rattle.lst_shell.specs.Answers.{Change, RunsScript, RunsInPart}

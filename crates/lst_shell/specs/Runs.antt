@@ -4,12 +4,12 @@ use Rattle.lst_model.specs.declared.lines.Line.{Line}
 use Rattle.lst_model.specs.Lines.{LineFits}
 use Rattle.lst_machine.specs.State.{State, opening}
 use Rattle.lst_machine.specs.Machine.{replies, state_after}
-use Rattle.lst_report.specs.Texts.{script_text}
+use Rattle.lst_replies.specs.Texts.{script_text}
 use Rattle.lst_rule.specs.declared.view.View.{View}
-use Rattle.lst_seat.specs.declared.store.Store.{Store}
-use Rattle.lst_crew.specs.declared.crew.Crew.{Crew}
-use Rattle.lst_crew.specs.Crews.{IsCrewOf, state_told}
-use Rattle.lst_crew.specs.Replies.{IsCrewLine}
+use Rattle.lst_rule.specs.declared.store.Store.{Store}
+use Rattle.lst_session.specs.declared.crew.Crew.{Crew}
+use Rattle.lst_session.specs.Crews.{IsCrewOf, state_told}
+use Rattle.lst_session.specs.Replies.{IsCrewLine}
 use Rattle.lst_shell.specs.Answers.{store_limits}
 
 -- a line that the store takes

@@ -2,15 +2,15 @@
 ghost use Rattle.std.specs.Prelude.{◌≡◌, ◌<◌, IfOk};
 ghost use Rattle.lst_model.specs.Lines.{CallFits};
 ghost use Rattle.lst_plain.specs.Plains.{limits_of, IsPlainCall};
-ghost use Rattle.lst_crew.specs.Crews.{IsCrewOf};
-ghost use Rattle.lst_crew.specs.Replies.{IsCrewCall};
+ghost use Rattle.lst_session.specs.Crews.{IsCrewOf};
+ghost use Rattle.lst_session.specs.Replies.{IsCrewCall};
 
 use arrayvec::ArrayVec;
-use lst_crew::{Crew, open_crew};
+use lst_session::{Crew, open_crew};
 use lst_layout::Limits;
 use lst_model::{Call, Line, Patch, Reply, Row};
 use lst_plain::Plain;
-use lst_seat::Store;
+use lst_rule::Store;
 use std::process::Abort;
 use std::test::Fail;
 

@@ -2,15 +2,15 @@
 ghost use Rattle.std.specs.Prelude.{◌≡◌, ℕ, List, ◌∷◌, All, IfOk, OnOk};
 ghost use Rattle.lst_model.specs.declared.lines.Line.{Line as ScriptLine};
 ghost use Rattle.lst_machine.specs.State.{State};
-ghost use Rattle.lst_crew.specs.Crews.{IsCrewOf};
+ghost use Rattle.lst_session.specs.Crews.{IsCrewOf};
 ghost use Rattle.lst_shell.specs.Runs.{IsTaken, HasRun, LeftBy};
 ghost use Rattle.lst_shell.specs.Answers.{run_text, store_limits};
 
-use lst_crew::{Crew, open_crew};
+use lst_session::{Crew, open_crew};
 use lst_layout::{Layout, Limits};
 use lst_model::{Line, OutOfMemory, Text};
 use lst_report::push_line;
-use lst_seat::Store;
+use lst_rule::Store;
 use std::alloc::Global;
 
 /// What a run comes to: the text of what each line is answered, and the store with the crew that made the run.

@@ -5,7 +5,7 @@ use Rattle.lst_layout.specs.Words.{shown}
 use Rattle.lst_model.specs.declared.acts.Write.{Write}
 use Rattle.lst_model.specs.declared.commits.Commit.{Commit}
 use Rattle.lst_model.specs.Histories.{acts_on}
-use Rattle.lst_versions.specs.Lists.{Has, acts}
+use Rattle.lst_core_state.specs.Lists.{Has, acts}
 use Rattle.lst_core_state.specs.declared.known.Known.{Known}
 use Rattle.lst_core_state.specs.declared.facts.Fact.TheVariants.{IndexAt, StateAt, CommitAt}
 use Rattle.lst_core_state.specs.Cells.{record_count, record_of}

@@ -5,8 +5,8 @@ use Rattle.std.proofs.lemmas.List.Elements.{Contains-append_right}
 use mathlib.Core.Logic.{dite}
 use native.Mathlib.Decide.{ℕ_discrete}
 use Rattle.lst_layout.specs.declared.limits.Limits.{Limits}
-use Rattle.lst_versions.specs.Lists.{Has, Links}
-use Rattle.lst_versions.proofs.Lists.{links_positive}
+use Rattle.lst_core_state.specs.Lists.{Has, Links}
+use Rattle.lst_core_state.proofs.Lists.{links_positive}
 use Rattle.lst_core_state.specs.declared.facts.Fact.{Fact}
 use Rattle.lst_core_state.specs.declared.facts.Fact.TheVariants.{ChainEnds}
 use Rattle.lst_core_state.specs.Cells.{record_count, range_of, tail_at, listed}

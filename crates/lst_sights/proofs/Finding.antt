@@ -7,7 +7,7 @@ use Rattle.lst_layout.specs.declared.place.Place.TheVariants.{StateWord, HeadWor
 use Rattle.lst_layout.specs.Addresses.{address}
 use Rattle.lst_layout.specs.Words.{shown}
 use Rattle.lst_layout.proofs.Places.{addresses_are_read}
-use Rattle.lst_versions.specs.Lists.{is_until}
+use Rattle.lst_core_state.specs.Lists.{is_until}
 use Rattle.lst_core_state.specs.declared.known.Known.{Known}
 use Rattle.lst_core_state.specs.declared.events.Event.{Event}
 use Rattle.lst_core_state.specs.declared.events.Event.TheVariants.{Look, Latch}

@@ -2,8 +2,8 @@
 use Rattle.std.proofs.Common.{◌≡◌, ℕ, ◌/◌, ◌%◌, ◌<◌, List, [], ◌∷◌, ◌++◌, true, cond, eqb, ◌&&◌, ◌||◌, take, refl, sym, subst, ◌∙◌, arith, inl, inr, ⊎_elim, eq-eqb, eqb-true, true≢false}
 use Rattle.lst_model.specs.declared.commits.Commit.{Commit}
 use Rattle.lst_model.specs.Histories.{acts_on, all_acts_on}
-use Rattle.lst_versions.specs.Lists.{Has, acts, is_until}
-use Rattle.lst_versions.proofs.Sights.{same_truth, or_says, or_left, or_right}
+use Rattle.lst_core_state.specs.Lists.{Has, acts, is_until}
+use Rattle.lst_core_state.proofs.Sights.{same_truth, or_says, or_left, or_right}
 use Rattle.lst_core_state.specs.declared.known.Known.{Known}
 use Rattle.lst_core_state.specs.declared.facts.Fact.TheVariants.{IndexAt}
 use Rattle.lst_core_state.specs.Cells.{record_count}

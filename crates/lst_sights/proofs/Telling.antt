@@ -3,8 +3,8 @@ use Rattle.std.proofs.Common.{◌≡◌, ◌≢◌, ◌⊎◌, ℕ, ◌+◌, ◌
 use mathlib.Core.Logic.{dite}
 use native.Mathlib.Decide.{ℕ_discrete}
 use Rattle.lst_layout.specs.Words.{shown}
-use Rattle.lst_versions.specs.Lists.{is_until}
-use Rattle.lst_versions.proofs.Sights.{same_truth, is_false, until_says, until_holds, until_not}
+use Rattle.lst_core_state.specs.Lists.{is_until}
+use Rattle.lst_core_state.proofs.Sights.{same_truth, is_false, until_says, until_holds, until_not}
 use Rattle.lst_core_state.specs.declared.known.Known.{Known}
 use Rattle.lst_core_state.specs.declared.facts.Fact.{Fact}
 use Rattle.lst_core_state.specs.declared.facts.Fact.TheVariants.{StateAt, CommitAt}

@@ -6,9 +6,9 @@ use Rattle.lst_model.specs.Cells.{Cell}
 use Rattle.lst_model.specs.Histories.{row_after, row_from}
 use Rattle.lst_model.specs.Soundness.{Fits, FitInTurn}
 use Rattle.lst_layout.specs.Words.{shown}
-use Rattle.lst_versions.specs.Lists.{Has, acts, Under, Ordered, Fitting, is_live, is_until}
-use Rattle.lst_versions.proofs.Lists.{acts_same, below_has}
-use Rattle.lst_versions.proofs.Sights.{same_truth, or_says, or_left, until_says, until_holds}
+use Rattle.lst_core_state.specs.Lists.{Has, acts, Under, Ordered, Fitting, is_live, is_until}
+use Rattle.lst_core_state.proofs.Lists.{acts_same, below_has}
+use Rattle.lst_core_state.proofs.Sights.{same_truth, or_says, or_left, until_says, until_holds}
 use Rattle.lst_core_state.specs.declared.known.Known.{Known}
 use Rattle.lst_core_state.specs.declared.facts.Fact.TheVariants.{IndexAt}
 use Rattle.lst_core_state.specs.Cells.{record_count}

@@ -4,9 +4,9 @@ use mathlib.Core.Logic.{dite}
 use native.Mathlib.Decide.{ℕ_discrete}
 use Rattle.lst_layout.specs.declared.limits.Limits.{Limits}
 use Rattle.lst_layout.specs.Words.{shown}
-use Rattle.lst_versions.specs.Lists.{Links, Judged}
-use Rattle.lst_versions.proofs.Lists.{links_chain}
-use Rattle.lst_versions.proofs.Sights.{or_says, until_says}
+use Rattle.lst_core_state.specs.Lists.{Links, Judged}
+use Rattle.lst_core_state.proofs.Lists.{links_chain}
+use Rattle.lst_core_state.proofs.Sights.{or_says, until_says}
 use Rattle.lst_core_state.specs.declared.known.Known.{Known}
 use Rattle.lst_core_state.specs.declared.facts.Fact.{Fact}
 use Rattle.lst_core_state.specs.declared.facts.Fact.TheVariants.{StateAt}

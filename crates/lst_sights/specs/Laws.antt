@@ -8,7 +8,7 @@ use Rattle.lst_layout.specs.Addresses.{address, IsWithin}
 use Rattle.lst_layout.specs.Words.{shown}
 use Rattle.lst_model.specs.Histories.{Extends}
 use Rattle.lst_model.specs.Soundness.{FitInTurn}
-use Rattle.lst_versions.specs.Lists.{is_until}
+use Rattle.lst_core_state.specs.Lists.{is_until}
 use Rattle.lst_core_state.specs.declared.known.Known.{Known}
 use Rattle.lst_core_state.specs.declared.events.Event.TheVariants.{Look, Latch, DrawTail, Stamp}
 use Rattle.lst_core_state.specs.declared.facts.Fact.{Fact}

@@ -2,7 +2,7 @@
 use Rattle.std.specs.Prelude.{◌≡◌, ℕ, ◌+◌, ◌*◌, ◌/◌, ◌%◌, ◌<◌, List, true, slice_index}
 use Rattle.std.specs.List.{Contains}
 use Rattle.lst_layout.specs.declared.limits.Limits.{Limits}
-use Rattle.lst_versions.specs.Lists.{is_until}
+use Rattle.lst_core_state.specs.Lists.{is_until}
 use Rattle.lst_core_state.specs.declared.known.Known.{Known}
 use Rattle.lst_core_state.specs.declared.facts.Fact.TheVariants.{StateAt, CommitAt}
 use Rattle.lst_core_state.specs.Facts.{unfinished}

@@ -3,7 +3,7 @@ use Rattle.std.proofs.Common.{◌≡◌, ◌⊎◌, ⊎_elim, ℕ, ◌+◌, ◌*
 use Rattle.lst_layout.specs.declared.place.Place.TheVariants.{ClockWord, CommitWord, LogWord, BeginWord, StateWord}
 use Rattle.lst_layout.specs.Addresses.{address}
 use Rattle.lst_model.specs.declared.commits.Commit.{Commit}
-use Rattle.lst_versions.specs.Writes.{commit}
+use Rattle.lst_core_state.specs.Writes.{commit}
 use Rattle.lst_core_state.specs.declared.events.Event.TheVariants.{Begin, Log, State, Clock, Give}
 use Rattle.lst_core_state.specs.declared.known.Known.{Known}
 use Rattle.lst_core_state.specs.declared.known.Stage.{Stage}
@@ -15,7 +15,7 @@ use Rattle.lst_rule.specs.declared.view.View.{View}
 use Rattle.lst_rule.specs.Rule.{knows}
 use Rattle.lst_rule.specs.Learned.{Learns, Made}
 use Rattle.lst_rule.proofs.Learning.{learns_then}
-use Rattle.lst_seat.specs.Stores.{clocked, Clocked}
+use Rattle.lst_rule.specs.Stores.{clocked, Clocked}
 use Rattle.lst_txn.specs.Transactions.{HoldsTurn, Sees, Opens, committed_words, Commits}
 
 pub sees : (v u : View) (s x : ℕ) → Clocked v u s x → s < v.limits.sessions → Sees v u s x

@@ -3,14 +3,14 @@ use Rattle.std.specs.Prelude.{◌≡◌, ◌⊎◌, ℕ, ◌+◌, ◌*◌, ◌<�
 use Rattle.lst_layout.specs.declared.limits.Limits.{Limits}
 use Rattle.lst_layout.specs.declared.place.Place.TheVariants.{ClockWord, CommitWord, LogWord, BeginWord, StateWord}
 use Rattle.lst_layout.specs.Addresses.{address}
-use Rattle.lst_versions.specs.Writes.{commit}
+use Rattle.lst_core_state.specs.Writes.{commit}
 use Rattle.lst_core_state.specs.declared.known.Known.{Known}
 use Rattle.lst_core_state.specs.declared.known.Stage.TheVariants.{Away}
 use Rattle.lst_core_state.specs.State.{rank, mine}
 use Rattle.lst_rule.specs.declared.view.View.{View}
 use Rattle.lst_rule.specs.Rule.{knows}
 use Rattle.lst_rule.specs.Learned.{Learns}
-use Rattle.lst_seat.specs.Stores.{clocked, Clocked}
+use Rattle.lst_rule.specs.Stores.{clocked, Clocked}
 
 -- the session holds no turn and no latch
 abbrev pub IsFree : Known → Type 0

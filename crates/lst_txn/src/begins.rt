@@ -1,11 +1,11 @@
 //! A transaction begins.
 ghost use Rattle.std.specs.Prelude.{◌≡◌, ◌⊎◌, ℕ, ◌↔◌, ◌<◌, ◌≤◌, true, false, IfOk, OnErr, Err, length};
 ghost use Rattle.lst_rule.specs.Rule.{knows, hosts};
-ghost use Rattle.lst_seat.specs.Stores.{IsSeatOf};
+ghost use Rattle.lst_rule.specs.Stores.{IsSeatOf};
 ghost use Rattle.lst_txn.specs.Transactions.{Sees, Opens};
 
 use lst_model::Time;
-use lst_seat::{Seat, Store, load_clock, step_begin};
+use lst_rule::{Seat, Store, load_clock, step_begin};
 
 /// Why no transaction begins.
 #[derive(Clone, Copy, PartialEq, Eq, Debug)]

@@ -7,11 +7,11 @@ ghost use Rattle.lst_core_state.specs.State.{rank};
 ghost use Rattle.lst_core_state.specs.Step.{took, held_off};
 ghost use Rattle.lst_rule.specs.Rule.{knows, hosts};
 ghost use Rattle.lst_rule.specs.Learned.{Learns, Kept};
-ghost use Rattle.lst_seat.specs.Stores.{IsSeatOf};
+ghost use Rattle.lst_rule.specs.Stores.{IsSeatOf};
 ghost use Rattle.lst_txn.specs.Transactions.{IsFree, HoldsTurn, Commits};
 
 use lst_model::Time;
-use lst_seat::{
+use lst_rule::{
     Seat, Store, load_clock, step_clock, step_close, step_give, step_log, step_state, step_take,
 };
 

@@ -1,11 +1,11 @@
 //! Sessions of one seat, which hosts them all.
 ghost use Rattle.std.specs.Prelude.{◌≡◌, ◌<◌, true};
 ghost use Rattle.lst_rule.specs.Rule.{hosts};
-ghost use Rattle.lst_seat.specs.Stores.{IsSeatOf};
+ghost use Rattle.lst_rule.specs.Stores.{IsSeatOf};
 
 use crate::{BeginFault, Idle, Turn, TurnFault, as_of, begin, close, take_turn};
 use lst_layout::Limits;
-use lst_seat::{Seat, Store, open_store};
+use lst_rule::{Seat, Store, open_store};
 use std::test::Fail;
 use std::thread::{Threads, join_mut};
 

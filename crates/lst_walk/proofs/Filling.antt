@@ -7,8 +7,8 @@ use mathlib.Core.Logic.{dite}
 use native.Mathlib.Decide.{dec_lt}
 use Rattle.std.specs.Prelude.{Option, Some, None, slice_get, slice_set}
 use Rattle.lst_rule.specs.declared.view.View.{View}
-use Rattle.lst_seat.specs.declared.store.Store.{Store}
-use Rattle.lst_seat.specs.Seats.{Sitting}
+use Rattle.lst_rule.specs.declared.store.Store.{Store}
+use Rattle.lst_rule.specs.Seats.{Sitting}
 use Rattle.lst_sights.specs.Copies.{Version}
 use Rattle.lst_sights.specs.Watching.{Watched}
 use Rattle.lst_walk.specs.Readers.{IsReader, IsAt}

@@ -13,7 +13,7 @@ use Rattle.lst_bits.specs.Heads.{IsHeadWord}
 use Rattle.lst_core_state.specs.Cells.{record_count, range_of, patched, act_of, kind_of, mask_of, IsCell}
 use Rattle.lst_rule.specs.declared.view.View.{View}
 use Rattle.lst_rule.specs.Rule.{knows, hosts}
-use Rattle.lst_seat.specs.Stores.{Looked}
+use Rattle.lst_rule.specs.Stores.{Looked}
 use Rattle.lst_sights.specs.Copies.{Version, Leads}
 use Rattle.lst_sights.specs.Seen.{act_by}
 use Rattle.lst_sights.specs.Loads.{ChainFound, WordFound}

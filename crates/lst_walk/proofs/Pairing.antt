@@ -19,9 +19,9 @@ use Rattle.lst_rule.specs.declared.view.View.{View}
 use Rattle.lst_rule.specs.Rule.{knows, hosts}
 use Rattle.lst_rule.specs.Learned.{Learns, Possible}
 use Rattle.lst_rule.proofs.Learning.{learns_on}
-use Rattle.lst_seat.specs.declared.store.Store.{Store}
-use Rattle.lst_seat.specs.Seats.{Sitting}
-use Rattle.lst_seat.specs.Stores.{IsSeatOf}
+use Rattle.lst_rule.specs.declared.store.Store.{Store}
+use Rattle.lst_rule.specs.Seats.{Sitting}
+use Rattle.lst_rule.specs.Stores.{IsSeatOf}
 use Rattle.lst_sights.specs.Copies.{Includes}
 use Rattle.lst_sights.specs.Seen.{SeesAlike, HasKey}
 use Rattle.lst_sights.specs.Watching.{Watches, Watched}

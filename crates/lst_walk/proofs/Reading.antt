@@ -12,9 +12,9 @@ use Rattle.lst_rule.specs.declared.view.View.{View}
 use Rattle.lst_rule.specs.Rule.{knows, hosts}
 use Rattle.lst_rule.specs.Learned.{Possible, Met}
 use Rattle.lst_rule.proofs.Learning.{possible_after}
-use Rattle.lst_seat.specs.declared.store.Store.{Store}
-use Rattle.lst_seat.specs.Seats.{Sitting}
-use Rattle.lst_seat.specs.Stores.{IsSeatOf, Looked}
+use Rattle.lst_rule.specs.declared.store.Store.{Store}
+use Rattle.lst_rule.specs.Seats.{Sitting}
+use Rattle.lst_rule.specs.Stores.{IsSeatOf, Looked}
 use Rattle.lst_sights.specs.Copies.{Version, fact_of, IsVersionOf, Includes}
 use Rattle.lst_sights.specs.Seen.{sees}
 use Rattle.lst_sights.specs.Loads.{WordFound, StartFound}

@@ -17,7 +17,7 @@ use Rattle.lst_core_state.specs.State.{Words}
 use Rattle.lst_core_state.proofs.Functions.{either}
 use Rattle.lst_rule.specs.declared.view.View.{View}
 use Rattle.lst_rule.specs.Rule.{knows}
-use Rattle.lst_seat.specs.Stores.{Looked, Clocked}
+use Rattle.lst_rule.specs.Stores.{Looked, Clocked}
 use Rattle.lst_walk.specs.Readers.{FoundSince}
 
 -- what a load of a state word leaves

@@ -9,7 +9,7 @@ use Rattle.lst_layout.specs.Addresses.{address, IsTailWord}
 use Rattle.lst_layout.specs.Limits.{IsValid}
 use Rattle.lst_layout.proofs.Lows.{tail_within}
 use Rattle.lst_bits.specs.Starts.{IsStartWord}
-use Rattle.lst_versions.proofs.Sights.{same_truth, or_right}
+use Rattle.lst_core_state.proofs.Sights.{same_truth, or_right}
 use Rattle.lst_core_state.specs.declared.known.Known.{Known}
 use Rattle.lst_core_state.specs.declared.events.Event.TheVariants.{Stamp}
 use Rattle.lst_core_state.specs.declared.facts.Fact.TheVariants.{StateAt}
@@ -22,9 +22,9 @@ use Rattle.lst_rule.specs.declared.view.View.{View}
 use Rattle.lst_rule.specs.Rule.{knows, hosts}
 use Rattle.lst_rule.specs.Learned.{Possible, CanStand, Times, Made}
 use Rattle.lst_rule.proofs.Knowing.{is_seen, clock_is}
-use Rattle.lst_seat.specs.declared.store.Store.{Store}
-use Rattle.lst_seat.specs.Seats.{Sitting}
-use Rattle.lst_seat.specs.Stores.{Looked}
+use Rattle.lst_rule.specs.declared.store.Store.{Store}
+use Rattle.lst_rule.specs.Seats.{Sitting}
+use Rattle.lst_rule.specs.Stores.{Looked}
 use Rattle.lst_sights.specs.Copies.{Version}
 use Rattle.lst_sights.specs.Seen.{is_early, sees}
 use Rattle.lst_sights.specs.Watching.{Watched}

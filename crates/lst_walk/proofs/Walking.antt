@@ -14,8 +14,8 @@ use Rattle.lst_core_state.specs.State.{sight}
 use Rattle.lst_rule.specs.declared.view.View.{View}
 use Rattle.lst_rule.specs.Rule.{knows, hosts}
 use Rattle.lst_rule.specs.Learned.{Possible}
-use Rattle.lst_seat.specs.declared.store.Store.{Store}
-use Rattle.lst_seat.specs.Seats.{Sitting}
+use Rattle.lst_rule.specs.declared.store.Store.{Store}
+use Rattle.lst_rule.specs.Seats.{Sitting}
 use Rattle.lst_sights.specs.Copies.{Version, IsVersionOf, IsChainFrom}
 use Rattle.lst_sights.specs.Seen.{sees, act_by, seen_acts, HasKey}
 use Rattle.lst_sights.specs.Loads.{ChainFound}

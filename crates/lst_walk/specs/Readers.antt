@@ -10,9 +10,9 @@ use Rattle.lst_core_state.specs.Facts.{unfinished}
 use Rattle.lst_rule.specs.declared.view.View.{View}
 use Rattle.lst_rule.specs.Rule.{knows, hosts}
 use Rattle.lst_rule.specs.Learned.{Made}
-use Rattle.lst_seat.specs.declared.store.Store.{Store}
-use Rattle.lst_seat.specs.Seats.{Sitting}
-use Rattle.lst_seat.specs.Stores.{IsSeatOf, Looked}
+use Rattle.lst_rule.specs.declared.store.Store.{Store}
+use Rattle.lst_rule.specs.Seats.{Sitting}
+use Rattle.lst_rule.specs.Stores.{IsSeatOf, Looked}
 use Rattle.lst_sights.specs.Copies.{Version, fact_of, IsVersionOf}
 use Rattle.lst_sights.specs.Watching.{Watched}
 use Rattle.lst_walk.specs.declared.statuses.Status.{Status}

@@ -9,8 +9,8 @@ use Rattle.lst_core_state.specs.declared.known.Known.{Known}
 use Rattle.lst_rule.specs.declared.view.View.{View}
 use Rattle.lst_rule.specs.Rule.{knows}
 use Rattle.lst_rule.specs.Learned.{Possible}
-use Rattle.lst_seat.specs.declared.store.Store.{Store}
-use Rattle.lst_seat.specs.Seats.{Sitting}
+use Rattle.lst_rule.specs.declared.store.Store.{Store}
+use Rattle.lst_rule.specs.Seats.{Sitting}
 use Rattle.lst_sights.specs.Copies.{Version, IsChainFrom}
 use Rattle.lst_sights.specs.Seen.{sees, act_by, seen_acts, HasKey}
 use Rattle.lst_sights.specs.Watching.{Watched}

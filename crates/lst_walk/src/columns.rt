@@ -2,7 +2,7 @@
 ghost use Rattle.std.specs.Prelude.{◌≡◌, ℕ, ◌+◌, ◌*◌, ◌<◌, ◌≤◌, true};
 ghost use Rattle.lst_core_state.specs.Cells.{record_count};
 ghost use Rattle.lst_rule.specs.Rule.{knows, hosts};
-ghost use Rattle.lst_seat.specs.Stores.{IsSeatOf};
+ghost use Rattle.lst_rule.specs.Stores.{IsSeatOf};
 ghost use Rattle.lst_sights.specs.Copies.{Version};
 ghost use Rattle.lst_sights.specs.Watching.{Watched};
 ghost use Rattle.lst_walk.specs.Readers.{IsReader, IsAt, HasVersion};
@@ -11,7 +11,7 @@ ghost use Rattle.lst_walk.specs.Walks.{IsCellOf, Tells, Told};
 use crate::stamps::is_seen;
 use crate::words::{back, encoding, head, tail_of, value};
 use lst_bits::{Kind, has_column};
-use lst_seat::{RecordId, Seat, Store};
+use lst_rule::{RecordId, Seat, Store};
 
 /// The number in a column of the row that the open transaction sees of a record: of the snapshot at its begin, with its own writes on
 /// it. None comes exactly where it sees no row. The walk goes along the chain from the newest version, to the first one that is seen and

@@ -4,7 +4,7 @@ ghost use Rattle.std.specs.List.{list_all};
 ghost use Rattle.lst_model.specs.Cells.{overlaid};
 ghost use Rattle.lst_core_state.specs.Cells.{record_count, patched, has_bit};
 ghost use Rattle.lst_rule.specs.Rule.{knows, hosts};
-ghost use Rattle.lst_seat.specs.Stores.{IsSeatOf};
+ghost use Rattle.lst_rule.specs.Stores.{IsSeatOf};
 ghost use Rattle.lst_sights.specs.Copies.{Version};
 ghost use Rattle.lst_sights.specs.Watching.{Watched};
 ghost use Rattle.lst_walk.specs.Readers.{IsReader, IsAt, HasVersion};
@@ -16,7 +16,7 @@ use crate::words::{back, encoding, head, tail_of, value};
 use arrayvec::ArrayVec;
 use lst_bits::{Kind, has_column};
 use lst_model::Row;
-use lst_seat::{RecordId, Seat, Store};
+use lst_rule::{RecordId, Seat, Store};
 
 /// What a visit of a version comes to.
 pub(crate) enum Visit {

@@ -6,7 +6,7 @@ ghost use Rattle.lst_core_state.specs.declared.events.Event.TheVariants.{Stamp};
 ghost use Rattle.lst_core_state.specs.declared.facts.Fact.TheVariants.{StateAt};
 ghost use Rattle.lst_core_state.specs.State.{name_of};
 ghost use Rattle.lst_rule.specs.Rule.{knows, hosts};
-ghost use Rattle.lst_seat.specs.Stores.{IsSeatOf};
+ghost use Rattle.lst_rule.specs.Stores.{IsSeatOf};
 ghost use Rattle.lst_sights.specs.Copies.{Version};
 ghost use Rattle.lst_sights.specs.Seen.{sees};
 ghost use Rattle.lst_sights.specs.Watching.{Watched};
@@ -16,7 +16,7 @@ ghost use Rattle.lst_walk.specs.declared.statuses.Status.TheVariants.{Unfinished
 use crate::statuses::{Status, status_of};
 use crate::words::tail_of;
 use lst_bits::{Start, unpack_start};
-use lst_seat::{Seat, Store, load_cell, step_stamp};
+use lst_rule::{Seat, Store, load_cell, step_stamp};
 
 /// Whether this call found or stored a commit time in the start word of a range's tail record, which has this number from 1 on. It
 /// answers no where it found the start word empty, or its transaction closed or unfinished.

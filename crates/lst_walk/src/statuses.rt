@@ -6,7 +6,7 @@ ghost use Rattle.lst_sights.specs.Watching.{Watched};
 ghost use Rattle.lst_walk.specs.Readers.{IsReader, FoundSince, IsStatus};
 
 use lst_bits::{State, unpack_state};
-use lst_seat::{Seat, Store, load_clock, load_state};
+use lst_rule::{Seat, Store, load_clock, load_state};
 
 /// How far a transaction was found to be.
 #[derive(Clone, Copy, PartialEq, Eq, Debug)]

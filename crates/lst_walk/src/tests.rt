@@ -12,7 +12,7 @@ use arrayvec::ArrayVec;
 use lst_index::{find, place};
 use lst_layout::Limits;
 use lst_model::{Act, Key, Patch, Row, Time};
-use lst_seat::{RecordId, Seat, Store, load_cell, open_store};
+use lst_rule::{RecordId, Seat, Store, load_cell, open_store};
 use lst_txn::{TurnFault, begin, close, take_turn};
 use lst_write::{append, install, judge, latch, release};
 use std::alloc::Global;

@@ -10,7 +10,7 @@ ghost use Rattle.lst_walk.specs.Readers.{IsReader, IsAt, HasVersion};
 ghost use Rattle.lst_walk.specs.Patches.{act_for};
 
 use lst_bits::{Encoding, unpack_encoding, unpack_head};
-use lst_seat::{RecordId, Seat, Store, load_cell, load_head};
+use lst_rule::{RecordId, Seat, Store, load_cell, load_head};
 
 /// The number among all tail records of a range's tail record, which has this number in the range.
 pub(crate) fn tail_of(store: &Store, range: u32, number: u32) -> u32

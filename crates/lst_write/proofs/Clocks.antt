@@ -14,7 +14,7 @@ use Rattle.lst_core_state.specs.State.{name_of}
 use Rattle.lst_rule.specs.declared.view.View.{View}
 use Rattle.lst_rule.specs.Rule.{knows, hosts, Allowed}
 use Rattle.lst_rule.proofs.Knowing.{is_fact}
-use Rattle.lst_seat.specs.Stores.{Looked, Clocked}
+use Rattle.lst_rule.specs.Stores.{Looked, Clocked}
 use Rattle.lst_sights.specs.Copies.{Version}
 use Rattle.lst_sights.specs.Loads.{StartFound}
 use Rattle.lst_sights.proofs.Finding.{unfinished_is_about}

@@ -5,7 +5,7 @@ use Rattle.std.proofs.lemmas.List.Elements.{Contains-append_left}
 use Rattle.lst_layout.specs.declared.limits.Limits.{Limits}
 use Rattle.lst_layout.specs.declared.place.Place.TheVariants.{TailCounter}
 use Rattle.lst_layout.specs.Words.{Words, shown}
-use Rattle.lst_versions.proofs.Sights.{or_right}
+use Rattle.lst_core_state.proofs.Sights.{or_right}
 use Rattle.lst_core_state.specs.declared.known.Known.{Known}
 use Rattle.lst_core_state.specs.declared.known.Counter.{Counter}
 use Rattle.lst_core_state.specs.declared.known.Hold.{Hold}
@@ -20,7 +20,7 @@ use Rattle.lst_rule.specs.Rule.{knows, hosts}
 use Rattle.lst_rule.specs.Learned.{Learns, Kept, CanStand, Met}
 use Rattle.lst_rule.proofs.Knowing.{knows_own}
 use Rattle.lst_rule.proofs.Learning.{learns_on}
-use Rattle.lst_seat.specs.Stores.{Looked}
+use Rattle.lst_rule.specs.Stores.{Looked}
 use Rattle.lst_sights.specs.Copies.{Version, IsChainFrom, Includes}
 use Rattle.lst_sights.specs.Seen.{sees, SeesAlike}
 use Rattle.lst_sights.specs.Judging.{IsClosed, IsJudged}

@@ -3,7 +3,7 @@ use Rattle.std.proofs.Common.{◌≡◌, ◌≢◌, ℕ, ◌+◌, ◌/◌, ◌%�
 use Rattle.lst_layout.specs.declared.limits.Limits.{Limits}
 use Rattle.lst_layout.specs.declared.place.Place.TheVariants.{StateWord, CellWord}
 use Rattle.lst_layout.specs.Addresses.{IsWithin}
-use Rattle.lst_versions.proofs.Sights.{or_right}
+use Rattle.lst_core_state.proofs.Sights.{or_right}
 use Rattle.lst_bits.specs.Starts.{IsStartWord, start_word}
 use Rattle.lst_bits.specs.declared.starts.Start.TheVariants.{Empty, By, At}
 use Rattle.lst_core_state.specs.declared.known.Known.{Known}
@@ -13,7 +13,7 @@ use Rattle.lst_rule.specs.declared.view.View.{View}
 use Rattle.lst_rule.specs.Rule.{knows, hosts}
 use Rattle.lst_rule.specs.Learned.{Possible}
 use Rattle.lst_rule.proofs.Knowing.{is_fact, clock_is}
-use Rattle.lst_seat.specs.Stores.{Looked}
+use Rattle.lst_rule.specs.Stores.{Looked}
 use Rattle.lst_sights.specs.Copies.{Version, fact_of, IsVersionOf}
 use Rattle.lst_sights.specs.Seen.{is_early}
 use Rattle.lst_sights.specs.Loads.{StartFound}

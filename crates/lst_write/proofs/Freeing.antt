@@ -4,7 +4,7 @@ use Rattle.lst_layout.specs.declared.place.Place.{Place}
 use Rattle.lst_layout.specs.Words.{Words, shown}
 use Rattle.lst_model.specs.declared.acts.Write.{Write}
 use Rattle.lst_model.specs.Histories.{joined}
-use Rattle.lst_versions.specs.Writes.{write}
+use Rattle.lst_core_state.specs.Writes.{write}
 use Rattle.lst_core_state.specs.declared.known.Known.{Known}
 use Rattle.lst_core_state.specs.declared.known.Hold.{Hold}
 use Rattle.lst_core_state.specs.declared.events.Event.{Event}

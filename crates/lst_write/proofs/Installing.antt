@@ -4,8 +4,8 @@ use Rattle.lst_layout.specs.declared.place.Place.TheVariants.{HeadWord}
 use Rattle.lst_layout.specs.Words.{Words, shown}
 use Rattle.lst_model.specs.declared.acts.Act.{Act}
 use Rattle.lst_model.specs.Histories.{joined, acts_on, all_acts_on}
-use Rattle.lst_versions.specs.Writes.{write, Rising}
-use Rattle.lst_versions.proofs.Writes.{line_joined-here}
+use Rattle.lst_core_state.specs.Writes.{write, Rising}
+use Rattle.lst_core_state.proofs.Writes.{line_joined-here}
 use Rattle.lst_core_state.specs.declared.known.Known.{Known}
 use Rattle.lst_core_state.specs.declared.known.Hold.{Hold}
 use Rattle.lst_core_state.specs.declared.facts.Fact.TheVariants.{CellIs, IndexAt}

@@ -15,7 +15,7 @@ use Rattle.lst_core_state.specs.State.{name_of}
 use Rattle.lst_rule.specs.declared.view.View.{View}
 use Rattle.lst_rule.specs.Rule.{knows, hosts}
 use Rattle.lst_rule.specs.Learned.{Possible}
-use Rattle.lst_seat.specs.Stores.{Looked, Clocked}
+use Rattle.lst_rule.specs.Stores.{Looked, Clocked}
 use Rattle.lst_sights.specs.Copies.{Version, Includes}
 use Rattle.lst_sights.specs.Loads.{StartFound}
 use Rattle.lst_sights.specs.Watching.{Watched}

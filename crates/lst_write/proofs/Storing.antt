@@ -15,9 +15,9 @@ use Rattle.lst_rule.specs.Rule.{knows, hosts}
 use Rattle.lst_rule.specs.Learned.{Learns, CanStand, Made}
 use Rattle.lst_rule.proofs.Learning.{learns_on}
 use Rattle.lst_sights.proofs.Stamps.{made_words}
-use Rattle.lst_seat.specs.declared.store.Store.{Store}
-use Rattle.lst_seat.specs.Seats.{Sitting}
-use Rattle.lst_seat.specs.Stores.{IsSeatOf}
+use Rattle.lst_rule.specs.declared.store.Store.{Store}
+use Rattle.lst_rule.specs.Seats.{Sitting}
+use Rattle.lst_rule.specs.Stores.{IsSeatOf}
 use Rattle.lst_write.specs.Appending.{ChangesTail, known_words, IsDraft, Stores}
 
 -- the bits of the places below one, and then of that one

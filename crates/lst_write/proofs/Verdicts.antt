@@ -1,7 +1,7 @@
 -- How versions stand, by what was found of their transactions.
 use Rattle.std.proofs.Common.{◌≡◌, ℕ, ◌+◌, ◌/◌, ◌%◌, ◌<◌, ◌≤◌, Bool, true, false, cond, eqb, nat_le, length, refl, sym, subst, ◌∙◌, arith, inl, inr, ⊎_elim, leb-false}
 use Rattle.std.specs.List.{Contains}
-use Rattle.lst_versions.proofs.Sights.{or_left}
+use Rattle.lst_core_state.proofs.Sights.{or_left}
 use Rattle.lst_core_state.specs.declared.known.Known.{Known}
 use Rattle.lst_core_state.specs.declared.facts.Fact.TheVariants.{StateAt, CommitAt}
 use Rattle.lst_core_state.specs.State.{name_of}

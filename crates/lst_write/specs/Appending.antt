@@ -6,7 +6,7 @@ use Rattle.lst_layout.specs.Functions.{put}
 use Rattle.lst_layout.specs.Words.{Words, shown}
 use Rattle.lst_model.specs.declared.acts.Act.{Act}
 use Rattle.lst_model.specs.Histories.{joined}
-use Rattle.lst_versions.specs.Writes.{write}
+use Rattle.lst_core_state.specs.Writes.{write}
 use Rattle.lst_core_state.specs.declared.known.Known.{Known}
 use Rattle.lst_core_state.specs.declared.known.Counter.{Counter}
 use Rattle.lst_core_state.specs.declared.known.Draft.{Draft}
@@ -21,9 +21,9 @@ use Rattle.lst_rule.specs.declared.view.View.{View}
 use Rattle.lst_rule.specs.Rule.{knows, hosts}
 use Rattle.lst_rule.specs.Learned.{Learns, Kept}
 use Rattle.lst_sights.specs.Seen.{HasKey}
-use Rattle.lst_seat.specs.declared.store.Store.{Store}
-use Rattle.lst_seat.specs.Seats.{Sitting}
-use Rattle.lst_seat.specs.Stores.{IsSeatOf}
+use Rattle.lst_rule.specs.declared.store.Store.{Store}
+use Rattle.lst_rule.specs.Seats.{Sitting}
+use Rattle.lst_rule.specs.Stores.{IsSeatOf}
 
 -- the act fits the row of the record's key that the open transaction sees
 abbrev pub FitsSight : Known → ℕ → Act → Type 0

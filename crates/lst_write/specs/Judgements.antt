@@ -12,9 +12,9 @@ use Rattle.lst_sights.specs.Copies.{Version, fact_of, IsVersionOf, IsChainFrom, 
 use Rattle.lst_sights.specs.Seen.{HasKey}
 use Rattle.lst_sights.specs.Judging.{AreClosed, IsJudged, IsCommittedAt, WroteAt}
 use Rattle.lst_sights.specs.Watching.{Watched}
-use Rattle.lst_seat.specs.declared.store.Store.{Store}
-use Rattle.lst_seat.specs.Seats.{Sitting}
-use Rattle.lst_seat.specs.Stores.{IsSeatOf}
+use Rattle.lst_rule.specs.declared.store.Store.{Store}
+use Rattle.lst_rule.specs.Seats.{Sitting}
+use Rattle.lst_rule.specs.Stores.{IsSeatOf}
 use Rattle.lst_write.specs.declared.judgement.JudgeFault.{JudgeFault}
 use Rattle.lst_write.specs.declared.judgement.JudgeFault.TheVariants.{Newer, Unfinished}
 use Rattle.lst_write.specs.Standings.{FoundSince, IsLive}

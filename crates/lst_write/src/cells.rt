@@ -5,7 +5,7 @@ ghost use Rattle.lst_write.specs.Cells.{IsActFor, mask_of_patch};
 
 use lst_bits::{Encoding, Kind, full_mask, pack_encoding};
 use lst_model::{Act, Patch};
-use lst_seat::RecordId;
+use lst_rule::RecordId;
 
 /// The mask of the columns that a patch sets.
 fn patch_mask(patch: &Patch) -> u8

@@ -2,7 +2,7 @@
 ghost use Rattle.std.specs.Prelude.{◌≡◌, ◌+◌, ◌*◌, ◌<◌, ◌≤◌, ◌/◌, true, IfOk, IfErr};
 ghost use Rattle.lst_core_state.specs.Cells.{record_count, range_of};
 ghost use Rattle.lst_rule.specs.Rule.{knows, hosts};
-ghost use Rattle.lst_seat.specs.Stores.{IsSeatOf};
+ghost use Rattle.lst_rule.specs.Stores.{IsSeatOf};
 ghost use Rattle.lst_sights.specs.Laws.{KeptBy};
 ghost use Rattle.lst_sights.specs.Watching.{Watched};
 ghost use Rattle.lst_write.specs.Holding.{HasLatch};
@@ -11,7 +11,7 @@ ghost use Rattle.lst_write.specs.Judgements.{HasChain, HasJudged, FaultIs, IsLin
 use crate::standing::{Standing, standing_of};
 use lst_layout::Layout;
 use lst_model::Time;
-use lst_seat::{RecordId, Seat, Store, load_cell};
+use lst_rule::{RecordId, Seat, Store, load_cell};
 
 /// Why a transaction may not write on a record.
 #[derive(Clone, Copy, PartialEq, Eq, Debug)]

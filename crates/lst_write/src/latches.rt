@@ -5,11 +5,11 @@ ghost use Rattle.lst_core_state.specs.declared.events.Event.TheVariants.{Latch, 
 ghost use Rattle.lst_core_state.specs.State.{no_hold};
 ghost use Rattle.lst_rule.specs.Rule.{knows, hosts};
 ghost use Rattle.lst_rule.specs.Learned.{Learns, Kept, Made};
-ghost use Rattle.lst_seat.specs.Stores.{IsSeatOf};
+ghost use Rattle.lst_rule.specs.Stores.{IsSeatOf};
 ghost use Rattle.lst_write.specs.Holding.{MayLatch, IsPlaced, HasLatch, Latches, FindsLatched};
 
 use lst_bits::unpack_head;
-use lst_seat::{RecordId, Seat, Store, step_latch, step_release};
+use lst_rule::{RecordId, Seat, Store, step_latch, step_release};
 
 /// Another session has the record's latch.
 #[derive(Clone, Copy, PartialEq, Eq, Debug)]

@@ -4,13 +4,13 @@ ghost use Rattle.lst_layout.specs.Addresses as layout;
 ghost use Rattle.lst_layout.specs.declared.place.Place.TheVariants.{StateWord};
 ghost use Rattle.lst_core_state.specs.State.{name_of};
 ghost use Rattle.lst_rule.specs.Rule.{knows, hosts};
-ghost use Rattle.lst_seat.specs.Stores.{IsSeatOf};
+ghost use Rattle.lst_rule.specs.Stores.{IsSeatOf};
 ghost use Rattle.lst_sights.specs.Watching.{Watched};
 ghost use Rattle.lst_write.specs.Standings.{IsStamp, IsOther, IsVersion, FoundCommitted, StandsAt, StandsBy, Stands, standing_at};
 
 use lst_bits::{Start, State, unpack_start, unpack_state};
 use lst_model::Time;
-use lst_seat::{Seat, Store, load_cell, load_clock, load_state};
+use lst_rule::{Seat, Store, load_cell, load_clock, load_state};
 
 /// How a version stands to a transaction.
 #[derive(Clone, Copy, PartialEq, Eq, Debug)]

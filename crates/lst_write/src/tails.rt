@@ -7,7 +7,7 @@ ghost use Rattle.lst_rule.specs.Rule.{knows, hosts};
 ghost use Rattle.lst_rule.specs.Learned.{Learns, Kept, Made};
 ghost use Rattle.lst_layout.specs.declared.place.Place.TheVariants.{HeadWord};
 ghost use Rattle.lst_core_state.specs.declared.events.Event.TheVariants.{Install};
-ghost use Rattle.lst_seat.specs.Stores.{IsSeatOf};
+ghost use Rattle.lst_rule.specs.Stores.{IsSeatOf};
 ghost use Rattle.lst_write.specs.Holding.{MayLatch, HasLatch};
 ghost use Rattle.lst_write.specs.Judgements.{HasJudged};
 ghost use Rattle.lst_write.specs.Cells as cells;
@@ -16,7 +16,7 @@ ghost use Rattle.lst_write.specs.Appending.{FitsSight, ChangesTail, known_words,
 use crate::cells::{cell_word, encoding};
 use lst_bits::{Start, pack_start};
 use lst_model::Act;
-use lst_seat::{
+use lst_rule::{
     RecordId, Seat, Store, load_tail_counter, step_draw_tail, step_install, step_store_cell,
 };
 

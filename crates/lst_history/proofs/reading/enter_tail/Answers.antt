@@ -2,7 +2,7 @@ use Rattle.std.proofs.Common.{ℕ, ◌≡◌, ◌+◌, ◌-◌, List, length, sy
 use Rattle.lst_layout.specs.declared.limits.Limits.{Limits}
 use Rattle.lst_layout.specs.Words.{Words}
 use Rattle.lst_model.specs.declared.commits.Commit.{Commit}
-use Rattle.lst_versions.specs.Writes.{Rising}
+use Rattle.lst_core_state.specs.Writes.{Rising}
 use Rattle.lst_history.specs.Peeks.{words_in}
 use Rattle.lst_history.specs.Commits.{write_at, entered}
 use Rattle.lst_history.proofs.Looks.{reads_on, same_words}

@@ -1,7 +1,7 @@
 use Rattle.std.proofs.Common.{IfSome, ◌<◌, subst, sym}
 use Rattle.std.proofs.lemmas.List.Elements.{All-more, All-get_or}
 use Rattle.lst_model.specs.declared.lines.Line.{Line}
-use Rattle.lst_report.specs.Runs.{speaker_of}
+use Rattle.lst_replies.specs.Runs.{speaker_of}
 use Rattle.lst_legal_runs.proofs.Deciding.{is_false, passes, refuses}
 use Rattle.lst_legal.proofs.judging.are_sessions_below.Goals as goal
 

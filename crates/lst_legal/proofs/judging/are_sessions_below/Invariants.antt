@@ -1,6 +1,6 @@
 use Rattle.std.proofs.Common.{take, ◌<◌, IfSome}
 use Rattle.std.specs.List.{All}
-use Rattle.lst_report.specs.Runs.{speaker_of}
+use Rattle.lst_replies.specs.Runs.{speaker_of}
 use Rattle.lst_legal.proofs.judging.are_sessions_below.Given as goal
 
 abbrev pub invariant-loop-line : goal.invariant-loop-line

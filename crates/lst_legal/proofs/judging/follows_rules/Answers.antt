@@ -1,9 +1,9 @@
 use Rattle.std.proofs.Common.{◌↔◌, IsTrue, List, subst}
 use Rattle.lst_model.specs.declared.commits.Commit.{Commit}
-use Rattle.lst_report.specs.Runs.{AtEachCall}
-use Rattle.lst_report.specs.States.{floor_of}
-use Rattle.lst_report.specs.Explained.{TimeIsBounded, ConflictIsExplained, FullnessIsExplained}
-use Rattle.lst_report.specs.Legal.{AtEachWrite}
+use Rattle.lst_replies.specs.Runs.{AtEachCall}
+use Rattle.lst_replies.specs.States.{floor_of}
+use Rattle.lst_replies.specs.Explained.{TimeIsBounded, ConflictIsExplained, FullnessIsExplained}
+use Rattle.lst_replies.specs.Legal.{AtEachWrite}
 use Rattle.lst_legal_runs.specs.Places.{run_at}
 use Rattle.lst_legal_runs.proofs.Deciding.{is_false, passes, refuses}
 use Rattle.lst_legal.proofs.judging.follows_rules.Goals as goal

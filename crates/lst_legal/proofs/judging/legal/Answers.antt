@@ -1,9 +1,9 @@
 use Rattle.std.proofs.Common.{◌≡◌, ◌↔◌, ◌∙◌, IsTrue, List, sym, ap, subst}
 use Rattle.std.specs.List.{All}
-use Rattle.lst_report.specs.Runs.{run_of}
-use Rattle.lst_report.specs.ReplyKinds.{HaveReplyShape}
-use Rattle.lst_report.specs.Seen.{seen_all}
-use Rattle.lst_report.specs.declared.reports.Stamp.{Stamp}
+use Rattle.lst_replies.specs.Runs.{run_of}
+use Rattle.lst_replies.specs.ReplyKinds.{HaveReplyShape}
+use Rattle.lst_replies.specs.Seen.{seen_all}
+use Rattle.lst_replies.specs.declared.reports.Stamp.{Stamp}
 use Rattle.lst_legal.specs.Judged.{IsJudged}
 use Rattle.lst_legal_runs.specs.Places.{AreWithin, run_at}
 use Rattle.lst_legal_runs.specs.Gathering.{CommitsNothing}

@@ -1,5 +1,5 @@
 use Rattle.std.proofs.Common.{IfSome, ℕ, ◌<◌, take, length, sym, ◌∙◌, subst}
-use Rattle.lst_report.specs.Runs.{speaker_of}
+use Rattle.lst_replies.specs.Runs.{speaker_of}
 use Rattle.lst_legal_runs.specs.Places.{seen_at, run_at}
 use Rattle.lst_legal_runs.proofs.Deciding.{is_false, passes, refuses}
 use Rattle.lst_legal_runs.proofs.Splits.{so_far_step, so_far_wrong}

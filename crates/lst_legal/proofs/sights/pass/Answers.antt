@@ -1,8 +1,8 @@
 use Rattle.std.proofs.Common.{◌≡◌, ◌<◌, [], ◌∷◌, ◌++◌, length, get_or, set, Option, None, IfSome, sym, ap, subst}
 use Rattle.std.proofs.lemmas.List.{get_or_default}
 use Rattle.lst_model.specs.declared.replies.Reply.TheVariants.{Silent}
-use Rattle.lst_report.specs.Seen.{seen}
-use Rattle.lst_report.specs.Runs.{Answered, speaker_of}
+use Rattle.lst_replies.specs.Seen.{seen}
+use Rattle.lst_replies.specs.Runs.{Answered, speaker_of}
 use Rattle.lst_snapshots.specs.declared.sight.Sight.{Sight}
 use Rattle.lst_legal.specs.Sights.{AreSights, IsSightOf}
 use Rattle.lst_legal.proofs.Sighting.{sights_phase, sights_merge, sights_call}

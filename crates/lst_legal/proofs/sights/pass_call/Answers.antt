@@ -1,7 +1,7 @@
 use Rattle.std.proofs.Common.{◌≡◌, sym, ap, ◌∙◌}
 use Rattle.lst_model.specs.declared.replies.Reply.{Reply}
-use Rattle.lst_report.specs.States.{after_call, with_write}
-use Rattle.lst_report.specs.Runs.{write_of}
+use Rattle.lst_replies.specs.States.{after_call, with_write}
+use Rattle.lst_replies.specs.Runs.{write_of}
 use Rattle.lst_legal.proofs.Sighting.{write_unseen, write_seen}
 use Rattle.lst_legal.proofs.sights.pass_call.Goals as goal
 

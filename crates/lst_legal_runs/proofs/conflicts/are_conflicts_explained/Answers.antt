@@ -1,7 +1,7 @@
 use Rattle.std.proofs.Common.{IfSome, take}
-use Rattle.lst_report.specs.Runs.{write_of}
-use Rattle.lst_report.specs.States.{state_of}
-use Rattle.lst_report.specs.Explained.{ConflictIsExplained}
+use Rattle.lst_replies.specs.Runs.{write_of}
+use Rattle.lst_replies.specs.States.{state_of}
+use Rattle.lst_replies.specs.Explained.{ConflictIsExplained}
 use Rattle.lst_legal_runs.specs.Places.{seen_at, run_at}
 use Rattle.lst_legal_runs.specs.Conflicts.{TellsConflict}
 use Rattle.lst_legal_runs.proofs.Deciding.{is_false, passes, refuses}

@@ -1,8 +1,8 @@
 use Rattle.std.proofs.Common.{◌≡◌, ◌↔◌, IsTrue, ap, sym, subst}
 use Rattle.lst_model.specs.declared.lines.Line.TheVariants.{Call}
-use Rattle.lst_report.specs.Seen.{seen}
-use Rattle.lst_report.specs.Runs.{Answered, answered, speaker_of, write_of}
-use Rattle.lst_report.specs.States.{state_of}
+use Rattle.lst_replies.specs.Seen.{seen}
+use Rattle.lst_replies.specs.Runs.{Answered, answered, speaker_of, write_of}
+use Rattle.lst_replies.specs.States.{state_of}
 use Rattle.lst_legal_runs.specs.declared.outlines.StateOutline.{StateOutline}
 use Rattle.lst_legal_runs.specs.Outlines.{outline_of}
 use Rattle.lst_legal_runs.specs.Places.{seen_at, outline_at}

@@ -1,5 +1,5 @@
 use Rattle.std.proofs.Common.{ℕ, ◌+◌, ◌∙◌, arith, ap}
-use Rattle.lst_report.specs.Explained.{is_numbered}
+use Rattle.lst_replies.specs.Explained.{is_numbered}
 use Rattle.lst_legal_runs.specs.Marks.{number_at}
 use Rattle.lst_legal_runs.specs.Firsts.{first_after}
 use Rattle.lst_legal_runs.proofs.Firsting.{first_more}

@@ -2,7 +2,7 @@ use Rattle.std.proofs.Common.{ℕ, ◌+◌, ◌∙◌, List, arith, ap}
 use Rattle.std.specs.Prelude.{◌==◌}
 use Rattle.std.specs.List.{list_any}
 use Rattle.lst_model.specs.declared.acts.Write.{Write}
-use Rattle.lst_report.specs.Explained.{has_write_on}
+use Rattle.lst_replies.specs.Explained.{has_write_on}
 use Rattle.lst_legal_runs.specs.Marks.{number_at}
 use Rattle.lst_legal_runs.specs.Firsts.{first_after}
 use Rattle.lst_legal_runs.proofs.Firsting.{first_more}

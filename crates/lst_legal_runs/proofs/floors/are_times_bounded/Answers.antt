@@ -1,6 +1,6 @@
 use Rattle.std.proofs.Common.{take, sym, subst}
-use Rattle.lst_report.specs.States.{floor_of}
-use Rattle.lst_report.specs.Explained.{TimeIsBounded}
+use Rattle.lst_replies.specs.States.{floor_of}
+use Rattle.lst_replies.specs.Explained.{TimeIsBounded}
 use Rattle.lst_legal_runs.specs.Places.{seen_at, run_at}
 use Rattle.lst_legal_runs.specs.Floors.{AreFloors, TellsTime}
 use Rattle.lst_legal_runs.proofs.Deciding.{is_false, passes, refuses}

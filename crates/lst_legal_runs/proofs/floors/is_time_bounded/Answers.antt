@@ -3,7 +3,7 @@ use Rattle.lst_model.specs.declared.commits.Commit.{Commit}
 use Rattle.lst_model.specs.declared.lines.Call.{Call}
 use Rattle.lst_model.specs.declared.lines.Call.TheVariants.{Begin, AsOf, Get, Insert, Update, Delete, Sum, Count, Scan, Find, Abort, Commit as CommitCall}
 use Rattle.lst_model.specs.declared.replies.Reply.{Reply}
-use Rattle.lst_report.specs.Explained.{TimeIsBounded}
+use Rattle.lst_replies.specs.Explained.{TimeIsBounded}
 use Rattle.lst_legal_runs.proofs.floors.is_time_bounded.Goals as goal
 
 module _ (history : List Commit) (floor : ℕ) (reply : Reply) where

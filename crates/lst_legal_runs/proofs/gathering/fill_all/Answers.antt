@@ -1,5 +1,5 @@
 use Rattle.std.proofs.Common.{◌∙◌, ℕ, ◌+◌, ◌<◌, ◌++◌, ◌∷◌, [], take, drop, length, List, IfSome, sym, subst}
-use Rattle.lst_report.specs.Runs.{Answered, speaker_of}
+use Rattle.lst_replies.specs.Runs.{Answered, speaker_of}
 use Rattle.lst_legal_runs.specs.Places.{seen_at, run_at}
 use Rattle.lst_legal_runs.proofs.Placing.{run_more}
 use Rattle.lst_legal_runs.proofs.Stepping.{Filling, next_place, speaker_within, step_on, step_off}

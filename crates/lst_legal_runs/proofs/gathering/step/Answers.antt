@@ -4,9 +4,9 @@ use Rattle.lst_model.specs.declared.replies.Reply.TheVariants.{Silent}
 use Rattle.lst_model.specs.declared.lines.Line.TheVariants.{Phase, Merge, Call}
 use Rattle.std.proofs.lemmas.List.{get_or_default}
 use Rattle.lst_model.specs.Histories.{StandByKey}
-use Rattle.lst_report.specs.Seen.{seen}
-use Rattle.lst_report.specs.Runs.{Answered, answered, speaker_of, commit_time}
-use Rattle.lst_report.specs.States.{state_of}
+use Rattle.lst_replies.specs.Seen.{seen}
+use Rattle.lst_replies.specs.Runs.{Answered, answered, speaker_of, commit_time}
+use Rattle.lst_replies.specs.States.{state_of}
 use Rattle.lst_legal_runs.specs.declared.outlines.StateOutline.{StateOutline}
 use Rattle.lst_legal_runs.specs.Outlines.{outline_of}
 use Rattle.lst_legal_runs.specs.Places.{seen_at, outline_at}

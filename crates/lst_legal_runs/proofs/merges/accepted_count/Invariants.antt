@@ -1,6 +1,6 @@
 use Rattle.std.proofs.Common.{◌≡◌, take}
 use Rattle.std.specs.List.{count_by}
-use Rattle.lst_report.specs.Runs.{is_accepted}
+use Rattle.lst_replies.specs.Runs.{is_accepted}
 use Rattle.lst_legal_runs.specs.Places.{run_at}
 use Rattle.lst_legal_runs.proofs.merges.accepted_count.Given as goal
 

@@ -1,5 +1,5 @@
 use Rattle.std.proofs.Common.{take, sym, subst}
-use Rattle.lst_report.specs.Explained.{MergeIsAnswered}
+use Rattle.lst_replies.specs.Explained.{MergeIsAnswered}
 use Rattle.lst_legal_runs.specs.Places.{seen_at, run_at}
 use Rattle.lst_legal_runs.specs.Merges.{AreMerges, TellsMerge}
 use Rattle.lst_legal_runs.proofs.Deciding.{is_false, passes, refuses}

@@ -1,6 +1,6 @@
 use Rattle.std.proofs.Common.{◌<◌, length, IfSome, [], ◌∷◌, ◌++◌, set, sym, ap, ◌∙◌, subst}
-use Rattle.lst_report.specs.Seen.{seen}
-use Rattle.lst_report.specs.Runs.{Answered, speaker_of}
+use Rattle.lst_replies.specs.Seen.{seen}
+use Rattle.lst_replies.specs.Runs.{Answered, speaker_of}
 use Rattle.lst_model.specs.declared.replies.Reply.TheVariants.{Silent}
 use Rattle.lst_legal_runs.specs.Outlines.{outline_after}
 use Rattle.lst_legal_runs.specs.Places.{AreOutlines}

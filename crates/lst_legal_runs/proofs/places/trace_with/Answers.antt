@@ -1,7 +1,7 @@
 use Rattle.std.proofs.Common.{◌≡◌, ℕ, ◌<◌, length, IfSome, take, sym, ◌∙◌, subst, arith}
 use Rattle.std.proofs.lemmas.List.{length-map, length-take-le}
-use Rattle.lst_report.specs.Seen.{seen, seen_all}
-use Rattle.lst_report.specs.Runs.{speaker_of}
+use Rattle.lst_replies.specs.Seen.{seen, seen_all}
+use Rattle.lst_replies.specs.Runs.{speaker_of}
 use Rattle.lst_legal_runs.proofs.Behind.{outlines_few}
 use Rattle.lst_legal_runs.proofs.Placing.{traced_step, within_read}
 use Rattle.lst_legal_runs.proofs.places.trace_with.Goals as goal

@@ -1,6 +1,6 @@
 use Rattle.std.proofs.Common.{take}
-use Rattle.lst_report.specs.States.{state_of}
-use Rattle.lst_report.specs.Explained.{StateIsTold}
+use Rattle.lst_replies.specs.States.{state_of}
+use Rattle.lst_replies.specs.Explained.{StateIsTold}
 use Rattle.lst_legal_runs.specs.Places.{seen_at, run_at}
 use Rattle.lst_legal_runs.specs.Rules.{TellsState}
 use Rattle.lst_legal_runs.proofs.Deciding.{is_false, passes, refuses}

@@ -1,6 +1,6 @@
 use Rattle.std.proofs.Common.{◌≡◌}
 use Rattle.lst_plain.specs.Plains.{limits_of}
-use Rattle.lst_crew.specs.Crews.{IsCrewOf}
+use Rattle.lst_session.specs.Crews.{IsCrewOf}
 use Rattle.lst_shell.proofs.drawn_tests.compare.Given as goal
 
 abbrev pub invariant-loop : goal.invariant-loop

@@ -1,7 +1,7 @@
 use Rattle.std.proofs.Common.{◌≡◌, drop}
 use Rattle.lst_machine.specs.State.{opening}
 use Rattle.lst_machine.specs.Machine.{state_after}
-use Rattle.lst_crew.specs.Crews.{IsCrewOf}
+use Rattle.lst_session.specs.Crews.{IsCrewOf}
 use Rattle.lst_shell.specs.Answers.{run_text, store_limits}
 use Rattle.lst_shell.specs.Runs.{HasRun}
 use Rattle.lst_shell.proofs.execution.execute.Given as goal

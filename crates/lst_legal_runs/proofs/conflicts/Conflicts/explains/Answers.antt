@@ -1,11 +1,11 @@
 use Rattle.std.proofs.Common.{◌≡◌, ◌↔◌, ◌∙◌, IsTrue, ℕ, not, ◌&&◌, sym, ap, subst}
 use Rattle.std.specs.List.{list_any}
-use Rattle.lst_report.specs.Runs.{is_by, may_take_latch}
+use Rattle.lst_replies.specs.Runs.{is_by, may_take_latch}
 use Rattle.lst_legal_runs.specs.declared.outlines.OpenOutline.{OpenOutline}
 use Rattle.lst_model.specs.declared.replies.Reply.{Reply}
 use Rattle.lst_model.specs.declared.replies.Reply.TheVariants.{Refused}
 use Rattle.lst_model.specs.declared.replies.Cause.TheVariants.{Latched, Unfinished}
-use Rattle.lst_report.specs.Explained.{ConflictIsExplained, IsInTheWay}
+use Rattle.lst_replies.specs.Explained.{ConflictIsExplained, IsInTheWay}
 use Rattle.lst_legal_runs.proofs.conflicts.Conflicts.explains.Goals as goal
 
 pub returns-in-Latched : goal.returns-in-Latched

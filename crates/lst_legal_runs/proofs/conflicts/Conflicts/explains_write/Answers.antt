@@ -1,4 +1,4 @@
-use Rattle.lst_report.specs.Explained.{ConflictIsExplained}
+use Rattle.lst_replies.specs.Explained.{ConflictIsExplained}
 use Rattle.lst_legal_runs.proofs.Writing.{at_write}
 use Rattle.lst_legal_runs.proofs.conflicts.Conflicts.explains_write.Goals as goal
 

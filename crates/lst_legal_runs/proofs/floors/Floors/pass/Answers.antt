@@ -1,6 +1,6 @@
 use Rattle.std.proofs.Common.{refl, sym, ap, ◌∙◌, subst}
-use Rattle.lst_report.specs.Runs.{Answered}
-use Rattle.lst_report.specs.Seen.{seen}
+use Rattle.lst_replies.specs.Runs.{Answered}
+use Rattle.lst_replies.specs.Seen.{seen}
 use Rattle.lst_legal_runs.proofs.Flooring.{Passes, floors_pass}
 use Rattle.lst_legal_runs.proofs.floors.Floors.pass.Goals as goal
 

@@ -1,4 +1,4 @@
-use Rattle.lst_report.specs.Explained.{FullnessIsExplained}
+use Rattle.lst_replies.specs.Explained.{FullnessIsExplained}
 use Rattle.lst_legal_runs.proofs.Writing.{at_write}
 use Rattle.lst_legal_runs.proofs.fullness.Fullness.explains_write.Goals as goal
 

@@ -1,5 +1,5 @@
 use Rattle.std.proofs.Common.{ap}
-use Rattle.lst_seat.specs.Seats.{Sitting}
+use Rattle.lst_rule.specs.Seats.{Sitting}
 use Rattle.lst_session.proofs.Answering.{ready, opened, opened_idle}
 use Rattle.lst_session.proofs.Turning.{is_ahead}
 use Rattle.lst_session.proofs.session.Session.as_of.Goals as goal

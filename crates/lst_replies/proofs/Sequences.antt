@@ -1,0 +1,47 @@
+-- Words read one after another.
+use Rattle.std.proofs.Common.{◌≡◌, ℕ, suc, ◌+◌, ◌<◌, ◌≤◌, List, [], ◌∷◌, ◌++◌, length, drop, get_or, map, Option, Some, None, option_map, Bor, refl, sym, ap, ◌∙◌, append_assoc, add-one, drop-cons, arith}
+use Rattle.std.proofs.lemmas.List.{drop_all}
+use Rattle.lst_replies.specs.Reading.{texts, read_all, with_both}
+
+-- what was read of a list of words, and what stands behind it, are what the whole list is read as
+pub record ReadsOn {X : Type 0} (read : List ℕ → Option X) (words : List (Bor (List ℕ))) (front : List X) (i : ℕ) : Type 0 where
+  pub whole : read_all read (texts words) ≡ option_map (λ rest. front ++ rest) (read_all read (texts (drop i words)))
+
+module _ {X : Type 0} (read : List ℕ → Option X) (words : List (Bor (List ℕ))) where
+  same : (o : Option (List X)) → o ≡ option_map (λ rest. [] ++ rest) o
+  same None = refl
+  same (Some xs) = refl
+
+  pub reads_first : ReadsOn read words [] 0
+  reads_first = record { whole = same (read_all read (texts words)) }
+
+  opened : (i : ℕ) (d : Bor (List ℕ)) → i < length words → texts (drop i words) ≡ (get_or words i d).now ∷ texts (drop (i + 1) words)
+  opened i d below = ap (λ ws. texts ws) (drop-cons words i d below) ∙ ap (λ n. (get_or words i d).now ∷ texts (drop n words)) (sym (add-one i))
+
+  put_in : (front : List X) (x : X) (o : Option (List X)) → option_map (λ rest. front ++ rest) (with_both (λ y ys. y ∷ ys) (Some x) o) ≡ option_map (λ rest. (front ++ x ∷ []) ++ rest) o
+  put_in front x None = refl
+  put_in front x (Some xs) = ap (λ ys. Some ys) (sym (append_assoc front (x ∷ []) xs))
+
+  pub reads_more : (front : List X) (i : ℕ) (d : Bor (List ℕ)) (x : X) → i < length words → read (get_or words i d).now ≡ Some x → ReadsOn read words front i → ReadsOn read words (front ++ x ∷ []) (i + 1)
+  reads_more front i d x below is reads = record {
+    whole = reads.whole ∙ ap (λ ws. option_map (λ rest. front ++ rest) (read_all read ws)) (opened i d below)
+        ∙ ap (λ o. option_map (λ rest. front ++ rest) (with_both (λ y ys. y ∷ ys) o (read_all read (texts (drop (i + 1) words))))) is
+        ∙ put_in front x (read_all read (texts (drop (i + 1) words)));
+  }
+
+  pub reads_none : (front : List X) (i : ℕ) (d : Bor (List ℕ)) → i < length words → read (get_or words i d).now ≡ None → ReadsOn read words front i → read_all read (texts words) ≡ None
+  reads_none front i d below is reads =
+      reads.whole ∙ ap (λ ws. option_map (λ rest. front ++ rest) (read_all read ws)) (opened i d below)
+      ∙ ap (λ o. option_map (λ rest. front ++ rest) (with_both (λ y ys. y ∷ ys) o (read_all read (texts (drop (i + 1) words))))) is
+
+  ends : (front : List X) → front ++ [] ≡ front
+  ends [] = refl
+  ends (x ∷ xs) = ap (λ rest. x ∷ rest) (ends xs)
+
+  pub reads_all : (front : List X) (i : ℕ) → length words ≤ i → ReadsOn read words front i → read_all read (texts words) ≡ Some front
+  reads_all front i past reads =
+      reads.whole ∙ ap (λ ws. option_map (λ rest. front ++ rest) (read_all read (texts ws))) (drop_all i words past)
+      ∙ ap (λ xs. Some xs) (ends front)
+
+pub both_read : {X Y Z : Type 0} (make : X → Y → Z) (first : Option X) (second : Option Y) (x : X) (y : Y) → first ≡ Some x → second ≡ Some y → with_both make first second ≡ Some (make x y)
+both_read make first second x y e f = ap (λ o. with_both make o second) e ∙ ap (λ o. with_both make (Some x) o) f

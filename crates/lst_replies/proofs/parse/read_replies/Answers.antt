@@ -1,0 +1,8 @@
+use Rattle.std.proofs.Common.{◌≡◌, ◌+◌, Some, refl, sym, ◌∙◌}
+use Rattle.lst_replies.specs.Reading.{reply_of}
+use Rattle.lst_replies.proofs.Fronts.{front_more}
+use Rattle.lst_replies.proofs.parse.read_replies.Goals as goal
+
+pub loop-line-preserved : goal.loop-line-preserved
+loop-line-preserved c =
+    rw c.in_ok-push.ensures.ok (front_more (λ place line. reply_of c.args.columns line) 0 c.args.lines.now c.loop-line.replies c.loop-line.line-index (0 + c.loop-line.line-index) _ (c.in-Some.session, c.in-Some.reply) c.loop-line-test.true refl (sym c.in_ok-session.ensures ∙ c.in-Some.is) c.loop-line.invariant)

@@ -1,0 +1,24 @@
+//! Replies and reports: their texts, and which reports are legal.
+#![tactic(auto)]
+
+mod answers;
+mod laws;
+mod lines;
+mod long;
+mod numbers;
+mod parse;
+mod print;
+mod reports;
+mod short;
+mod states;
+#[cfg(test)]
+mod tests;
+mod words;
+
+pub use answers::{Answer, has_reply_shape, paired};
+pub use laws::printed_report_is_read;
+pub use lines::{print_line, push_line};
+pub use parse::{ReportFault, parse_report};
+pub use print::print_report;
+pub use reports::{Replies, Report, Stamp, Stamps};
+pub use states::{SessionState, Transaction};

@@ -1,5 +1,0 @@
-use Rattle.lst_report.proofs.Printed.{printed}
-use Rattle.lst_report.proofs.laws.printed_report_is_read.Goals as goal
-
-pub returns : goal.returns
-returns c = printed

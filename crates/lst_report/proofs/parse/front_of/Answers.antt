@@ -1,7 +1,0 @@
-use Rattle.std.proofs.Common.{◌≡◌, ap, ◌∙◌}
-use Rattle.lst_report.specs.Reading.{texts}
-use Rattle.lst_report.proofs.Fronts.{take-texts}
-use Rattle.lst_report.proofs.parse.front_of.Goals as goal
-
-pub returns-else-lines-count : goal.returns-else-lines-count
-returns-else-lines-count c = take-texts c.args.count c.args.lines.now

@@ -1,6 +1,0 @@
-use Rattle.std.proofs.Common.{◌≡◌}
-use Rattle.lst_report.specs.Reading.{texts}
-use Rattle.lst_report.proofs.parse.split_lines.Given as goal
-
-abbrev pub invariant-loop-line : goal.invariant-loop-line
-invariant-loop-line l = texts l.lines.items ≡ texts l.yielded

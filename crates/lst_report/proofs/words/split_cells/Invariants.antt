@@ -1,6 +1,0 @@
-use Rattle.std.proofs.Common.{◌≡◌}
-use Rattle.lst_report.specs.Reading.{texts}
-use Rattle.lst_report.proofs.words.split_cells.Given as goal
-
-abbrev pub invariant-loop-part : goal.invariant-loop-part
-invariant-loop-part l = texts l.cells.items ≡ texts l.yielded

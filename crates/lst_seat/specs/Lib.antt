@@ -1,4 +1,0 @@
-pub mod Seats
-pub mod Stores
-pub mod Operations
-pub mod Statuses

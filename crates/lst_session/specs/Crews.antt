@@ -1,0 +1,55 @@
+-- A crew: its seat hosts every session and knows each word, and between two calls nobody has anything in hand. It tells the state of the
+-- machine of one thread.
+use Rattle.std.specs.Prelude.{◌≡◌, ℕ, ◌<◌, ◌≤◌, true}
+use Rattle.lst_layout.specs.Words.{Words, shown}
+use Rattle.lst_model.specs.declared.lines.Call.{Call}
+use Rattle.lst_model.specs.declared.lines.Line.{Line}
+use Rattle.lst_model.specs.declared.replies.Reply.{Reply}
+use Rattle.lst_machine.specs.State.{Store, State, opening_pages}
+use Rattle.lst_machine.specs.Calls.{call_reply, store_after}
+use Rattle.lst_machine.specs.Machine.{reply, next}
+use Rattle.lst_core_state.specs.Cells.{record_count}
+use Rattle.lst_core_state.specs.Index.{is_placed}
+use Rattle.lst_rule.specs.declared.view.View.{View}
+use Rattle.lst_rule.specs.Rule.{knows}
+use Rattle.lst_rule.specs.declared.store.Store.{Store as Table}
+use Rattle.lst_rule.specs.Seats.{Sitting}
+use Rattle.lst_rule.specs.Stores.{IsSeatOf}
+use Rattle.lst_crew_state.specs.Crews.{IsIdle}
+use Rattle.lst_crew_state.specs.Telling.{told_store}
+
+-- the words that the view knows
+abbrev pub words_of : View → Words
+words_of v = shown v.limits v.words
+
+-- the view knows each word, no session has anything in hand, each record that was drawn is in the index, and no counter passed its limit
+pub record IsCrewView (v : View) : Type 0 where
+  pub whole : v.whole ≡ true
+  pub idle : (s : ℕ) → s < v.limits.sessions → IsIdle (knows v s)
+  pub records : (words_of v).counter ≤ record_count v.limits
+  pub placed : (r : ℕ) → r < (words_of v).counter → is_placed v.limits (words_of v).index r ≡ true
+  pub tails : (range : ℕ) → range < v.limits.ranges → (words_of v).counts range ≤ v.limits.tails
+
+-- between two calls of the crew of a store
+pub record IsCrewOf (store : Table) (seat : Sitting) : Type 0 where
+  pub seat_of : IsSeatOf store seat
+  pub view : IsCrewView seat.view
+
+-- the state of the machine that the view tells: a function of the words that it knows, and of what it knows of each session's transactions
+abbrev pub store_told : View → Store
+store_told v = told_store v.limits (words_of v) (knows v)
+
+abbrev pub state_told : View → State
+state_told v = record { store = store_told v; pages = opening_pages }
+
+-- the answer to the session's call is the machine's, and the view then tells its next state
+pub record Answers (v w : View) (s : ℕ) (call : Call) (answer : Reply) : Type 0 where
+  pub reply : answer ≡ call_reply v.limits (store_told v) s call
+  pub next : store_told w ≡ store_after v.limits (store_told v) s call
+  pub limits : w.limits ≡ v.limits
+
+-- the same of a line of a script
+pub record AnswersLine (v w : View) (line : Line) (answer : Reply) : Type 0 where
+  pub is : answer ≡ reply v.limits (state_told v) line
+  pub then : state_told w ≡ next v.limits (state_told v) line
+  pub limits : w.limits ≡ v.limits

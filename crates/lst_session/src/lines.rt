@@ -1,0 +1,51 @@
+//! The lines of a script.
+use crate::crew::Crew;
+use crate::replies::{abort_reply, begin_reply, commit_reply, get_reply, write_reply};
+use lst_model::{Call, Line, OutOfMemory, Reply};
+use lst_rule::Store;
+
+impl Crew {
+    ghost use Rattle.std.specs.Prelude.{◌≡◌, ◌<◌, IfOk, OnErr};
+    ghost use Rattle.lst_model.specs.Lines.{LineFits, CallFits};
+    ghost use Rattle.lst_session.specs.Crews.{IsCrewOf, Answers, AnswersLine, state_told};
+    ghost use Rattle.lst_session.specs.Replies.{IsCrewLine, IsCrewCall};
+
+    /// The answer to a line, which is the machine's for the state that the crew tells; the crew then tells the next one. It takes no scans and no
+    /// merges.
+    pub fn line(&mut self, store: &Store, line: &Line) -> Result<Reply, OutOfMemory>
+        requires crew { IsCrewOf store.now self.old.seat }
+        requires fits { LineFits self.old.seat.view.limits.sessions self.old.seat.view.limits.ranges self.old.seat.view.limits.columns line.now }
+        requires taken { IsCrewLine line.now }
+        ensures crew { IsCrewOf store.now self.new.seat }
+        ensures machine { IfOk result (λ reply. AnswersLine self.old.seat.view self.new.seat.view line.now reply) }
+        ensures err { OnErr result (state_told self.new.seat.view ≡ state_told self.old.seat.view) }
+    {
+        match line {
+            Line::Phase => Ok(Reply::Silent),
+            Line::Call { session, call } => Ok(self.call(store, *session, call)),
+            Line::Merge { .. } => unreachable!(),
+        }
+    }
+
+    /// The answer to a session's call.
+    fn call(&mut self, store: &Store, s: u32, call: &Call) -> Reply
+        requires crew { IsCrewOf store.now self.old.seat }
+        requires session { s < self.old.seat.view.limits.sessions }
+        requires fits { CallFits self.old.seat.view.limits.columns call.now }
+        requires taken { IsCrewCall call.now }
+        ensures crew { IsCrewOf store.now self.new.seat }
+        ensures machine { Answers self.old.seat.view self.new.seat.view s call.now result }
+    {
+        match call {
+            Call::Begin => begin_reply(self.begin(store, s)),
+            Call::AsOf { time } => begin_reply(self.as_of(store, s, *time)),
+            Call::Get { key } => get_reply(self.get(store, s, *key)),
+            Call::Insert { key, row } => write_reply(self.insert(store, s, *key, row)),
+            Call::Update { key, patch } => write_reply(self.update(store, s, *key, patch)),
+            Call::Delete { key } => write_reply(self.delete(store, s, *key)),
+            Call::Commit => commit_reply(self.commit(store, s)),
+            Call::Abort => abort_reply(self.abort(store, s)),
+            _ => unreachable!(),
+        }
+    }
+}
