@@ -170,7 +170,7 @@ impl Drawer {
             };
         };
         let position = plain.run_end(key);
-        let word = at(plain.index.as_slice(), position);
+        let word = at(&plain.index, position);
         if word == 0 || (seat.index != word && self.draw(2) == 0) {
             return Event::Claim {
                 session,
@@ -297,7 +297,7 @@ fn run(alloc: Global, layout: &Layout, seed: u64, turns: u64) -> Result<Outcome,
     requires { layout.now.limits.indexed ≡ 0 }
 {
     let mut core = Core::new(alloc, layout)?;
-    let mut plain = Plain::new(alloc)?;
+    let mut plain = Plain::new();
     let mut drawer = Drawer { seed };
     let mut made = 0u64;
     let mut differs = None;

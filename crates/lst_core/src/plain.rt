@@ -2,9 +2,7 @@
 
 use crate::Event;
 use lst_layout::Place;
-use lst_model::OutOfMemory;
 use lst_probe::start;
-use std::alloc::Global;
 
 pub(crate) const SESSIONS: u64 = 2;
 
@@ -119,32 +117,32 @@ pub(crate) struct Plain {
     pub(crate) turn: u64,
     pub(crate) records: u64,
     pub(crate) tails: u64,
-    pub(crate) log: Vec<u64>,
-    pub(crate) begins: Vec<u64>,
-    pub(crate) states: Vec<u64>,
-    pub(crate) keys: Vec<u64>,
-    pub(crate) index: Vec<u64>,
-    pub(crate) heads: Vec<u64>,
-    pub(crate) cells: Vec<u64>,
-    pub(crate) seats: Vec<Seat>,
+    pub(crate) log: [u64; 64],
+    pub(crate) begins: [u64; 64],
+    pub(crate) states: [u64; 64],
+    pub(crate) keys: [u64; RECORDS as usize],
+    pub(crate) index: [u64; POSITIONS as usize],
+    pub(crate) heads: [u64; RECORDS as usize],
+    pub(crate) cells: [u64; 128],
+    pub(crate) seats: [Seat; 3],
 }
 
 impl Plain {
-    pub(crate) fn new(alloc: Global) -> Result<Plain, OutOfMemory> {
-        Ok(Plain {
+    pub(crate) fn new() -> Plain {
+        Plain {
             clock: 0,
             turn: 0,
             records: 0,
             tails: 0,
-            log: vec![in alloc; 0; 64]?,
-            begins: vec![in alloc; 0; 64]?,
-            states: vec![in alloc; 0; 64]?,
-            keys: vec![in alloc; 0; RECORDS as usize]?,
-            index: vec![in alloc; 0; POSITIONS as usize]?,
-            heads: vec![in alloc; 0; RECORDS as usize]?,
-            cells: vec![in alloc; 0; 128]?,
-            seats: vec![in alloc; NOBODY; 3]?,
-        })
+            log: [0; 64],
+            begins: [0; 64],
+            states: [0; 64],
+            keys: [0; RECORDS as usize],
+            index: [0; POSITIONS as usize],
+            heads: [0; RECORDS as usize],
+            cells: [0; 128],
+            seats: [NOBODY; 3],
+        }
     }
 
     pub(crate) fn seat(&self, session: u32) -> Seat {
@@ -158,7 +156,7 @@ impl Plain {
     }
 
     pub(crate) fn cell(&self, tail: u64, place: u32) -> u64 {
-        at(self.cells.as_slice(), (tail % 16) * 8 + place as u64)
+        at(&self.cells, (tail % 16) * 8 + place as u64)
     }
 
     /// The transaction that a start word names.
@@ -166,12 +164,12 @@ impl Plain {
         if start % 2 == 1 {
             start / 2
         } else {
-            at(self.log.as_slice(), start / 2)
+            at(&self.log, start / 2)
         }
     }
 
     fn state_of(&self, name: u64) -> u64 {
-        at(self.states.as_slice(), (name % 16) * 16 + name / 16 % 16)
+        at(&self.states, (name % 16) * 16 + name / 16 % 16)
     }
 
     pub(crate) fn name(session: u32, seat: &Seat) -> u64 {
@@ -188,18 +186,18 @@ impl Plain {
             Place::CommitWord => self.turn,
             Place::RecordCounter => self.records,
             Place::TailCounter { range: _ } => self.tails,
-            Place::LogWord { time } => at(self.log.as_slice(), time),
+            Place::LogWord { time } => at(&self.log, time),
             Place::BeginWord { session, number } => at(
-                self.begins.as_slice(),
+                &self.begins,
                 Plain::transaction(session, number as u64),
             ),
             Place::StateWord { session, number } => at(
-                self.states.as_slice(),
+                &self.states,
                 Plain::transaction(session, number as u64),
             ),
-            Place::KeyWord { rec } => at(self.keys.as_slice(), rec as u64),
-            Place::IndexWord { position } => at(self.index.as_slice(), position as u64),
-            Place::HeadWord { rec } => at(self.heads.as_slice(), rec as u64),
+            Place::KeyWord { rec } => at(&self.keys, rec as u64),
+            Place::IndexWord { position } => at(&self.index, position as u64),
+            Place::HeadWord { rec } => at(&self.heads, rec as u64),
             Place::CellWord { tail, place } => self.cell(tail as u64, place),
             Place::DirectoryWord { range, column } => range as u64 * 2 + column as u64,
             Place::EpochWord
@@ -226,8 +224,8 @@ impl Plain {
             if position == goal {
                 return true;
             }
-            let word = at(self.index.as_slice(), position);
-            if word == 0 || at(self.keys.as_slice(), word - 1) == key {
+            let word = at(&self.index, position);
+            if word == 0 || at(&self.keys, word - 1) == key {
                 return false;
             }
         }
@@ -239,8 +237,8 @@ impl Plain {
         let first = start(key, 9) as u64;
         for turn in 0..POSITIONS {
             let position = (first + turn) % POSITIONS;
-            let word = at(self.index.as_slice(), position);
-            if word == 0 || at(self.keys.as_slice(), word - 1) == key {
+            let word = at(&self.index, position);
+            if word == 0 || at(&self.keys, word - 1) == key {
                 return position;
             }
         }
@@ -253,7 +251,7 @@ impl Plain {
 
     /// Whether the newest version that isn't closed is one that the transaction may write on.
     fn is_judged(&self, rec: u64, own: u64, begin: u64) -> bool {
-        let mut tail = at(self.heads.as_slice(), rec) / 2;
+        let mut tail = at(&self.heads, rec) / 2;
         for _ in 0..TAILS {
             if tail == 0 {
                 return true;
@@ -270,7 +268,7 @@ impl Plain {
 
     /// Whether the transaction sees a row of the record: by the newest version that is its own or was committed by its begin.
     pub(crate) fn has_row(&self, rec: u64, own: u64, begin: u64) -> bool {
-        let mut tail = at(self.heads.as_slice(), rec) / 2;
+        let mut tail = at(&self.heads, rec) / 2;
         for _ in 0..TAILS {
             if tail == 0 {
                 return false;
@@ -413,7 +411,7 @@ impl Plain {
         seat.has_writes = false;
         self.sit(session, seat);
         let place = Plain::transaction(session, seat.number);
-        Some(put(self.begins.as_mut_slice(), place, begin.wrapping_add(1)))
+        Some(put(&mut self.begins, place, begin.wrapping_add(1)))
     }
 
     fn take(&mut self, session: u32) -> Option<u64> {
@@ -438,7 +436,7 @@ impl Plain {
         seat.turn = 3;
         self.sit(session, seat);
         let time = self.clock.wrapping_add(1);
-        Some(put(self.log.as_mut_slice(), time, Plain::name(session, &seat)))
+        Some(put(&mut self.log, time, Plain::name(session, &seat)))
     }
 
     fn store_state(&mut self, session: u32) -> Option<u64> {
@@ -449,11 +447,7 @@ impl Plain {
         seat.turn = 4;
         self.sit(session, seat);
         let place = Plain::transaction(session, seat.number);
-        Some(put(
-            self.states.as_mut_slice(),
-            place,
-            self.clock.wrapping_add(2),
-        ))
+        Some(put(&mut self.states, place, self.clock.wrapping_add(2)))
     }
 
     fn publish(&mut self, session: u32) -> Option<u64> {
@@ -492,7 +486,7 @@ impl Plain {
         seat.has_writes = false;
         self.sit(session, seat);
         let place = Plain::transaction(session, seat.number);
-        Some(put(self.states.as_mut_slice(), place, 1))
+        Some(put(&mut self.states, place, 1))
     }
 
     fn draw_record(&mut self, session: u32) -> Option<u64> {
@@ -516,7 +510,7 @@ impl Plain {
         let rec = seat.hand?;
         seat.key = Some(key);
         self.sit(session, seat);
-        Some(put(self.keys.as_mut_slice(), rec, key))
+        Some(put(&mut self.keys, rec, key))
     }
 
     fn claim(&mut self, session: u32, position: u64) -> Option<u64> {
@@ -526,9 +520,9 @@ impl Plain {
         if !self.reaches(key, position) {
             return None;
         }
-        let found = at(self.index.as_slice(), position);
+        let found = at(&self.index, position);
         if found == 0 {
-            put(self.index.as_mut_slice(), position, rec.wrapping_add(1));
+            put(&mut self.index, position, rec.wrapping_add(1));
             seat.put_away();
         } else {
             seat.index = found;
@@ -542,9 +536,9 @@ impl Plain {
         if !seat.is_free() || seat.is_read_only || !self.is_placed(rec) {
             return None;
         }
-        let found = at(self.heads.as_slice(), rec);
+        let found = at(&self.heads, rec);
         if found % 2 == 0 {
-            put(self.heads.as_mut_slice(), rec, found.wrapping_add(1));
+            put(&mut self.heads, rec, found.wrapping_add(1));
             seat.let_go();
             seat.latch = Some(rec);
             seat.head = found / 2;
@@ -594,7 +588,7 @@ impl Plain {
         seat.store(place);
         self.sit(session, seat);
         let cell = (tail % 16) * 8 + place as u64;
-        Some(put(self.cells.as_mut_slice(), cell, value))
+        Some(put(&mut self.cells, cell, value))
     }
 
     fn install(&mut self, session: u32) -> Option<u64> {
@@ -607,7 +601,7 @@ impl Plain {
         seat.let_go();
         seat.has_writes = true;
         self.sit(session, seat);
-        Some(put(self.heads.as_mut_slice(), rec, (tail % 16) * 2))
+        Some(put(&mut self.heads, rec, (tail % 16) * 2))
     }
 
     fn release(&mut self, session: u32) -> Option<u64> {
@@ -619,7 +613,7 @@ impl Plain {
         let head = seat.head.wrapping_mul(2);
         seat.let_go();
         self.sit(session, seat);
-        Some(put(self.heads.as_mut_slice(), rec, head))
+        Some(put(&mut self.heads, rec, head))
     }
 
     fn stamp(&mut self, tail: u64) -> Option<u64> {
@@ -629,10 +623,6 @@ impl Plain {
             return None;
         }
         let time = state.wrapping_sub(1);
-        Some(put(
-            self.cells.as_mut_slice(),
-            (tail % 16) * 8,
-            time.wrapping_mul(2),
-        ))
+        Some(put(&mut self.cells, (tail % 16) * 8, time.wrapping_mul(2)))
     }
 }

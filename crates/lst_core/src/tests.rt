@@ -1,7 +1,7 @@
 //! The core run on one worked transaction.
 
-use crate::{Core, Event, NotEnabled};
-use lst_layout::Limits;
+use crate::{Core, Event};
+use lst_layout::{Layout, Limits};
 use lst_probe::start;
 use std::test::Fail;
 
@@ -17,28 +17,42 @@ const SMALL: Limits = Limits {
 
 const KEY: u64 = 7;
 
-/// A step whose fields are within the limits.
-fn step(core: &mut Core, event: Event) -> Result<u64, NotEnabled> {
+/// A step whose fields are within the limits: the word found, or None where it may not be made.
+fn step(core: &mut Core, event: Event) -> Option<u64> {
     if core.is_within(event) {
-        core.step(event)
+        core.step(event).ok()
     } else {
-        Err(NotEnabled)
+        None
     }
 }
 
-fn look(core: &mut Core, session: u32, address: u64) -> Result<u64, NotEnabled> {
-    step(core, Event::Look { session, address })
+/// The first of these steps that answers otherwise than is said of it.
+fn first_wrong(core: &mut Core, steps: &[(Event, Option<u64>)]) -> Option<usize> {
+    for (i, (event, wanted)) in steps.iter().enumerate() {
+        if step(core, *event) != *wanted {
+            return Some(i);
+        }
+    }
+    None
 }
 
-fn store(core: &mut Core, place: u32, value: u64) -> Result<u64, NotEnabled> {
-    step(
-        core,
-        Event::StoreCell {
-            session: 0,
-            place,
-            value,
-        },
-    )
+fn look(session: u32, address: u64) -> Event {
+    Event::Look { session, address }
+}
+
+fn store(place: u32, value: u64) -> Event {
+    Event::StoreCell {
+        session: 0,
+        place,
+        value,
+    }
+}
+
+fn claim(position: u32) -> Event {
+    Event::Claim {
+        session: 0,
+        position,
+    }
 }
 
 const BEGIN: Event = Event::Begin {
@@ -47,14 +61,83 @@ const BEGIN: Event = Event::Begin {
     read_only: false,
 };
 
+const STORE_KEY: Event = Event::StoreKey {
+    session: 0,
+    key: KEY,
+};
+
+const LATCH: Event = Event::Latch { session: 0, rec: 0 };
+
+const DRAW_TAIL: Event = Event::DrawTail {
+    session: 0,
+    range: 0,
+};
+
+const STAMP: Event = Event::Stamp {
+    session: 1,
+    range: 0,
+    tail: 1,
+};
+
+/// The steps of a first insert: a record is drawn and placed, and latched once it is in the index.
+fn placing(layout: &Layout) -> [(Event, Option<u64>); 9] {
+    let position = start(KEY, 9);
+    [
+        // No load has served a draw yet.
+        (Event::DrawRecord { session: 0 }, None),
+        (look(0, layout.record_counter()), Some(0)),
+        (Event::DrawRecord { session: 0 }, Some(0)),
+        (STORE_KEY, Some(0)),
+        (BEGIN, Some(0)),
+        (LATCH, None),
+        (claim(position ^ 1), None),
+        (claim(position), Some(0)),
+        (LATCH, Some(0)),
+    ]
+}
+
+/// Its tail: a put of both columns at slot 0, whose start word comes last.
+fn writing(layout: &Layout) -> [(Event, Option<u64>); 10] {
+    [
+        (look(0, layout.tail_counters(0)), Some(0)),
+        (DRAW_TAIL, Some(0)),
+        (store(0, 33), None),
+        (store(1, 3 + 256), Some(0)),
+        (store(2, 0), Some(0)),
+        (store(3, 10), Some(0)),
+        (store(4, 20), Some(0)),
+        (Event::Install { session: 0 }, None),
+        (store(0, 33), Some(0)),
+        (Event::Install { session: 0 }, Some(1)),
+    ]
+}
+
+/// Its commit at time 1, after which another session stamps the tail.
+fn committing(layout: &Layout) -> [(Event, Option<u64>); 10] {
+    [
+        (Event::Take { session: 0 }, Some(0)),
+        (Event::Log { session: 0 }, None),
+        (look(0, layout.clock()), Some(0)),
+        (Event::Log { session: 0 }, Some(0)),
+        (Event::State { session: 0 }, Some(0)),
+        (STAMP, None),
+        (Event::Clock { session: 0 }, Some(0)),
+        (Event::Give { session: 0 }, Some(1)),
+        (STAMP, Some(33)),
+        (look(2, layout.clock()), Some(1)),
+    ]
+}
+
 #[test]
 fn a_session_begins_once(rt: HostRuntime) -> Result<(), Fail> {
     let Ok(layout) = SMALL.check() else {
         return Err(Fail::from("the small limits are in range"));
     };
     let mut core = Core::new(rt.alloc(), &layout)?;
-    assert_eq!(rt; step(&mut core, BEGIN), Ok(0));
-    assert_eq!(rt; step(&mut core, BEGIN), Err(NotEnabled));
+    assert_eq!(rt;
+        first_wrong(&mut core, &[(BEGIN, Some(0)), (BEGIN, None)]),
+        None
+    );
     Ok(())
 }
 
@@ -64,103 +147,8 @@ fn a_put_is_committed_in_single_steps(rt: HostRuntime) -> Result<(), Fail> {
         return Err(Fail::from("the small limits are in range"));
     };
     let mut core = Core::new(rt.alloc(), &layout)?;
-    let position = start(KEY, 9);
-    // No load has served a draw yet.
-    assert_eq!(rt;
-        step(&mut core, Event::DrawRecord { session: 0 }),
-        Err(NotEnabled)
-    );
-    assert_eq!(rt; look(&mut core, 0, layout.record_counter()), Ok(0));
-    assert_eq!(rt; step(&mut core, Event::DrawRecord { session: 0 }), Ok(0));
-    assert_eq!(rt;
-        step(
-            &mut core,
-            Event::StoreKey {
-                session: 0,
-                key: KEY
-            }
-        ),
-        Ok(0)
-    );
-    assert_eq!(rt; step(&mut core, BEGIN), Ok(0));
-    // The record isn't in the index yet.
-    assert_eq!(rt;
-        step(&mut core, Event::Latch { session: 0, rec: 0 }),
-        Err(NotEnabled)
-    );
-    assert_eq!(rt;
-        step(
-            &mut core,
-            Event::Claim {
-                session: 0,
-                position: position ^ 1
-            }
-        ),
-        Err(NotEnabled)
-    );
-    assert_eq!(rt;
-        step(
-            &mut core,
-            Event::Claim {
-                session: 0,
-                position
-            }
-        ),
-        Ok(0)
-    );
-    assert_eq!(rt; step(&mut core, Event::Latch { session: 0, rec: 0 }), Ok(0));
-    assert_eq!(rt; look(&mut core, 0, layout.tail_counters(0)), Ok(0));
-    assert_eq!(rt;
-        step(
-            &mut core,
-            Event::DrawTail {
-                session: 0,
-                range: 0
-            }
-        ),
-        Ok(0)
-    );
-    // A put of both columns at slot 0; the start word comes last.
-    assert_eq!(rt; store(&mut core, 0, 33), Err(NotEnabled));
-    assert_eq!(rt; store(&mut core, 1, 3 + 256), Ok(0));
-    assert_eq!(rt; store(&mut core, 2, 0), Ok(0));
-    assert_eq!(rt; store(&mut core, 3, 10), Ok(0));
-    assert_eq!(rt; store(&mut core, 4, 20), Ok(0));
-    assert_eq!(rt;
-        step(&mut core, Event::Install { session: 0 }),
-        Err(NotEnabled)
-    );
-    assert_eq!(rt; store(&mut core, 0, 33), Ok(0));
-    assert_eq!(rt; step(&mut core, Event::Install { session: 0 }), Ok(1));
-    assert_eq!(rt; step(&mut core, Event::Take { session: 0 }), Ok(0));
-    assert_eq!(rt; step(&mut core, Event::Log { session: 0 }), Err(NotEnabled));
-    assert_eq!(rt; look(&mut core, 0, layout.clock()), Ok(0));
-    assert_eq!(rt; step(&mut core, Event::Log { session: 0 }), Ok(0));
-    assert_eq!(rt; step(&mut core, Event::State { session: 0 }), Ok(0));
-    assert_eq!(rt;
-        step(
-            &mut core,
-            Event::Stamp {
-                session: 1,
-                range: 0,
-                tail: 1
-            }
-        ),
-        Err(NotEnabled)
-    );
-    assert_eq!(rt; step(&mut core, Event::Clock { session: 0 }), Ok(0));
-    assert_eq!(rt; step(&mut core, Event::Give { session: 0 }), Ok(1));
-    assert_eq!(rt;
-        step(
-            &mut core,
-            Event::Stamp {
-                session: 1,
-                range: 0,
-                tail: 1
-            }
-        ),
-        Ok(33)
-    );
-    assert_eq!(rt; look(&mut core, 2, layout.clock()), Ok(1));
+    assert_eq!(rt; first_wrong(&mut core, &placing(&layout)), None);
+    assert_eq!(rt; first_wrong(&mut core, &writing(&layout)), None);
+    assert_eq!(rt; first_wrong(&mut core, &committing(&layout)), None);
     Ok(())
 }
