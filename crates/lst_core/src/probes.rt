@@ -12,13 +12,13 @@ use lst_layout::Layout;
 use lst_probe::start;
 
 /// A position of a key's run.
-fn position(layout: &Layout, key: u64, turn: u64) -> u32
-    requires { turn < index_positions layout.now.limits }
-    ensures position { result ≡ position_of layout.now.limits key turn }
+fn position(layout: &Layout, key: u64, offset: u64) -> u32
+    requires { offset < index_positions layout.now.limits }
+    ensures position { result ≡ position_of layout.now.limits key offset }
     ensures below { result < index_positions layout.now.limits }
 {
     let first = start(key, layout.index_bits()) as u64;
-    ((first + turn) % layout.index_positions()) as u32
+    ((first + offset) % layout.index_positions()) as u32
 }
 
 /// Whether a record is in the index. The run of its key finds it.
@@ -29,16 +29,16 @@ pub(crate) fn is_placed(layout: &Layout, words: &[u64], rec: u32) -> bool
 {
     let key = key(layout, words, rec);
     let size = layout.index_positions();
-    let mut turn = 0;
-    while turn < size {
-        let word = index(layout, words, position(layout, key, turn));
+    let mut offset = 0;
+    while offset < size {
+        let word = index(layout, words, position(layout, key, offset));
         if word == rec as u64 + 1 {
             return true;
         }
         if word == 0 {
             return false;
         }
-        turn += 1;
+        offset += 1;
     }
     false
 }
@@ -49,9 +49,9 @@ pub(crate) fn reaches(layout: &Layout, words: &[u64], sought: u64, goal: u32) ->
     ensures { IsTrue result ↔ Reaches layout.now.limits (shown layout.now.limits words.now).keys (shown layout.now.limits words.now).index sought goal }
 {
     let size = layout.index_positions();
-    let mut turn = 0;
-    while turn < size {
-        let position = position(layout, sought, turn);
+    let mut offset = 0;
+    while offset < size {
+        let position = position(layout, sought, offset);
         if position == goal {
             return true;
         }
@@ -62,7 +62,7 @@ pub(crate) fn reaches(layout: &Layout, words: &[u64], sought: u64, goal: u32) ->
         if key(layout, words, (word - 1) as u32) == sought {
             return false;
         }
-        turn += 1;
+        offset += 1;
     }
     false
 }

@@ -18,13 +18,13 @@ module _ (word : ℕ → ℕ) (same : ℕ → Bool) (n from : ℕ) where
   Comes = Reaches word (λ w. same w ≡ false) n from
 
   -- not past a word at which the probe stops
-  not_past : (p q : ℕ) (a : Comes p) (b : Comes q) → Stops (word p) → b.turn ≤ a.turn
-  not_past p q a b stops = dite (dec_lt a.turn b.turn) (λ (before : a.turn < b.turn). let passed = b.passes a.turn before in
-      absurd (passes_none_that_stops (word (run_position n from a.turn)) (subst (λ (r : ℕ). Stops (word r)) a.is stops) passed.0 passed.1))
+  not_past : (p q : ℕ) (a : Comes p) (b : Comes q) → Stops (word p) → b.offset ≤ a.offset
+  not_past p q a b stops = dite (dec_lt a.offset b.offset) (λ (before : a.offset < b.offset). let passed = b.passes a.offset before in
+      absurd (passes_none_that_stops (word (run_position n from a.offset)) (subst (λ (r : ℕ). Stops (word r)) a.is stops) passed.0 passed.1))
       (λ after. omega (arith, after))
 
   same_position : (p q : ℕ) → Comes p → Comes q → Stops (word p) → Stops (word q) → p ≡ q
-  same_position p q a b stops stops' = let one : a.turn ≡ b.turn = (let h = not_past p q a b stops in let k = not_past q p b a stops' in omega arith) in a.is ∙ ap (run_position n from) one ∙ sym b.is
+  same_position p q a b stops stops' = let one : a.offset ≡ b.offset = (let h = not_past p q a b stops in let k = not_past q p b a stops' in omega arith) in a.is ∙ ap (run_position n from) one ∙ sym b.is
 
 pub one_answer : HasOneAnswer
 one_answer word same n from (At p) (At q) low a b = ap At (same_position word same n from p q a.0 b.0 (inr a.2) (inr b.2))

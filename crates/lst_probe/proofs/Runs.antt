@@ -66,11 +66,11 @@ module _ (word : ℕ → ℕ) (IsOther : ℕ → Type 0) (n from : ℕ) where
 
   -- what is reachable from the start of a run that comes to an empty position is one of the other words
   pub absent_from_run : from < n → (k : ℕ) → k < n → Passes word IsOther n from k → word (run_position n from k) ≡ 0 → (position : ℕ) → IsReachable word n from position → 0 < word position → IsOther (word position)
-  absent_from_run low k short passes empty position reach filled = dite (dec_lt reach.turn k)
-      (λ (before : reach.turn < k). subst (λ (q : ℕ). IsOther (word q)) (sym reach.is) (passes reach.turn before).1)
-      (λ past. dite (dec_lt k reach.turn)
-      (λ (before : k < reach.turn). let full = reach.filled k before in absurd (omega (arith, full, empty)))
-      (λ upto. let same : reach.turn ≡ k = omega (arith, past, upto) in let none : word position ≡ 0 = ap word (reach.is ∙ ap (run_position n from) same) ∙ empty in absurd (omega (arith, none, filled))))
+  absent_from_run low k short passes empty position reach filled = dite (dec_lt reach.offset k)
+      (λ (before : reach.offset < k). subst (λ (q : ℕ). IsOther (word q)) (sym reach.is) (passes reach.offset before).1)
+      (λ past. dite (dec_lt k reach.offset)
+      (λ (before : k < reach.offset). let full = reach.filled k before in absurd (omega (arith, full, empty)))
+      (λ upto. let same : reach.offset ≡ k = omega (arith, past, upto) in let none : word position ≡ 0 = ap word (reach.is ∙ ap (run_position n from) same) ∙ empty in absurd (omega (arith, none, filled))))
 
 pub reachable_stays : ReachableStays
-reachable_stays word later n start position stays reach = record { turn = reach.turn; short = reach.short; is = reach.is; filled = λ i h. stays (run_position n start i) (reach.filled i h) }
+reachable_stays word later n start position stays reach = record { offset = reach.offset; short = reach.short; is = reach.is; filled = λ i h. stays (run_position n start i) (reach.filled i h) }

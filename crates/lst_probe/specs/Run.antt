@@ -19,17 +19,17 @@ Passes word IsOther n from k = (i : ℕ) → i < k → (0 < word (run_position n
 
 -- the run comes to the position, with nothing before it but filled positions with other words
 pub record Reaches (word : ℕ → ℕ) (IsOther : ℕ → Type 0) (n from position : ℕ) : Type 0 where
-  pub turn : ℕ
-  pub short : turn < n
-  pub is : position ≡ run_position n from turn
-  pub passes : Passes word IsOther n from turn
+  pub offset : ℕ
+  pub short : offset < n
+  pub is : position ≡ run_position n from offset
+  pub passes : Passes word IsOther n from offset
 
 -- the position is in the run from `start` on, and nothing before it is empty
 pub record IsReachable (word : ℕ → ℕ) (n start position : ℕ) : Type 0 where
-  pub turn : ℕ
-  pub short : turn < n
-  pub is : position ≡ run_position n start turn
-  pub filled : (i : ℕ) → i < turn → 0 < word (run_position n start i)
+  pub offset : ℕ
+  pub short : offset < n
+  pub is : position ≡ run_position n start offset
+  pub filled : (i : ℕ) → i < offset → 0 < word (run_position n start i)
 
 -- ---- laws
 

@@ -53,8 +53,8 @@ pub fn find<T: Fn(u64) -> bool>(positions: &[u64], from: u32, same: T) -> Found
     ensures { Answers (slice_index positions.now) (λ word. T.post same word true) (λ word. T.post same word false) (length positions.now) from result }
 {
     let count = positions.len() as u32;
-    for turn in 0..count {
-        let position = (from + turn) & (count - 1);
+    for offset in 0..count {
+        let position = (from + offset) & (count - 1);
         let word = positions[position as usize];
         if word == 0 {
             return Found::Free { position };

@@ -3,8 +3,8 @@ use Rattle.lst_layout.specs.Words.{shown}
 use Rattle.lst_core.specs.Seeks.{Comes}
 use Rattle.lst_core.proofs.probes.reaches.Given as goal
 
-abbrev pub invariant-loop-turn : goal.invariant-loop-turn
-invariant-loop-turn l = Comes l.fn.layout.limits (shown l.fn.layout.limits l.words) l.sought l.goal l.turn
+abbrev pub invariant-loop-offset : goal.invariant-loop-offset
+invariant-loop-offset l = Comes l.fn.layout.limits (shown l.fn.layout.limits l.words) l.sought l.goal l.offset
 
-abbrev pub decreases-loop-turn : goal.decreases-loop-turn
-decreases-loop-turn l = l.size - l.turn
+abbrev pub decreases-loop-offset : goal.decreases-loop-offset
+decreases-loop-offset l = l.size - l.offset
