@@ -13,7 +13,7 @@ use Rattle.lst_core_state.specs.State.{entry, writer_at, name_of}
 use Rattle.lst_core_state.proofs.Decoded.{by_yes, by_blank}
 use Rattle.lst_core_state.proofs.Room.{clock_low}
 use Rattle.lst_core_state.proofs.Steps.{writer_odd, writer_even}
-use Rattle.lst_core.specs.Reading.{state_over}
+use Rattle.lst_core_state.specs.State.{state_over}
 use Rattle.lst_rule.specs.declared.view.View.{View}
 use Rattle.lst_rule.specs.Rule.{Allowed}
 use Rattle.lst_rule.specs.Learned.{Possible}

@@ -8,9 +8,9 @@ use Rattle.lst_layout.specs.Words.{shown}
 use Rattle.lst_core_state.specs.declared.known.Known.{Known}
 use Rattle.lst_core_state.specs.declared.events.Event.{Event}
 use Rattle.lst_core_state.specs.Step.{session_of, IsWithin, Enabled, known_after}
-use Rattle.lst_core.specs.declared.numbers.Numbers.{Numbers}
-use Rattle.lst_core.specs.Numbers.{place_for, written_of, numbers_after}
-use Rattle.lst_core.specs.Targets.{time_for}
+use Rattle.lst_core_state.specs.declared.numbers.Numbers.{Numbers}
+use Rattle.lst_core_state.specs.Numbers.{place_for, written_of, numbers_after}
+use Rattle.lst_core_state.specs.Targets.{time_for}
 use Rattle.lst_rule.specs.declared.view.View.{View}
 use Rattle.lst_rule.specs.Rule.{knows, hosts, Allowed, Ready, Told}
 use Rattle.lst_rule.specs.Learned.{CanStand, Made, Met}

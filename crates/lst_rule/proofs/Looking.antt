@@ -11,8 +11,8 @@ use Rattle.lst_layout.proofs.Apart.{below}
 use Rattle.lst_layout.proofs.Places.{addresses_are_read}
 use Rattle.lst_core_state.specs.declared.events.Event.TheVariants.{Look}
 use Rattle.lst_core_state.specs.Step.{known_after, look_at}
-use Rattle.lst_core.specs.declared.numbers.Numbers.{Numbers}
-use Rattle.lst_core.specs.Numbers.{numbers_of, numbers_look}
+use Rattle.lst_core_state.specs.declared.numbers.Numbers.{Numbers}
+use Rattle.lst_core_state.specs.Numbers.{numbers_of, numbers_look}
 use Rattle.lst_rule.specs.declared.view.View.{View}
 use Rattle.lst_rule.specs.Rule.{knows, hosts, Ready, Told}
 use Rattle.lst_rule.specs.Learned.{Learns}

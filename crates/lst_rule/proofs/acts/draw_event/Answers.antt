@@ -1,7 +1,7 @@
 use Rattle.std.proofs.Common.{ℕ, ◌+◌, ◌%◌, ◌^◌, ap, sym, subst, ◌∙◌}
 use Rattle.lst_layout.specs.Words.{shown}
-use Rattle.lst_core.specs.Numbers.{place_for, written_of, numbers_after}
-use Rattle.lst_core.specs.Targets.{time_for}
+use Rattle.lst_core_state.specs.Numbers.{place_for, written_of, numbers_after}
+use Rattle.lst_core_state.specs.Targets.{time_for}
 use Rattle.lst_rule.specs.declared.view.View.{View}
 use Rattle.lst_rule.specs.Learned.{Met}
 use Rattle.lst_rule.specs.Seats.{told}

@@ -1,5 +1,5 @@
 use Rattle.std.proofs.Common.{ℕ, refl, ap, sym, subst, ◌∙◌}
-use Rattle.lst_core.specs.Numbers.{place_for, written_of, numbers_after}
+use Rattle.lst_core_state.specs.Numbers.{place_for, written_of, numbers_after}
 use Rattle.lst_rule.specs.declared.view.View.{View}
 use Rattle.lst_rule.specs.Learned.{Made}
 use Rattle.lst_rule.specs.Seats.{told}

@@ -1,7 +1,7 @@
 use Rattle.std.proofs.Common.{ap, sym, ◌∙◌, arith}
 use Rattle.lst_layout.specs.declared.limits.Limits.{Limits}
 use Rattle.lst_layout.specs.Areas.{words_of}
-use Rattle.lst_core.specs.Numbers.{numbers_look}
+use Rattle.lst_core_state.specs.Numbers.{numbers_look}
 use Rattle.lst_rule.specs.declared.view.View.{View}
 use Rattle.lst_rule.proofs.Looking.{Loads, word_low, loads_ready, loads_found, loads_looked, loads_tell, loads_read, loads_low}
 use Rattle.lst_rule.proofs.Acting.{still_seat}
