@@ -114,5 +114,5 @@ exchanged e st m r n = (t : Told e st.word (either (r == st.first) st.second r) 
 abbrev pub added : Event → Step (Unit {0}) → Sat → ℕ → Sat → Type 0
 added e st m r n = (t : Told e st.word ((r + st.first) % 2 ^ 64) m.0 n.0) × (slice_index t.words st.word ≡ r) × (n.1 ≡ m.1)
 
-abbrev pub joined : Event → Step (Unit {0}) → Sat → ℕ → Sat → Type 0
-joined e st m r n = (t : Told e st.word (bit_or r st.first) m.0 n.0) × (slice_index t.words st.word ≡ r) × (n.1 ≡ m.1)
+abbrev pub bits_set : Event → Step (Unit {0}) → Sat → ℕ → Sat → Type 0
+bits_set e st m r n = (t : Told e st.word (bit_or r st.first) m.0 n.0) × (slice_index t.words st.word ≡ r) × (n.1 ≡ m.1)

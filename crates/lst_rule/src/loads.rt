@@ -156,7 +156,7 @@ pub fn load_head(store: &Store, seat: &mut Seat, s: u32, rec: u32) -> u64
     load_quietly(store, seat, s, Place::HeadWord { rec }, address)
 }
 
-/// Loads a word of a tail, which is named by its number among all tails. Place 0 is its start word, 1 its encoding word, 2
+/// Loads a word of a tail, which is named by its number through all ranges. Place 0 is its start word, 1 its encoding word, 2
 /// its back word, and 3 + c the value of column c.
 pub fn load_cell(store: &Store, seat: &mut Seat, s: u32, tail: u32, place: u32) -> u64
     requires seat { IsSeatOf store.now seat.old }

@@ -13,7 +13,7 @@ use std::marker::Brand;
 /// The table of the words, as threads share it.
 pub type SharedWords = Shared<(), View, Limits, StoreRule>;
 
-/// A place at the table, with a view.
+/// A seat at the table, with a view.
 pub type TableSeat = Seat<(), View>;
 
 fn load_word_as<E: Means>(

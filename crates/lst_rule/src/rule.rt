@@ -1,7 +1,7 @@
 //! The rule of the table, and what each operation on a word tells.
 ghost use Rattle.lst_core_state.specs.declared.events.Event.{Event};
 ghost use Rattle.lst_core_state.specs.declared.events.Event.TheVariants.{Look};
-ghost use Rattle.lst_rule.specs.Rule.{Ruled, crew, loaded, stored, exchanged, added, joined};
+ghost use Rattle.lst_rule.specs.Rule.{Ruled, crew, loaded, stored, exchanged, added, bits_set};
 
 use crate::view::View;
 use atomic_table::{Play, TableRule};
@@ -68,5 +68,5 @@ pub struct SetsBits<E> {
 }
 
 impl<E: Means> Play<(), View> for SetsBits<E> {
-    ghost then = { joined E.event };
+    ghost then = { bits_set E.event };
 }

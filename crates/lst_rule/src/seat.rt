@@ -134,7 +134,7 @@ impl Seat {
         one_less(self.numbers[s as usize].hold.latch)
     }
 
-    /// The tail in hand of a session, by its number among all tails: the number within its range, from 1 on, after the tails of all
+    /// The tail in hand of a session, by its number through all ranges: its number within the range, from 1 on, after the tails of all
     /// ranges before it.
     pub fn tail(&self, s: u32) -> Option<u32>
         requires { hosts self.now.view s ≡ true }
