@@ -7,3 +7,4 @@ pub mod Stamps
 pub mod Watching
 pub mod Writing
 pub mod Committed
+pub mod Keying
