@@ -8,3 +8,4 @@ pub mod Filling
 pub mod Walking
 pub mod Acting
 pub mod Pairing
+pub mod Resolving

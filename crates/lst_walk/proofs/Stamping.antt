@@ -33,7 +33,7 @@ use Rattle.lst_sights.proofs.Finding.{tails_are_found}
 use Rattle.lst_sights.proofs.Telling.{statuses_tell}
 use Rattle.lst_sights.proofs.Committed.{committed_may_be_stamped}
 use Rattle.lst_sights.proofs.Watching.{stamps_watch, watched_same}
-use Rattle.lst_walk.specs.Readers.{IsReader, IsAt, HasVersion, IsStatus, Timed, Untimed, Stamped}
+use Rattle.lst_walk.specs.Readers.{IsReader, IsAt, HasVersion, IsStatus, Timed, Untimed, Stamped, OwnFound, Resolves, Concludes}
 use Rattle.lst_walk.specs.declared.statuses.Status.TheVariants.{Unfinished, Closed, Committed}
 use Rattle.lst_walk.proofs.Reading.{watched_on, at_on, facts_on, sees_on, start_found, looked_possible}
 
@@ -140,6 +140,22 @@ module _ (l : Limits) (v b w : View) (s range n t x : ℕ) (is : v.limits ≡ l)
     told = inr (subst (λ (k : Limits). Made q.before w (Stamp s range n) (CellWord (range * k.tails + n) 0) (2 * time)) first.learns.limits q.made);
     last = watched_same w s;
   }
+
+  -- its start word names the session's own transaction
+  pub own_found : (session number : ℕ) → 1 + 2 * (16 * number + session) ≡ x → eqb (name_of session number) (name_of s (knows b s).number) ≡ true → Watched v b s → OwnFound v b s range n
+  own_found session number word own watched = record {
+    before = v;
+    after = b;
+    first = watched_same v s;
+    looked = subst (λ (y : ℕ). Looked v b s (CellWord (range * v.limits.tails + n) 0) y)
+        (sym word ∙ ap (λ (y : ℕ). 1 + 2 * y) (eqb-true (name_of session number) (name_of s (knows b s).number) own ∙ ap (λ (k : Known). name_of s k.number) watched.watches.is)) here;
+    last = watched_same b s;
+  }
+
+  -- or another one, of which it is then known how far it is
+  pub concluded : (session number : ℕ) → 1 + 2 * (16 * number + session) ≡ x → session < 16 → Watched v b s → Watched b w s → Concludes b w s range n session number → Resolves v w s range n
+  concluded session number word low first watched (inl q) = inl (timed_stored q.0 q.1 first q.2)
+  concluded session number word low first watched (inr why) = inr (inl (untimed_named session number word low watched why))
 
 -- ---- what is seen
 

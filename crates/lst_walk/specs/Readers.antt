@@ -7,6 +7,7 @@ use Rattle.lst_core_state.specs.declared.events.Event.TheVariants.{Stamp}
 use Rattle.lst_core_state.specs.declared.facts.Fact.TheVariants.{StateAt}
 use Rattle.lst_core_state.specs.declared.facts.Find.{Find}
 use Rattle.lst_core_state.specs.Facts.{unfinished}
+use Rattle.lst_core_state.specs.State.{name_of}
 use Rattle.lst_rule.specs.declared.view.View.{View}
 use Rattle.lst_rule.specs.Rule.{knows, hosts}
 use Rattle.lst_rule.specs.Learned.{Made}
@@ -62,6 +63,10 @@ pub record Stamped (v w : View) (s range n time : ℕ) : Type 0 where
   pub first : Watched v before s
   pub made : Made before w (Stamp s range n) (CellWord (range * v.limits.tails + n) 0) (2 * time)
 
+-- between v and w it stored the commit time of the transaction there, or found the transaction closed or unfinished
+abbrev pub Concludes : View → View → ℕ → ℕ → ℕ → ℕ → ℕ → Type 0
+Concludes v w s range n session number = ((time : ℕ) × (0 < time) × Stamped v w s range n time) ⊎ (IsStatus (knows v s) (knows w s) session number Closed ⊎ IsStatus (knows v s) (knows w s) session number Unfinished)
+
 -- between v and w it found the start word empty, or that of a transaction that it found closed or unfinished
 pub record Untimed (v w : View) (s range n : ℕ) : Type 0 where
   pub before : View
@@ -71,3 +76,19 @@ pub record Untimed (v w : View) (s range n : ℕ) : Type 0 where
   pub looked : Looked before after s (CellWord (range * v.limits.tails + n) 0) word
   pub last : Watched after w s
   pub why : (word ≡ 0) ⊎ ((word % 2 ≡ 1) × (IsStatus (knows after s) (knows w s) (word / 2 % 16) (word / 2 / 16) Closed ⊎ IsStatus (knows after s) (knows w s) (word / 2 % 16) (word / 2 / 16) Unfinished))
+
+-- between v and w it found the start word to name its own transaction, the last one that it began
+pub record OwnFound (v w : View) (s range n : ℕ) : Type 0 where
+  pub before : View
+  pub after : View
+  pub first : Watched v before s
+  pub looked : Looked before after s (CellWord (range * v.limits.tails + n) 0) (1 + 2 * name_of s (knows before s).number)
+  pub last : Watched after w s
+
+-- between v and w it resolved the version of the range's tail record n: its start word has the commit time, or nothing is to be stored there
+abbrev pub Resolves : View → View → ℕ → ℕ → ℕ → Type 0
+Resolves v w s range n = Timed v w s range n ⊎ (Untimed v w s range n ⊎ OwnFound v w s range n)
+
+-- the version c of the range
+abbrev pub IsResolved : View → View → ℕ → ℕ → Version → Type 0
+IsResolved v w s range c = (n : ℕ) × (c.tail ≡ range * v.limits.tails + n) × Resolves v w s range n

@@ -10,7 +10,7 @@ ghost use Rattle.lst_rule.specs.Stores.{IsSeatOf};
 ghost use Rattle.lst_sights.specs.Copies.{Version};
 ghost use Rattle.lst_sights.specs.Seen.{sees};
 ghost use Rattle.lst_sights.specs.Watching.{Watched};
-ghost use Rattle.lst_walk.specs.Readers.{IsReader, IsAt, HasVersion, IsStatus, Timed, Untimed, Stamped};
+ghost use Rattle.lst_walk.specs.Readers.{IsReader, IsAt, HasVersion, IsStatus, Timed, Untimed, Stamped, Resolves, Concludes};
 ghost use Rattle.lst_walk.specs.declared.statuses.Status.TheVariants.{Unfinished, Closed};
 
 use crate::statuses::{Status, status_of};
@@ -86,6 +86,7 @@ pub(crate) fn is_seen(store: &Store, seat: &mut Seat, s: u32, range: u32, tail: 
     ensures reader { IsReader store.now seat.new s }
     ensures watched { Watched seat.old.view seat.new.view s }
     ensures seen { (c : Version) → IsAt seat.old.view s (range * store.now.layout.limits.tails + tail) c → result ≡ sees (knows seat.old.view s) s c.writer }
+    ensures resolved { Resolves seat.old.view seat.new.view s range tail }
 {
     let start = load_cell(store, seat, s, tail_of(store, range, tail), 0);
     match unpack_start(start) {
@@ -130,6 +131,7 @@ fn is_committed(
     ensures reader { IsReader store.now seat.new s }
     ensures watched { Watched seat.old.view seat.new.view s }
     ensures seen { result ≡ sees (knows seat.old.view s) s (name_of session number) }
+    ensures told { Concludes seat.old.view seat.new.view s range tail session number }
 {
     seat.consider();
     match time_of(store, seat, s, range, tail, session, number) {
