@@ -8,3 +8,4 @@ pub mod Watching
 pub mod Writing
 pub mod Committed
 pub mod Keying
+pub mod Asking
