@@ -1,6 +1,5 @@
 pub mod Reading
 pub mod Meanings
-pub mod Settling
 pub mod Lists
 pub mod Chains
 pub mod Stamping

@@ -1,7 +1,7 @@
 -- Versions that a walk resolves, and what it has made of those that it passed.
-use Rattle.std.proofs.Common.{◌≡◌, ◌⊎◌, ℕ, ◌+◌, ◌*◌, ◌/◌, ◌%◌, List, [], ◌∷◌, ◌++◌, Bool, true, false, cond, Contains, refl, sym, subst, ap, ◌∙◌, inl, inr, append_assoc, append-nil, true≢false}
-use Rattle.std.proofs.lemmas.List.Elements.{All-push, All-weaker, Contains-append_left}
-use Rattle.std.specs.Prelude.{Option, None}
+use Rattle.std.proofs.Common.{◌≡◌, ◌⊎◌, ℕ, ◌+◌, ◌*◌, List, [], ◌∷◌, ◌++◌, Bool, true, false, cond, refl, sym, subst, ap, ◌∙◌, inl, inr, append_assoc, append-nil, true≢false}
+use Rattle.std.proofs.lemmas.List.Elements.{All-push, All-weaker}
+use Rattle.std.specs.Prelude.{Option}
 use Rattle.std.specs.List.{All}
 use Rattle.lst_layout.specs.declared.limits.Limits.{Limits}
 use Rattle.lst_layout.specs.declared.place.Place.TheVariants.{CellWord}
@@ -12,9 +12,6 @@ use Rattle.lst_model.specs.Soundness.{Fits, FitInTurn}
 use Rattle.lst_model.proofs.Folds.{row_from-append}
 use Rattle.lst_core_state.specs.declared.known.Known.{Known}
 use Rattle.lst_core_state.specs.declared.events.Event.TheVariants.{Stamp}
-use Rattle.lst_core_state.specs.declared.facts.Fact.TheVariants.{StateAt}
-use Rattle.lst_core_state.specs.declared.facts.Find.{Find}
-use Rattle.lst_core_state.specs.Facts.{unfinished}
 use Rattle.lst_core_state.specs.Cells.{range_of}
 use Rattle.lst_core_state.specs.State.{name_of}
 use Rattle.lst_rule.specs.declared.view.View.{View}
@@ -23,34 +20,19 @@ use Rattle.lst_rule.specs.Learned.{Made}
 use Rattle.lst_rule.specs.Stores.{Looked}
 use Rattle.lst_sights.specs.Copies.{Version, IsCopy}
 use Rattle.lst_sights.specs.Seen.{sees, act_by, seen_acts}
-use Rattle.lst_sights.specs.Watching.{Watches, Watched}
+use Rattle.lst_sights.specs.Watching.{Watched}
 use Rattle.lst_sights.proofs.Copying.{copies_stay}
-use Rattle.lst_walk.specs.declared.statuses.Status.{Status}
-use Rattle.lst_walk.specs.declared.statuses.Status.TheVariants.{Unfinished, Closed, Committed}
-use Rattle.lst_walk.specs.Readers.{IsStatus, Timed, Untimed, OwnFound, Resolves, IsResolved}
+use Rattle.lst_walk.specs.Readers.{Resolves, IsResolved}
 use Rattle.lst_walk.specs.Patches.{seen_after}
 use Rattle.lst_walk.specs.Walks.{Passes}
 use Rattle.lst_walk.proofs.Reading.{watched_on, facts_on}
 
 -- ---- with further looks, it stays resolved
 
-status_later : (u v w : Known) (session number : ℕ) → Watches v w → IsStatus u v session number Closed ⊎ IsStatus u v session number Unfinished → IsStatus u w session number Closed ⊎ IsStatus u w session number Unfinished
-status_later u v w session number more (inl closed) = inl (subst (λ (k : Known). Contains k.facts (StateAt session number 1)) (sym more.is) (Contains-append_left v.facts more.facts (StateAt session number 1) closed))
-status_later u v w session number more (inr late) = inr (
-  late.0 ++ more.finds,
-  ap (λ (k : Known). k.finds) more.is ∙ (ap (λ (fs : List Find). fs ++ more.finds) late.1 ∙ append_assoc u.finds late.0 more.finds),
-  Contains-append_left late.0 more.finds (unfinished u session number) late.2,
-)
-
 module _ (v w x : View) (s range n : ℕ) (more : Watched w x s) where
-  why_later : (u : Known) (word : ℕ) → (word ≡ 0) ⊎ ((word % 2 ≡ 1) × (IsStatus u (knows w s) (word / 2 % 16) (word / 2 / 16) Closed ⊎ IsStatus u (knows w s) (word / 2 % 16) (word / 2 / 16) Unfinished))
-      → (word ≡ 0) ⊎ ((word % 2 ≡ 1) × (IsStatus u (knows x s) (word / 2 % 16) (word / 2 / 16) Closed ⊎ IsStatus u (knows x s) (word / 2 % 16) (word / 2 / 16) Unfinished))
-  why_later u word (inl none) = inl none
-  why_later u word (inr q) = inr (q.0, status_later u (knows w s) (knows x s) (word / 2 % 16) (word / 2 / 16) more.watches q.1)
-
   pub resolves_later : Resolves v w s range n → Resolves v x s range n
   resolves_later (inl t) = inl record { before = t.before; after = t.after; first = t.first; time = t.time; some = t.some; told = t.told; last = watched_on t.after w x s t.last more }
-  resolves_later (inr (inl t)) = inr (inl record { before = t.before; after = t.after; first = t.first; word = t.word; looked = t.looked; last = watched_on t.after w x s t.last more; why = why_later (knows t.after s) t.word t.why })
+  resolves_later (inr (inl t)) = inr (inl record { before = t.before; after = t.after; asked = t.asked; first = t.first; word = t.word; looked = t.looked; why = t.why; last = watched_on t.asked w x s t.last more })
   resolves_later (inr (inr t)) = inr (inr record { before = t.before; after = t.after; first = t.first; looked = t.looked; last = watched_on t.after w x s t.last more })
 
 module _ (u v w : View) (s range n : ℕ) (first : Watched u v s) where
@@ -67,11 +49,12 @@ module _ (u v w : View) (s range n : ℕ) (first : Watched u v s) where
   resolves_earlier (inr (inl t)) = inr (inl record {
     before = t.before;
     after = t.after;
+    asked = t.asked;
     first = watched_on u v t.before s first t.first;
     word = t.word;
     looked = subst (λ (l : Limits). Looked t.before t.after s (CellWord (range * l.tails + n) 0) t.word) first.learns.limits t.looked;
-    last = t.last;
     why = t.why;
+    last = t.last;
   })
   resolves_earlier (inr (inr t)) = inr (inr record {
     before = t.before;

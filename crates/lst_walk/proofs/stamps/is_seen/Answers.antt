@@ -72,4 +72,4 @@ pub returns-then-is_own-clause-resolved : goal.returns-then-is_own-clause-resolv
 returns-then-is_own-clause-resolved c = inr (inr (own_found c.args.store.now.layout.limits c.args.seat.now.view c.load_cell-start.new.seat.view c.load_cell-start.new.seat.view c.args.s c.args.range c.args.tail c.tail_of.result c.load_cell-start.result c.requires.reader.seat_of.limits c.tail_of.ensures c.load_cell-start.ensures.looked c.in-By.session c.in-By.number c.in-By.ensures.word (sym c.is_own.ensures ∙ c.if-is_own.true) (looked_watched c.args.seat.now.view c.load_cell-start.new.seat.view c.args.s c.load_cell-start.result (CellWord c.tail_of.result 0) c.requires.reader.host (tail_place c.args.store.now.layout.limits c.args.seat.now.view c.args.range c.args.tail c.tail_of.result 0 c.requires.reader.seat_of.limits c.tail_of.ensures c.requires.range c.requires.tail (omega arith)) tt c.load_cell-start.ensures.looked)))
 
 pub returns-else-is_own-clause-resolved : goal.returns-else-is_own-clause-resolved
-returns-else-is_own-clause-resolved c = concluded c.args.store.now.layout.limits c.args.seat.now.view c.load_cell-start.new.seat.view c.is_committed.new.seat.view c.args.s c.args.range c.args.tail c.tail_of.result c.load_cell-start.result c.requires.reader.seat_of.limits c.tail_of.ensures c.load_cell-start.ensures.looked c.in-By.session c.in-By.number c.in-By.ensures.word c.in-By.ensures.range.0 (looked_watched c.args.seat.now.view c.load_cell-start.new.seat.view c.args.s c.load_cell-start.result (CellWord c.tail_of.result 0) c.requires.reader.host (tail_place c.args.store.now.layout.limits c.args.seat.now.view c.args.range c.args.tail c.tail_of.result 0 c.requires.reader.seat_of.limits c.tail_of.ensures c.requires.range c.requires.tail (omega arith)) tt c.load_cell-start.ensures.looked) c.is_committed.ensures.watched c.is_committed.ensures.told
+returns-else-is_own-clause-resolved c = concluded c.args.store.now.layout.limits c.args.seat.now.view c.load_cell-start.new.seat.view c.is_committed.new.seat.view c.args.s c.args.range c.args.tail c.tail_of.result c.load_cell-start.result c.requires.reader.seat_of.limits c.tail_of.ensures c.load_cell-start.ensures.looked c.in-By.session c.in-By.number c.in-By.ensures.word c.in-By.ensures.range.0 (looked_watched c.args.seat.now.view c.load_cell-start.new.seat.view c.args.s c.load_cell-start.result (CellWord c.tail_of.result 0) c.requires.reader.host (tail_place c.args.store.now.layout.limits c.args.seat.now.view c.args.range c.args.tail c.tail_of.result 0 c.requires.reader.seat_of.limits c.tail_of.ensures c.requires.range c.requires.tail (omega arith)) tt c.load_cell-start.ensures.looked) c.is_committed.ensures.told
