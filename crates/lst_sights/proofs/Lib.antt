@@ -9,3 +9,4 @@ pub mod Writing
 pub mod Committed
 pub mod Keying
 pub mod Asking
+pub mod Backs

@@ -6,5 +6,4 @@ pub mod Stamping
 pub mod Filling
 pub mod Walking
 pub mod Acting
-pub mod Pairing
 pub mod Resolving

@@ -1,5 +1,5 @@
 -- Stamps, and what is seen of a version by its start word.
-use Rattle.std.proofs.Common.{◌≡◌, ◌≢◌, ℕ, ◌+◌, ◌*◌, ◌/◌, ◌%◌, ◌^◌, ◌<◌, ◌≤◌, List, Bool, true, false, eqb, nat_le, ◌||◌, Contains, refl, sym, subst, ap, ◌∙◌, arith, inl, inr, ne_eqb, eq-eqb, eqb-true, true≢false}
+use Rattle.std.proofs.Common.{◌≡◌, ◌≢◌, ℕ, ◌+◌, ◌*◌, ◌/◌, ◌%◌, ◌^◌, ◌<◌, ◌≤◌, List, Bool, true, false, eqb, nat_le, ◌||◌, Contains, refl, sym, subst, ap, ◌∙◌, arith, inl, inr, ne_eqb, eq-eqb, true≢false}
 use Rattle.std.proofs.lemmas.List.Elements.{Contains-append_right}
 use Rattle.std.specs.Prelude.{cond, Option, None, Some, is_some, IfSome, IfNone}
 use Rattle.lst_layout.specs.declared.limits.Limits.{Limits}
@@ -9,7 +9,7 @@ use Rattle.lst_layout.specs.Addresses.{address, IsTailWord}
 use Rattle.lst_layout.specs.Limits.{IsValid}
 use Rattle.lst_layout.proofs.Lows.{tail_within}
 use Rattle.lst_bits.specs.Starts.{IsStartWord}
-use Rattle.lst_core_state.proofs.Sights.{same_truth, or_right}
+use Rattle.lst_core_state.proofs.Sights.{or_right}
 use Rattle.lst_core_state.specs.declared.known.Known.{Known}
 use Rattle.lst_core_state.specs.declared.events.Event.TheVariants.{Stamp}
 use Rattle.lst_core_state.specs.declared.facts.Fact.TheVariants.{StateAt}
@@ -143,13 +143,13 @@ module _ (l : Limits) (v b w : View) (s range n t x : ℕ) (is : v.limits ≡ l)
   }
 
   -- its start word names the session's own transaction
-  pub own_found : (session number : ℕ) → 1 + 2 * (16 * number + session) ≡ x → eqb (name_of session number) (name_of s (knows b s).number) ≡ true → Watched v b s → OwnFound v b s range n
+  pub own_found : (session number : ℕ) → 1 + 2 * (16 * number + session) ≡ x → (session ≡ s) × (number ≡ (knows b s).number) → Watched v b s → OwnFound v b s range n
   own_found session number word own watched = record {
     before = v;
     after = b;
     first = watched_same v s;
     looked = subst (λ (y : ℕ). Looked v b s (CellWord (range * v.limits.tails + n) 0) y)
-        (sym word ∙ ap (λ (y : ℕ). 1 + 2 * y) (eqb-true (name_of session number) (name_of s (knows b s).number) own ∙ ap (λ (k : Known). name_of s k.number) watched.watches.is)) here;
+        (sym word ∙ ((λ i. 1 + 2 * name_of (own.0 i) (own.1 i)) ∙ ap (λ (k : Known). 1 + 2 * name_of s k.number) watched.watches.is)) here;
     last = watched_same b s;
   }
 
@@ -224,15 +224,6 @@ module _ (v w : View) (s session number : ℕ) (p : Possible v) (q : Possible w)
       find_is : unfinished_find (knows v s) session number ≡ UnfinishedVersion (about (knows v s) session number) (about_tail (knows v s) session number) (name_of session number % 16) (name_of session number / 16) ((knows w s).begin + 1)
       find_is = λ i. UnfinishedVersion (about (knows v s) session number) (about_tail (knows v s) session number) (sym session_is i) (sym number_is i) ((ap (λ (b : Bool). cond b ((knows v s).begin + 1) 0) opened ∙ ap (λ (n : ℕ). n + 1) (sym same_begin)) i)
 
--- the names of two transactions
-pub own_then : (s session number own : ℕ) → session ≡ s → eqb number own ≡ eqb (name_of session number) (name_of s own)
-own_then s session number own e = same_truth (eqb number own) (eqb (name_of session number) (name_of s own))
-    (λ f. let g = eqb-true number own f in eq-eqb (name_of session number) (name_of s own) (omega arith))
-    (λ f. let g = eqb-true (name_of session number) (name_of s own) f in eq-eqb number own (omega arith))
-
-pub own_else : (s session number own : ℕ) → s < 16 → session < 16 → session ≢ s → false ≡ eqb (name_of session number) (name_of s own)
-own_else s session number own low few other = sym (ne_eqb (name_of session number) (name_of s own) (λ e. other (omega arith)))
-
 pub few_sessions : (l : Limits) (session : ℕ) → IsValid l → session < l.sessions → session < 16
 few_sessions l session valid low = let few = valid.sessions.1 in omega arith
 
@@ -240,16 +231,16 @@ few_sessions l session valid low = let few = valid.sessions.1 in omega arith
 pub writer_named : (v w : View) (s t x session number : ℕ) → hosts v s ≡ true → Looked v w s (CellWord t 0) x → 1 + 2 * (16 * number + session) ≡ x → (c : Version) → IsAt v s t c → c.writer ≡ name_of session number
 writer_named v w s t x session number hosted looked word c at = let found = start_found v w s t x hosted looked c at in let odd : x % 2 ≡ 1 = omega arith in let named = found.named odd in omega arith
 
-pub named_own_seen : (v w : View) (s t x session number : ℕ) → hosts v s ≡ true → Watched v w s → Looked v w s (CellWord t 0) x → 1 + 2 * (16 * number + session) ≡ x → eqb (name_of session number) (name_of s (knows w s).number) ≡ true → (c : Version) → IsAt v s t c → true ≡ sees (knows v s) s c.writer
+pub named_own_seen : (v w : View) (s t x session number : ℕ) → hosts v s ≡ true → Watched v w s → Looked v w s (CellWord t 0) x → 1 + 2 * (16 * number + session) ≡ x → (session ≡ s) × (number ≡ (knows w s).number) → (c : Version) → IsAt v s t c → true ≡ sees (knows v s) s c.writer
 named_own_seen v w s t x session number hosted watched looked word own c at = own_seen (knows v s) s c.writer (name_of session number) (writer_named v w s t x session number hosted looked word c at)
-    (ap (λ (k : Known). eqb (name_of session number) (name_of s k.number)) (sym watched.watches.is) ∙ own)
+    (eq-eqb (name_of session number) (name_of s (knows v s).number) ((λ i. name_of (own.0 i) (own.1 i)) ∙ ap (λ (k : Known). name_of s k.number) watched.watches.is))
 
 pub named_other_seen : (v w : View) (s t x session number : ℕ) (r : Bool) → hosts v s ≡ true → (knows v s).is_open ≡ true → Watched v w s → Looked v w s (CellWord t 0) x → 1 + 2 * (16 * number + session) ≡ x → r ≡ sees (knows w s) s (name_of session number) → (c : Version) → IsAt v s t c → r ≡ sees (knows v s) s c.writer
 named_other_seen v w s t x session number r hosted opened watched looked word is c at = let p : Possible v = record { words = looked.met.made.told.words; known = looked.met.made.told.known; merger = looked.met.made.told.merger; allowed = looked.met.made.told.allowed } in
     is ∙ (sees_on v w s (name_of session number) p hosted opened watched ∙ ap (sees (knows v s) s) (sym (writer_named v w s t x session number hosted looked word c at)))
 
-pub other_name : (session number own : ℕ) → eqb (name_of session number) own ≡ false → name_of session number ≢ own
-other_name session number own e f = true≢false (sym (eq-eqb (name_of session number) own f) ∙ e)
+pub other_name : (s session number own : ℕ) → s < 16 → session < 16 → ¬ ((session ≡ s) × (number ≡ own)) → name_of session number ≢ name_of s own
+other_name s session number own low few other e = other (omega arith, omega arith)
 
 pub has_same : (v : View) (s t u : ℕ) → t ≡ u → HasVersion v s t → HasVersion v s u
 has_same v s t u e has = (has.0, at_same v s t u has.0 e has.1)

@@ -3,6 +3,7 @@ use Rattle.std.proofs.Common.{◌≡◌, ◌⊎◌, ℕ, ◌+◌, ◌*◌, ◌/�
 use Rattle.std.proofs.lemmas.List.Elements.{All-nil}
 use Rattle.std.specs.Prelude.{Option, None, Some, replicate}
 use Rattle.lst_layout.specs.declared.limits.Limits.{Limits}
+use Rattle.lst_layout.specs.Words.{shown}
 use Rattle.lst_model.specs.declared.acts.Act.{Act}
 use Rattle.lst_model.specs.declared.acts.Act.TheVariants.{Set}
 use Rattle.lst_model.specs.Cells.{Cell, overlaid}
@@ -11,16 +12,16 @@ use Rattle.lst_model.specs.Soundness.{Fits, FitInTurn}
 use Rattle.lst_core_state.specs.declared.known.Known.{Known}
 use Rattle.lst_core_state.specs.declared.facts.Fact.TheVariants.{IndexAt}
 use Rattle.lst_core_state.specs.Cells.{record_count, range_of}
-use Rattle.lst_core_state.specs.State.{sight}
+use Rattle.lst_core_state.specs.State.{name_of, sight}
 use Rattle.lst_core_state.specs.Sound.{IsRecorded}
 use Rattle.lst_rule.specs.declared.view.View.{View}
 use Rattle.lst_rule.specs.Rule.{knows, hosts}
 use Rattle.lst_rule.specs.Learned.{Possible}
 use Rattle.lst_rule.specs.declared.store.Store.{Store}
 use Rattle.lst_rule.specs.Seats.{Sitting}
-use Rattle.lst_sights.specs.Copies.{Version, IsVersionOf, IsChainFrom, IsCopy}
+use Rattle.lst_sights.specs.Copies.{Version, IsVersionOf, IsChainFrom, IsCopy, IsLinked}
 use Rattle.lst_sights.specs.Seen.{sees, act_by, seen_acts, HasKey}
-use Rattle.lst_sights.specs.Loads.{ChainFound}
+use Rattle.lst_sights.specs.Loads.{ChainFound, IsBack}
 use Rattle.lst_sights.specs.Watching.{Watched}
 use Rattle.lst_sights.specs.Laws.{FromNumber, KeptBy}
 use Rattle.lst_sights.proofs.Copying.{chains_are_walked, chain_stays}
@@ -30,11 +31,12 @@ use Rattle.lst_sights.proofs.Turns.{sights_fit}
 use Rattle.lst_sights.proofs.Watching.{watchers_keep}
 use Rattle.lst_walk.specs.Readers.{IsReader, IsAt, HasVersion, Resolves, IsResolved}
 use Rattle.lst_walk.specs.Patches.{seen_after, cell_in, IsWide}
-use Rattle.lst_walk.specs.Walks.{IsSightOf, IsRowOf, IsCellOf, Passes, WalksRow, WalksCell, Visited, Acted, Tells, Told, RowWalk, CellWalk}
+use Rattle.lst_walk.specs.Walks.{IsSightOf, IsRowOf, IsCellOf, IsStampedIn, Passes, WalksRow, WalksCell, Visited, Acted, Tells, Told, RowWalk, CellWalk}
 use Rattle.lst_walk.specs.declared.rows.Visit.{Visit}
 use Rattle.lst_walk.specs.declared.rows.Visit.TheVariants.{Row, NoRow, Older}
 use Rattle.lst_walk.proofs.Reading.{watched_on, facts_on, sees_on}
-use Rattle.lst_walk.proofs.Resolving.{resolves_later, resolves_earlier, passes_next, row_passed, fit_passed}
+use Rattle.lst_walk.proofs.Resolving.{resolves_later, resolves_earlier, stamped_later, resolved_stamped, passes_next, row_passed, fit_passed}
+use Rattle.lst_walk.proofs.Stamping.{at_same}
 use Rattle.lst_walk.proofs.Lists.{set_unset, length-unset}
 use Rattle.lst_walk.proofs.Chains.{row_step, fit_step, wide_row}
 
@@ -132,6 +134,7 @@ module _ (store : Store) (v : View) (seat : Sitting) (s rec head : ℕ) (p : Pos
     head = head;
     copy = subst (λ (l : Limits). IsCopy l (knows seat.view s).facts rec head found.copy) (sym reader.seat_of.limits) found.is;
     resolved = All-nil (IsResolved v seat.view s (range_of rec));
+    stamped = λ whole. All-nil (IsStampedIn (shown seat.view.limits seat.view.words) (name_of s (knows v s).number));
   }
 
   pub row_start : (patch : List (Option ℕ)) → patch ≡ replicate store.layout.limits.columns None → RowWalk store v seat s rec head patch
@@ -180,11 +183,16 @@ module _ (store : Store) (v : View) (a b d : Sitting) (s rec n range t m : ℕ) 
     subst (λ (r : ℕ). Resolves v d.view s r n) range_is (resolves_later v b.view d.view s range n bd (resolves_earlier v a.view b.view s range n watched resolves)),
   )
 
+  stamped_here : (c : Version) → IsReader store a s → Watched v a.view s → IsAt a.view s t c → Resolves a.view b.view s range n → Watched b.view d.view s → d.view.whole ≡ true → IsStampedIn (shown d.view.limits d.view.words) (name_of s (knows v s).number) c
+  stamped_here c reader watched at resolves bd whole = let known : b.view.whole ≡ true = sym bd.learns.whole ∙ whole in stamped_later b.view d.view s bd known (name_of s (knows v s).number) c
+      (subst (λ (k : ℕ). IsStampedIn (shown b.view.limits b.view.words) (name_of s k) c) (ap (λ (k : Known). k.number) watched.watches.is)
+      (resolved_stamped a.view b.view s range n reader.host known c (at_same a.view s t (range * a.view.limits.tails + n) c (tail_is ∙ ap (λ (l : Limits). range * l.tails + n) (sym reader.seat_of.limits)) at) resolves))
+
   -- and passed
   passed_here : (passed : List Version) (c : Version) (rest versions : List Version) → versions ≡ c ∷ rest → IsReader store a s → Watched v a.view s → Passes v a.view s rec passed versions → IsAt a.view s t c
       → Watched a.view b.view s → Resolves a.view b.view s range n → Watched b.view d.view s → Passes v d.view s rec (passed ++ c ∷ []) rest
   passed_here passed c rest versions is reader watched passes at ab resolves bd = passes_next v a.view d.view s rec passed (watched_on a.view b.view d.view s ab bd) c rest
-      (subst (λ (cs : List Version). Passes v a.view s rec passed cs) is passes) (resolved_here c reader watched at resolves bd)
+      (subst (λ (cs : List Version). Passes v a.view s rec passed cs) is passes) (resolved_here c reader watched at resolves bd) (stamped_here c reader watched at resolves bd)
 
   -- what is seen of it, and of those that were passed, makes this of a row of older ones
   made_here : (passed : List Version) (c : Version) (patch : List (Option ℕ)) → Possible v → Watched v a.view s → ((older : Option (List Cell)) → row_from older (seen_acts (knows v s) s passed) ≡ row_after older (Set patch)) → (older : Option (List Cell))
@@ -312,6 +320,14 @@ row_ended store v a s rec n patch none walk = (walk.passed, walk.versions, walk.
 
 pub cell_ended : (store : Store) (v : View) (a : Sitting) (s rec column n : ℕ) → n ≤ 0 → CellWalk store v a s rec column n → WalksCell v a.view s rec column None
 cell_ended store v a s rec column n none walk = (walk.passed, walk.versions, walk.passes, inl ((chains_are_walked store.layout.limits (knows a.view s).facts rec n walk.versions walk.chain).none (omega arith)))
+
+-- ---- the version below
+
+pub linked_at : (v : View) (s t : ℕ) (c : Version) → IsAt v s t c → c.back ≤ v.limits.tails → IsLinked v.limits (knows v s).facts t
+linked_at v s t c at few = (at.rec, c, at.is, at.known, at.at, few)
+
+pub back_at : (v : View) (s t m : ℕ) (c : Version) → IsBack v.limits (knows v s).facts t m → IsAt v s t c → m ≡ c.back
+back_at v s t m c back at = back at.rec c at.is at.known at.at
 
 -- ---- where the record's key is known
 

@@ -1,5 +1,5 @@
 -- Walks along a record's chain.
-use Rattle.std.specs.Prelude.{◌≡◌, ◌⊎◌, ℕ, ◌<◌, ◌≤◌, List, [], ◌++◌, Option, Some, None, length, take, true, slice_index_or}
+use Rattle.std.specs.Prelude.{◌≡◌, ◌≢◌, ◌⊎◌, ℕ, ◌+◌, ◌/◌, ◌%◌, ◌<◌, ◌≤◌, List, [], ◌++◌, Option, Some, None, length, take, true, slice_index_or}
 use Rattle.std.specs.List.{All}
 use Rattle.lst_model.specs.declared.acts.Act.{Act}
 use Rattle.lst_model.specs.declared.acts.Act.TheVariants.{Set}
@@ -7,7 +7,8 @@ use Rattle.lst_model.specs.Cells.{Cell, overlaid}
 use Rattle.lst_model.specs.Histories.{row_after, row_from}
 use Rattle.lst_model.specs.Soundness.{Fits, FitInTurn}
 use Rattle.lst_core_state.specs.Cells.{range_of}
-use Rattle.lst_core_state.specs.State.{sight}
+use Rattle.lst_layout.specs.Words.{Words, shown}
+use Rattle.lst_core_state.specs.State.{name_of, sight}
 use Rattle.lst_core_state.specs.declared.known.Known.{Known}
 use Rattle.lst_rule.specs.declared.view.View.{View}
 use Rattle.lst_rule.specs.Rule.{knows}
@@ -35,11 +36,17 @@ IsRowOf v s rec row = (acts : List Act) × IsSightOf (knows v s) rec acts × (ro
 abbrev pub IsCellOf : View → ℕ → ℕ → ℕ → Option Cell → Type 0
 IsCellOf v s rec column cell = (acts : List Act) × IsSightOf (knows v s) rec acts × (cell ≡ cell_in column (row_from None acts))
 
+-- in these words, the version is stamped where its transaction is committed, if that isn't the one of this name
+abbrev pub IsStampedIn : Words → ℕ → Version → Type 0
+IsStampedIn w own c = c.writer ≢ own → 1 < w.states (c.writer % 16) (c.writer / 16) → w.states (c.writer % 16) (c.writer / 16) ≤ w.clock + 1 → w.cells c.tail 0 % 2 ≡ 0
+
 -- a walk along the record's chain between v and w resolved the versions that it passed, newest first, and left the older ones
 pub record Passes (v w : View) (s rec : ℕ) (passed rest : List Version) : Type 0 where
   pub head : ℕ
   pub copy : IsCopy w.limits (knows w s).facts rec head (passed ++ rest)
   pub resolved : All (IsResolved v w s (range_of rec)) passed
+  -- where the view knows each word
+  pub stamped : w.whole ≡ true → All (IsStampedIn (shown w.limits w.words) (name_of s (knows v s).number)) passed
 
 -- whatever row older versions make, with what is seen of these it is the row
 abbrev pub DecideRow : Known → ℕ → ℕ → List Version → Option (List Cell) → Type 0

@@ -9,9 +9,10 @@ ghost use Rattle.lst_walk.specs.Readers.{IsReader, IsAt, HasVersion, Resolves};
 ghost use Rattle.lst_walk.specs.Walks.{IsCellOf, WalksCell, Tells, Told};
 
 use crate::stamps::is_seen;
-use crate::words::{back, encoding, head, tail_of, value};
+use crate::words::{encoding, head, value};
 use lst_bits::{Kind, has_column};
 use lst_rule::{RecordId, Seat, Store};
+use lst_sights::{tail_of, version_below};
 
 /// The number in a column of the row that the open transaction sees of a record: of the snapshot at its begin, with its own writes on
 /// it. None comes exactly where it sees no row, of a record without a seen key too. The walk goes along the chain from the newest version, to
@@ -36,7 +37,7 @@ pub fn column(store: &Store, seat: &mut Seat, s: u32, rec: RecordId, c: u32) -> 
         if let Some(held) = held(store, seat, s, range, number, c) {
             return held;
         }
-        number = back(store, seat, s, tail_of(store, range, number));
+        number = version_below(store, seat, s, tail_of(store, range, number));
     }
     None
 }

@@ -6,8 +6,6 @@
 mod columns;
 mod rows;
 mod stamps;
-#[cfg(test)]
-mod tests;
 mod words;
 
 pub use columns::column;

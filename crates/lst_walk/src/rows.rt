@@ -12,11 +12,12 @@ ghost use Rattle.lst_walk.specs.Patches.{newest, merged};
 ghost use Rattle.lst_walk.specs.Walks.{IsRowOf, WalksRow, Visited, Acted};
 
 use crate::stamps::is_seen;
-use crate::words::{back, encoding, head, tail_of, value};
+use crate::words::{encoding, head, value};
 use arrayvec::ArrayVec;
 use lst_bits::{Kind, has_column};
 use lst_model::Row;
 use lst_rule::{RecordId, Seat, Store};
+use lst_sights::{tail_of, version_below};
 
 /// What a visit of a version comes to.
 pub(crate) enum Visit {
@@ -53,7 +54,7 @@ pub fn row(store: &Store, seat: &mut Seat, s: u32, rec: RecordId) -> Option<Row>
         match look(store, seat, s, range, number, patch) {
             Visit::Row => return Some(row_under(store, seat, s, tail, patch)),
             Visit::NoRow => return None,
-            Visit::Older => number = back(store, seat, s, tail),
+            Visit::Older => number = version_below(store, seat, s, tail),
         }
     }
     None

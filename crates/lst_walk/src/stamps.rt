@@ -12,9 +12,9 @@ ghost use Rattle.lst_sights.specs.Seen.{sees};
 ghost use Rattle.lst_sights.specs.Watching.{Watched};
 ghost use Rattle.lst_walk.specs.Readers.{IsReader, IsAt, HasVersion, IsNotCommitted, Timed, Untimed, Stamped, Resolves, Concludes};
 
-use crate::words::tail_of;
 use lst_bits::{Start, unpack_start};
 use lst_rule::{Seat, Status, Store, load_cell, step_stamp, transaction_status};
+use lst_sights::{is_own, tail_of};
 
 /// Whether this call found or stored a commit time in the start word of a range's tail record, which has this number from 1 on. It
 /// answers no where it found the start word empty, or its transaction closed or unfinished.
@@ -99,15 +99,6 @@ pub(crate) fn is_seen(store: &Store, seat: &mut Seat, s: u32, range: u32, tail: 
             }
         }
     }
-}
-
-/// Whether a transaction is the session's last one.
-fn is_own(seat: &Seat, s: u32, session: u32, number: u32) -> bool
-    requires host { hosts seat.now.view s ≡ true }
-    requires few { (s < 16) × (session < 16) }
-    ensures { result ≡ eqb (name_of session number) (name_of s (knows seat.now.view s).number) }
-{
-    session == s && number == seat.number(s)
 }
 
 /// Whether a version's transaction, which isn't the open one, is found committed by the begin.

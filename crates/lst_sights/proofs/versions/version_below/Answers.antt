@@ -1,11 +1,10 @@
 use Rattle.std.proofs.Common.{arith}
 use Rattle.lst_rule.specs.Rule.{knows}
-use Rattle.lst_write.proofs.Found.{version_word}
-use Rattle.lst_write.proofs.Walking.{back_is, back_watched, back_few}
-use Rattle.lst_write.proofs.judgement.version_below.Goals as goal
+use Rattle.lst_sights.proofs.Backs.{linked_word, back_is, back_watched, back_few}
+use Rattle.lst_sights.proofs.versions.version_below.Goals as goal
 
 pub load_cell-requires-clause-place : goal.load_cell-requires-clause-place
-load_cell-requires-clause-place c = let q = c.requires.version in version_word c.args.seat.now.view.limits (knows c.args.seat.now.view c.args.s) c.args.tail 2 (omega arith) (q.0, q.1, q.2, q.3, q.4)
+load_cell-requires-clause-place c = linked_word c.args.seat.now.view.limits (knows c.args.seat.now.view c.args.s).facts c.args.tail 2 (omega arith) c.requires.version
 
 pub overflow_cast-result : goal.overflow_cast-result
 overflow_cast-result c = let low = back_few _ _ _ _ _ c.requires.host c.load_cell.ensures.looked c.requires.version in omega arith
