@@ -1,10 +1,9 @@
 -- What a deed of one session leaves.
 use Rattle.std.proofs.lemmas.List.Elements.{Contains-append_left}
-use Rattle.std.proofs.Common.{Contains, ◌∷◌, ◌≡◌, ◌≢◌, ℕ, ◌+◌, ◌<◌, List, [], ◌++◌, Bool, true, false, length, slice_index_or, take, refl, sym, subst, ap, ◌∙◌, arith}
+use Rattle.std.proofs.Common.{◌∷◌, ◌≡◌, ◌≢◌, ℕ, ◌+◌, ◌<◌, List, [], ◌++◌, Bool, true, false, slice_index_or, refl, sym, subst, ap, ◌∙◌, arith}
 use lib.ListN.{get_or-replicate}
 use Rattle.lst_layout.specs.declared.layout.Layout.{Layout}
 use Rattle.lst_layout.specs.declared.limits.Limits.{Limits}
-use Rattle.lst_model.specs.declared.acts.Act.{Act}
 use Rattle.lst_core_state.specs.declared.known.Known.{Known}
 use Rattle.lst_core_state.specs.declared.known.Stage.{Stage as Turn}
 use Rattle.lst_core_state.specs.declared.known.Stage.TheVariants.{Away, Taken, Fresh, Logged, Stated, Done}
@@ -26,12 +25,12 @@ use Rattle.lst_txn.specs.Transactions.{IsFree, Opens, Commits}
 use Rattle.lst_drive.specs.declared.pairs.Pair.{Pair}
 use Rattle.lst_index.specs.Searches.{Works}
 use Rattle.lst_index.specs.Searches as index
-use Rattle.lst_write.specs.Holding.{MayLatch, IsPlaced, HasLatch, Latches}
+use Rattle.lst_write.specs.Holding.{MayLatch, IsPlaced, Latches}
 use Rattle.lst_write.specs.Judgements.{HasJudged}
 use Rattle.lst_write.specs.Appending.{FindsFull}
 use Rattle.lst_write.proofs.Drawing.{has_judged_more}
 use Rattle.lst_drive.specs.declared.stages.Stage.{Stage}
-use Rattle.lst_drive.specs.declared.stages.Stage.TheVariants.{Out, In, Latching, Judged, Whole}
+use Rattle.lst_drive.specs.declared.stages.Stage.TheVariants.{Out, In, Latching, Judged}
 use Rattle.lst_drive.specs.Driving.{IsCrew, IsAt, IsDriven, ArePair, Drives, Rests}
 
 -- ---- the opening

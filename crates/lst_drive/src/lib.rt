@@ -5,6 +5,8 @@ mod deeds;
 #[cfg(test)]
 mod machine;
 mod pairs;
+#[cfg(test)]
+mod read_tests;
 mod stages;
 #[cfg(test)]
 mod tests;
