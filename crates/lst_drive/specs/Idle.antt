@@ -1,4 +1,4 @@
--- Two sessions that one seat hosts, which the tests drive against each other: how they are between the calls.
+-- Two sessions that one seat hosts, which the tests operate against each other: how they are between the calls.
 use Rattle.std.specs.Prelude.{◌≡◌, ℕ, ◌<◌, true, false}
 use Rattle.lst_layout.specs.declared.limits.Limits.{Limits}
 use Rattle.lst_core_state.specs.declared.known.Known.{Known}

@@ -1,5 +1,5 @@
 use Rattle.lst_drive.proofs.Stepping.{crew_on, pair_rests}
-use Rattle.lst_drive.proofs.pairs.peek.Goals as goal
+use Rattle.lst_drive.proofs.pairs.load_word.Goals as goal
 
 pub returns-clause-crew : goal.returns-clause-crew
 returns-clause-crew c = crew_on _ _ _ _ _ c.requires.crew c.load.ensures.seat c.load.ensures.looked.view

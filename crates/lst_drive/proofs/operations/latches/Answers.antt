@@ -1,5 +1,5 @@
 use Rattle.lst_drive.proofs.Stepping.{placed, latched}
-use Rattle.lst_drive.proofs.deeds.latches.Goals as goal
+use Rattle.lst_drive.proofs.operations.latches.Goals as goal
 
 pub returns-in_default : goal.returns-in_default
 returns-in_default c = placed _ _ _ _ _ c.requires.crew c.requires.driven c.place.ensures.seat c.place.ensures.works c.place.ensures.free
