@@ -12,7 +12,7 @@ use Rattle.lst_core_state.proofs.Steps.{writer_odd, writer_even}
 use Rattle.lst_core_state.proofs.Decoded.{head_few}
 use Rattle.lst_core.specs.Reading.{IsRead}
 use Rattle.lst_core.proofs.Found.{stamp_within, writer_within}
-use Rattle.lst_core.proofs.Masks.{tail_few}
+use Rattle.lst_core_state.proofs.Bounds.{tail_few}
 
 pub back_some : (l : Limits) (cells : ℕ → ℕ → ℕ) (t n : ℕ) → n ≡ cells t 2 → n ≢ 0 → (t - 1) / l.tails * l.tails + n ≡ back_in l cells t
 unfolding tail_range

@@ -1,7 +1,4 @@
-pub mod Flags
 pub mod Masks
-pub mod Numbered
-pub mod Stepped
 pub mod Machines
 pub mod Found
 pub mod Chaining

@@ -19,12 +19,12 @@ use Rattle.lst_core_state.specs.Step.{session_of, known_of, Enabled, Stands, IsE
 use Rattle.lst_core_state.specs.Sound.{Sound}
 use Rattle.lst_core_state.proofs.Functions.{put_here, put_else}
 use Rattle.lst_core_state.proofs.Keeps.{session_low}
-use Rattle.lst_core.specs.declared.numbers.Numbers.{Numbers}
-use Rattle.lst_core.specs.Numbers.{numbers_of, place_for, written_of, numbers_after}
-use Rattle.lst_core.specs.Targets.{time_for}
+use Rattle.lst_core_state.specs.declared.numbers.Numbers.{Numbers}
+use Rattle.lst_core_state.specs.Numbers.{numbers_of, place_for, written_of, numbers_after}
+use Rattle.lst_core_state.specs.Targets.{time_for}
 use Rattle.lst_core.specs.Machine.{Cells, number_at, Holds, IsCore, state_of, stepped}
-use Rattle.lst_core.proofs.Numbered.{numbers_law, look_numbers}
-use Rattle.lst_core.proofs.Stepped.{addressed, shows, with_same}
+use Rattle.lst_core_state.proofs.Numbered.{numbers_law, look_numbers}
+use Rattle.lst_core_state.proofs.Stepped.{addressed, shows, with_same}
 
 pub any_default : {A : Type 0} (l : List A) (i : ℕ) (d d' : A) → i < length l → get_or l i d ≡ get_or l i d'
 any_default [] i d d' h = absurd (omega arith)

@@ -1,5 +1,5 @@
 -- The mask of all places of a cell but its start word.
-use Rattle.std.proofs.Common.{◌≡◌, ℕ, ◌+◌, ◌*◌, ◌%◌, ◌^◌, ◌<◌, ◌≤◌, arith, mul-le-mul}
+use Rattle.std.proofs.Common.{◌≡◌, ℕ, ◌+◌, ◌*◌, ◌%◌, ◌^◌, ◌≤◌, arith}
 use Rattle.std.proofs.Math.Nat.{pow-le-pow_right, mod-eq_of_lt}
 
 pub mask_bounds : (c : ℕ) → c ≤ 8 → (2 ≤ 2 ^ (3 + c)) × (2 ^ (3 + c) ≤ 2048)
@@ -10,7 +10,3 @@ mask_some c few = let h = mask_bounds c few in let a = h.0 in let b = h.1 in let
 
 pub mask_is : (c : ℕ) → c ≤ 8 → 1 * 2 ^ (3 + c) % 4294967296 ≡ 2 ^ (3 + c)
 mask_is c few = let h = mask_bounds c few in let b = h.1 in let e : 1 * 2 ^ (3 + c) % 4294967296 ≡ 1 * 2 ^ (3 + c) = mod-eq_of_lt (omega arith) in omega arith
-
--- a tail's number among all is below 2 ^ 21
-pub tail_few : (range tails ranges n : ℕ) → range < ranges → ranges ≤ 64 → tails ≤ 16384 → n ≤ tails → range * tails + n ≤ 1048576
-tail_few range tails ranges n low a b few = let h : range * tails ≤ 63 * 16384 = mul-le-mul (let a : range ≤ 63 = omega arith in a) b in omega arith

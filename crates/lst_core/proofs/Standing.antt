@@ -17,9 +17,10 @@ use Rattle.lst_core_state.specs.Step.{session_of, known_of, Stands, IsDrafted}
 use Rattle.lst_core_state.specs.Sound.{Sound}
 use Rattle.lst_core_state.proofs.Sightings.{judged_sight}
 use Rattle.lst_core_state.proofs.Steps.{name_entry}
-use Rattle.lst_core.specs.declared.numbers.Numbers.{Numbers}
-use Rattle.lst_core.specs.Numbers.{numbers_of, Allows}
-use Rattle.lst_core.specs.Reading.{IsTold, state_over, StandsIn, IsWhole}
+use Rattle.lst_core_state.specs.declared.numbers.Numbers.{Numbers}
+use Rattle.lst_core_state.specs.Numbers.{numbers_of, Allows}
+use Rattle.lst_core.specs.Reading.{IsTold, StandsIn, IsWhole}
+use Rattle.lst_core_state.specs.State.{state_over}
 
 module _ (l : Limits) (ws : List ℕ) (n : Numbers) (e : Event) where
   abbrev w : Words

@@ -1,5 +1,5 @@
 -- A step of the executable core, from any sound state that it holds.
-use Rattle.std.proofs.Common.{◌≡◌, ℕ, ◌+◌, ◌-◌, ◌*◌, ◌/◌, ◌<◌, ◌≤◌, ◌^◌, List, Bool, true, false, cond, length, get_or, set, refl, sym, subst, ap, ◌∙◌, arith, length-set, get_or-set_same, get_or-set_other, eq-eqb, ne_eqb, inl, mul-le-mul, true≢false}
+use Rattle.std.proofs.Common.{◌≡◌, ℕ, ◌+◌, ◌-◌, ◌*◌, ◌/◌, ◌<◌, ◌≤◌, ◌^◌, List, Bool, true, false, cond, length, get_or, set, refl, sym, subst, ap, ◌∙◌, arith, length-set, get_or-set_same, get_or-set_other, eq-eqb, ne_eqb, inl, true≢false}
 use Rattle.std.specs.Prelude.{◌↔◌, IsTrue}
 use mathlib.Core.Logic.{dite}
 use native.Mathlib.Decide.{ℕ_discrete}
@@ -7,92 +7,33 @@ use Rattle.lst_layout.specs.declared.limits.Limits.{Limits}
 use Rattle.lst_layout.specs.declared.place.Place.{Place}
 use Rattle.lst_layout.specs.declared.place.Place.TheVariants.{ClockWord, CommitWord, EpochWord, RecordCounter, LogWord, BeginWord, StateWord, KeyWord, IndexWord, HeadWord, TailCounter, CellWord, DirectoryWord, FrameWord, PinWord, PostingWord}
 use Rattle.lst_layout.specs.Areas.{words_of}
-use Rattle.lst_layout.specs.Limits.{IsValid}
 use Rattle.lst_layout.specs.Addresses as layout
 use Rattle.lst_layout.specs.Addresses.{address, place_of}
 use Rattle.lst_layout.specs.Words.{Words, shown, word_at}
 use Rattle.lst_core_state.specs.declared.events.Event.{Event}
 use Rattle.lst_core_state.specs.declared.events.Event.TheVariants.{Look, Begin, Take, Log, State, Clock, Give, Close, DrawRecord, StoreKey, Claim, Latch, DrawTail, StoreCell, Install, Release, Stamp}
 use Rattle.lst_core_state.specs.declared.known.Known.{Known}
-use Rattle.lst_core_state.specs.Cells.{tail_count, range_of, tail_at}
+use Rattle.lst_core_state.specs.Cells.{range_of, tail_at}
 use Rattle.lst_core_state.specs.State.{Core, newcomer, history_of, writes_of, line, back_in, head_of}
 use Rattle.lst_core_state.specs.Step as step
-use Rattle.lst_core_state.specs.Step.{session_of, known_of, Enabled, Stands, IsEnabled, IsCommitted, after}
+use Rattle.lst_core_state.specs.Step.{session_of, known_of, Enabled, Stands, IsEnabled, after}
 use Rattle.lst_core_state.specs.Sound.{Sound}
 use Rattle.lst_core_state.proofs.Histories.{length-history, starts_length}
 use Rattle.lst_core_state.proofs.CellsKept.{tail_at-some}
 use Rattle.lst_core_state.proofs.Keeps.{keeps, session_low}
 use Rattle.lst_core_state.proofs.Room.{clock_low, seen_few}
 use Rattle.lst_core_state.specs.Lists.{Has}
-use Rattle.lst_core.specs.declared.numbers.Numbers.{Numbers}
-use Rattle.lst_core.specs.Numbers.{numbers_of, place_for, written_of, numbers_after, numbers_look, gives_up, Allows}
-use Rattle.lst_core.specs.Targets.{time_for}
-use Rattle.lst_core.specs.Bounds.{BeginFits, TailFits, HeadFits, IsWritable}
+use Rattle.lst_core_state.specs.declared.numbers.Numbers.{Numbers}
+use Rattle.lst_core_state.specs.Numbers.{numbers_of, place_for, written_of, numbers_after, numbers_look, gives_up, Allows}
+use Rattle.lst_core_state.specs.Targets.{time_for}
+use Rattle.lst_core_state.specs.Bounds.{TailFits, HeadFits, IsWritable}
 use Rattle.lst_core.specs.Machine.{Cells, number_at, Holds, IsIdle, IsCore, state_of, word_found, stepped}
 use Rattle.lst_core.specs.Reading.{IsRead, IsTold, StandsIn, IsStampable}
-use Rattle.lst_core.proofs.Numbered.{allows_enabled, enabled_allows}
+use Rattle.lst_core_state.proofs.Bounds.{begin_fits, tail_fits, head_fits, rows_few, tails_few}
+use Rattle.lst_core_state.proofs.Numbered.{allows_enabled, enabled_allows}
 use Rattle.lst_core.proofs.Machines.{any_default, held_is, session_few, step_holds, step_within}
 use Rattle.lst_core.proofs.Found.{read_at}
-use Rattle.lst_core.proofs.Walking.{first_link}
-
--- ---- bounds
-
-pub begin_fits : (l : Limits) (n : Numbers) (e : Event) → Allows l n e → BeginFits n e
-begin_fits l n (Look s a) ok = tt
-begin_fits l n (Begin s b r) ok = ok.2
-begin_fits l n (Take s) ok = tt
-begin_fits l n (Log s) ok = tt
-begin_fits l n (State s) ok = tt
-begin_fits l n (Clock s) ok = tt
-begin_fits l n (Give s) ok = tt
-begin_fits l n (Close s) ok = tt
-begin_fits l n (DrawRecord s) ok = tt
-begin_fits l n (StoreKey s k) ok = tt
-begin_fits l n (Claim s q) ok = tt
-begin_fits l n (Latch s r) ok = tt
-begin_fits l n (DrawTail s range) ok = tt
-begin_fits l n (StoreCell s p x) ok = tt
-begin_fits l n (Install s) ok = tt
-begin_fits l n (Release s) ok = tt
-begin_fits l n (Stamp s range t) ok = tt
-
-pub tail_fits : (l : Limits) (n : Numbers) (e : Event) → Allows l n e → (n.hold.is_whole ≡ true → (range_of (n.hold.latch - 1) * l.tails < n.hold.tail) × (n.hold.tail ≤ range_of (n.hold.latch - 1) * l.tails + l.tails) × (0 < n.hold.latch)) → TailFits l n e
-tail_fits l n (Look s a) ok h = tt
-tail_fits l n (Begin s b r) ok h = tt
-tail_fits l n (Take s) ok h = tt
-tail_fits l n (Log s) ok h = tt
-tail_fits l n (State s) ok h = tt
-tail_fits l n (Clock s) ok h = tt
-tail_fits l n (Give s) ok h = tt
-tail_fits l n (Close s) ok h = tt
-tail_fits l n (DrawRecord s) ok h = tt
-tail_fits l n (StoreKey s k) ok h = tt
-tail_fits l n (Claim s q) ok h = tt
-tail_fits l n (Latch s r) ok h = tt
-tail_fits l n (DrawTail s range) ok h = tt
-tail_fits l n (StoreCell s p x) ok h = tt
-tail_fits l n (Install s) ok h = h ok
-tail_fits l n (Release s) ok h = tt
-tail_fits l n (Stamp s range t) ok h = tt
-
-pub head_fits : (l : Limits) (n : Numbers) (e : Event) → Allows l n e → (0 < n.hold.latch → n.hold.head < 2 ^ 32) → HeadFits n e
-head_fits l n (Look s a) ok h = tt
-head_fits l n (Begin s b r) ok h = tt
-head_fits l n (Take s) ok h = tt
-head_fits l n (Log s) ok h = tt
-head_fits l n (State s) ok h = tt
-head_fits l n (Clock s) ok h = tt
-head_fits l n (Give s) ok h = tt
-head_fits l n (Close s) ok h = tt
-head_fits l n (DrawRecord s) ok h = tt
-head_fits l n (StoreKey s k) ok h = tt
-head_fits l n (Claim s q) ok h = tt
-head_fits l n (Latch s r) ok h = tt
-head_fits l n (DrawTail s range) ok h = tt
-head_fits l n (StoreCell s p x) ok h = tt
-head_fits l n (Install s) ok h = tt
-head_fits l n (Release s) ok h = h ok.0
-head_fits l n (Stamp s range t) ok h = tt
+use Rattle.lst_core_state.proofs.Lists.{first_link}
 
 -- the merger's one kind of step allows nothing else
 module _ (l : Limits) (n : Numbers) where
@@ -196,12 +137,6 @@ time_low w l (StoreCell s p x) h = omega arith
 time_low w l (Install s) h = omega arith
 time_low w l (Release s) h = omega arith
 time_low w l (Stamp s range n) h = let a = h.1 in let b = h.2 in omega arith
-
-pub rows_few : (l : Limits) → IsValid l → l.sessions * l.txns < 2 ^ 32
-rows_few l sized = let a = sized.sessions.1 in let b = sized.txns.1 in let h : l.sessions * l.txns ≤ 16 * 65535 = mul-le-mul a b in omega arith
-
-pub tails_few : (l : Limits) → IsValid l → tail_count l < 2 ^ 32
-tails_few l sized = let a = sized.ranges.1 in let b = sized.tails.1 in let h : l.ranges * l.tails ≤ 64 * 16384 = mul-le-mul a b in omega arith
 
 -- ---- the step
 

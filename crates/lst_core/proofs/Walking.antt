@@ -12,13 +12,9 @@ use Rattle.lst_model.proofs.Folds.{row_from-append}
 use Rattle.lst_core_state.specs.Lists.{Has, Links, Fitting, Judged, Under, acts, is_live}
 use Rattle.lst_core_state.specs.Cells.{record_count, tail_count, kind_of, act_of, listed, patched, mask_of, IsCell}
 use Rattle.lst_core_state.specs.State.{entry, writer_at, state_at, line, back_in, head_of, act_in, FitsAfter}
+use Rattle.lst_core_state.proofs.Lists.{first_link}
 use Rattle.lst_core.specs.Reading.{IsRead, IsPresent}
 use Rattle.lst_core.specs.Walks.{Walks, Judges, Rows}
-
--- the first of a list of links
-pub first_link : (back : ℕ → ℕ) (t : ℕ) (rest : List ℕ) → Links back t rest → 0 < t → (ys : List ℕ) × (rest ≡ t ∷ ys) × (back t < t) × Links back (back t) ys
-first_link back t [] links some = absurd (let e : t ≡ 0 = links in omega arith)
-first_link back t (x ∷ xs) links some = let e : t ≡ x = links.0 in (xs, ap (λ (y : ℕ). y ∷ xs) (sym e), subst (λ (y : ℕ). back y < y) (sym e) links.2, subst (λ (y : ℕ). Links back (back y) xs) (sym e) links.3)
 
 no_link : (back : ℕ → ℕ) (rest : List ℕ) → Links back 0 rest → rest ≡ []
 no_link back [] links = refl

@@ -1,5 +1,5 @@
 -- The executable core: a row of words, and the numbers of each session and of the merger.
-use Rattle.std.specs.Prelude.{◌≡◌, ◌↔◌, Result, IsOk, IfOk, ℕ, ◌+◌, ◌≤◌, List, length, slice_index, slice_index_or, slice_set, false, replicate}
+use Rattle.std.specs.Prelude.{◌≡◌, ◌↔◌, Result, IsOk, IfOk, ℕ, ◌+◌, ◌≤◌, List, length, slice_index, slice_index_or, slice_set}
 use Rattle.lst_layout.specs.declared.limits.Limits.{Limits}
 use Rattle.lst_layout.specs.Areas.{words_of}
 use Rattle.lst_layout.specs.Addresses.{address}
@@ -7,13 +7,12 @@ use Rattle.lst_layout.specs.Words.{shown, word_at}
 use Rattle.lst_core_state.specs.declared.events.Event.{Event}
 use Rattle.lst_core_state.specs.State as state
 use Rattle.lst_core_state.specs.declared.known.Known.{Known}
-use Rattle.lst_core_state.specs.declared.known.Stage.TheVariants.{Away}
-use Rattle.lst_core_state.specs.State.{newcomer, no_hold}
+use Rattle.lst_core_state.specs.State.{newcomer}
 use Rattle.lst_core_state.specs.Step.{session_of, known_of, IsEnabled, after}
 use Rattle.lst_core_state.specs.Sound.{Sound}
-use Rattle.lst_core.specs.declared.numbers.Numbers.{Numbers}
+use Rattle.lst_core_state.specs.declared.numbers.Numbers.{Numbers}
 use Rattle.lst_core.specs.declared.cores.NotEnabled.{NotEnabled}
-use Rattle.lst_core.specs.Numbers.{numbers_of, place_for, written_of, numbers_after}
+use Rattle.lst_core_state.specs.Numbers.{numbers_of, place_for, written_of, numbers_after}
 
 -- what a running core holds
 pub record Cells : Type 0 where
@@ -64,23 +63,3 @@ stepped m time e = let n = number_at m (session_of e) in let a : ℕ = address m
 abbrev pub Steps : Cells → Cells → Event → Result ℕ NotEnabled → Type 0
 Steps m m' e result = (c : state.Core) → Holds m c → Sound c → (IsOk result ↔ IsEnabled c e)
     × IfOk result (λ found. (found ≡ word_found c e) × Holds m' (after c e) × Sound (after c e))
-
--- the numbers of a session that knows nothing
-abbrev pub newcomer_numbers : Numbers
-newcomer_numbers = record {
-  number = 0;
-  begin = 0;
-  read_only = false;
-  is_open = false;
-  turn = Away;
-  seen = 0;
-  has_writes = false;
-  hand = 0;
-  key = 0;
-  has_key = false;
-  is_serving = false;
-  hold = no_hold;
-  stored = 0;
-  index = 0;
-  served = replicate 64 false;
-}

@@ -4,15 +4,15 @@ use Rattle.lst_layout.specs.declared.limits.Limits.{Limits}
 use Rattle.lst_layout.specs.Areas.{words_of}
 use Rattle.lst_layout.specs.Words.{Words, shown}
 use Rattle.lst_core_state.specs.declared.known.Known.{Known}
-use Rattle.lst_core_state.specs.State.{Core, FitsAfter, act_in, line, state_at, record_in}
+use Rattle.lst_core_state.specs.State.{state_over, FitsAfter, act_in, line, state_at, record_in}
 use Rattle.lst_core_state.specs.Step.{session_of, known_of, Stands, IsCommitted}
 use Rattle.lst_core_state.specs.Cells.{record_count, tail_count, kind_of, mask_of, IsCell}
 use Rattle.lst_core_state.specs.declared.events.Event.{Event}
 use Rattle.lst_core_state.specs.declared.events.Event.TheVariants.{Stamp}
 use Rattle.lst_core_state.specs.declared.known.Hold.{Hold}
 use Rattle.lst_core_state.specs.Lists.{acts}
-use Rattle.lst_core.specs.declared.numbers.Numbers.{Numbers}
-use Rattle.lst_core.specs.Numbers.{numbers_of}
+use Rattle.lst_core_state.specs.declared.numbers.Numbers.{Numbers}
+use Rattle.lst_core_state.specs.Numbers.{numbers_of}
 use Rattle.lst_core_state.specs.Sound.{Sound}
 
 -- the words of a sound state
@@ -26,10 +26,6 @@ pub record IsRead (l : Limits) (words : List ℕ) : Type 0 where
 abbrev pub IsPresent : {A : Type 0} → Option A → Type 0
 IsPresent (Some x) = Unit {0}
 IsPresent None = ⊥
-
--- a state with these words
-abbrev pub state_over : Limits → List ℕ → (ℕ → Known) → Known → Core
-state_over l words known merger = record { limits = l; words = shown l words; known = known; merger = merger }
 
 -- the words of a sound state, in which the event's session knows these numbers
 pub record IsTold (l : Limits) (words : List ℕ) (n : Numbers) (e : Event) : Type 0 where

@@ -4,16 +4,15 @@ ghost use Rattle.lst_layout.specs.Areas.{words_of};
 ghost use Rattle.lst_layout.specs.Words.{shown};
 ghost use Rattle.lst_core_state.specs.Step as step;
 ghost use Rattle.lst_core_state.specs.Step.{session_of};
-ghost use Rattle.lst_core.specs.Numbers as spec;
-ghost use Rattle.lst_core.specs.Targets.{time_for};
+ghost use Rattle.lst_core_state.specs.Numbers as spec;
+ghost use Rattle.lst_core_state.specs.Targets.{time_for};
 ghost use Rattle.lst_core.specs.Reading.{IsRead, IsTold, StandsIn, IsHeld, IsWhole, IsStampable};
 
 use crate::chains::{has_row, is_committed, is_judged, state_of, writer};
 use crate::drafts::{is_cell, is_of};
-use crate::numbers::Numbers;
 use crate::probes::{is_placed, reaches};
 use crate::reads::cell;
-use lst_core_state::{Event, Hold};
+use lst_core_state::{Event, Hold, Numbers};
 use lst_layout::Layout;
 
 /// The session that makes a step.

@@ -3,18 +3,16 @@ ghost use Rattle.std.specs.Prelude.{◌≡◌, ℕ, ◌+◌, ◌<◌, ◌≤◌,
 ghost use Rattle.lst_layout.specs.Limits.{IsValid};
 ghost use Rattle.lst_layout.specs.Areas.{words_of};
 ghost use Rattle.lst_layout.specs.Words.{IsOpening, opening_at};
-ghost use Rattle.lst_core.specs.Machine.{newcomer_numbers};
+ghost use Rattle.lst_core_state.specs.Numbers.{newcomer_numbers};
 ghost use Rattle.lst_core_state.specs.Runs.{opening};
 ghost use Rattle.lst_core_state.specs.Sound.{Sound};
 ghost use Rattle.lst_core_state.specs.State as state;
 ghost use Rattle.lst_core_state.specs.Step as step;
 ghost use Rattle.lst_core.specs.Machine.{Holds, IsCore, Steps};
 
-use crate::afters::after;
 use crate::allowed::{is_within, session_of, stands, time};
-use crate::numbers::{Numbers, allows};
-use crate::steps::{target, written};
-use lst_core_state::{Event, Hold, Stage};
+use crate::numbers::{after, allows};
+use lst_core_state::{Event, Numbers, newcomers, opening_words, target, written};
 use lst_layout::Layout;
 use lst_model::OutOfMemory;
 use std::alloc::Global;
@@ -40,55 +38,6 @@ impl Model for Core {
     ghost view = { λ c. record { limits = c.layout.limits; words = c.words.items; numbers = c.numbers.items } };
 
     ghost invariant = { λ c. IsCore record { limits = c.layout.limits; words = c.words.items; numbers = c.numbers.items } };
-}
-
-/// The numbers of a session that knows nothing.
-const NEWCOMER: Numbers = Numbers {
-    number: 0,
-    begin: 0,
-    read_only: false,
-    is_open: false,
-    turn: Stage::Away,
-    seen: 0,
-    has_writes: false,
-    hand: 0,
-    key: 0,
-    has_key: false,
-    is_serving: false,
-    hold: Hold {
-        latch: 0,
-        head: 0,
-        tail: 0,
-        is_whole: false,
-    },
-    stored: 0,
-    index: 0,
-    served: [false; 64],
-};
-
-/// The words of a store that opens: each is 0 but those of the directory, which hold the numbers of the pages.
-pub fn opening_words(alloc: Global, layout: &Layout) -> Result<Vec<u64>, OutOfMemory>
-    ensures { IfOk result (λ words. IsOpening layout.now.limits words.items) }
-{
-    let mut words = vec![in alloc; 0; layout.words as usize]?;
-    let start = layout.directory(0, 0) as usize;
-    for page in 0..layout.limits.page_count() as usize {
-        words[start + page] = page as u64;
-    }
-    Ok(words)
-}
-
-/// The numbers of this many sessions that know nothing.
-pub fn newcomers(alloc: Global, count: u32) -> Result<Vec<Numbers>, OutOfMemory>
-    ensures { IfOk result (λ numbers. numbers.items ≡ replicate count newcomer_numbers) }
-{
-    let mut numbers = Vec::new(alloc);
-    let mut made = 0;
-    while made < count {
-        numbers.push(NEWCOMER)?;
-        made += 1;
-    }
-    Ok(numbers)
 }
 
 impl Core {

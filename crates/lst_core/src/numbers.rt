@@ -1,44 +1,13 @@
-//! What a running program needs of what a session knows, and each step on it.
-ghost use Rattle.std.specs.Prelude.{◌≡◌, ◌+◌, ◌-◌, ◌*◌, ◌<◌, ◌≤◌, ◌^◌, false, ◌↔◌, ◌/◌, true, IsTrue, slice_index_or, slice_set};
-ghost use Rattle.lst_layout.specs.Addresses as addresses;
-ghost use Rattle.lst_layout.specs.Addresses.{address};
-ghost use Rattle.lst_layout.specs.Areas.{words_of};
+//! What the numbers of a session allow, and what its steps leave of them.
+ghost use Rattle.std.specs.Prelude.{◌≡◌, ◌+◌, ◌-◌, ◌*◌, ◌<◌, ◌^◌, false, ◌↔◌, ◌/◌, true, IsTrue, slice_index_or};
 ghost use Rattle.lst_layout.specs.Limits.{IsValid};
 ghost use Rattle.lst_core_state.specs.Step as step;
 ghost use Rattle.lst_core_state.specs.State as state;
-ghost use Rattle.lst_core.specs.Numbers as spec;
+ghost use Rattle.lst_core_state.specs.Bounds.{IsWritable};
+ghost use Rattle.lst_core_state.specs.Numbers as spec;
 
-use lst_core_state::{Event, Hold, Stage};
-use lst_layout::Limits;
-
-/// The numbers of what a session knows.
-#[derive(Clone, Copy)]
-pub struct Numbers {
-    /// The number of the last transaction that it began, or 0.
-    pub number: u32,
-    pub begin: u64,
-    pub read_only: bool,
-    pub is_open: bool,
-    pub turn: Stage,
-    /// The length of the history that it has seen.
-    pub seen: u64,
-    /// Its open transaction has installed a write.
-    pub has_writes: bool,
-    /// One more than the record in hand, or 0.
-    pub hand: u32,
-    /// The key that was stored for the record in hand.
-    pub key: u64,
-    pub has_key: bool,
-    /// A load serves the next draw of a record.
-    pub is_serving: bool,
-    pub hold: Hold,
-    /// Bit p is set where the word at the place p of the tail in hand is stored.
-    pub stored: u32,
-    /// The index word that was loaded last.
-    pub index: u64,
-    /// Whether a load serves the next draw of a tail, by range.
-    pub served: [bool; 64],
-}
+use lst_core_state::{Event, Numbers, Stage, advance};
+use lst_layout::{Layout, Limits};
 
 /// The range of a record.
 fn range_of(rec: u32) -> u32
@@ -133,4 +102,15 @@ fn allows_word(limits: &Limits, now: &Numbers, session: u32, place: u32, value: 
     }
     now.stored == (1u32 << (3 + limits.columns)) - 2
         && value == 1 + 2 * (16 * now.number as u64 + session as u64)
+}
+
+/// The numbers of a session after its step on a word, where it found this.
+pub fn after(layout: &Layout, now: Numbers, event: Event, found: u64) -> Numbers
+    requires within { step.IsWithin layout.now.limits event }
+    requires writable { IsWritable layout.now.limits now event }
+    ensures { result ≡ spec.numbers_after layout.now.limits event found now }
+{
+    let mut next = now;
+    advance(layout, &mut next, event, found);
+    next
 }

@@ -9,7 +9,7 @@ ghost use Rattle.lst_core_state.specs.State.{writer_at, state_at};
 ghost use Rattle.lst_core_state.specs.Step.{IsCommitted};
 ghost use Rattle.lst_core.specs.Reading.{IsRead};
 
-use crate::steps::cell_address;
+use lst_core_state::cell_address;
 use lst_layout::Layout;
 
 /// The number of commits.

@@ -33,3 +33,8 @@ pub mod Room
 pub mod Lists
 pub mod Sights
 pub mod Writes
+pub mod Flags
+pub mod Numbered
+pub mod Stepped
+pub mod Bounds
+pub mod Opened

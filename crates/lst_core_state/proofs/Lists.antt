@@ -25,6 +25,11 @@ links_chain back (suc f) zero (x ∷ xs) low l = let e = l.0 in let p = l.1 in a
 links_chain back (suc f) (suc m) (x ∷ xs) low l = let e : suc m ≡ x = l.0 in let falls = l.2 in
     ap (λ (y : ℕ). y ∷ chain f back (back y)) e ∙ ap (λ (r : List ℕ). x ∷ r) (links_chain back f (back x) xs (omega arith) l.3)
 
+-- the first of a list of links
+pub first_link : (back : ℕ → ℕ) (t : ℕ) (rest : List ℕ) → Links back t rest → 0 < t → (ys : List ℕ) × (rest ≡ t ∷ ys) × (back t < t) × Links back (back t) ys
+first_link back t [] links some = absurd (let e : t ≡ 0 = links in omega arith)
+first_link back t (x ∷ xs) links some = let e : t ≡ x = links.0 in (xs, ap (λ (y : ℕ). y ∷ xs) (sym e), subst (λ (y : ℕ). back y < y) (sym e) links.2, subst (λ (y : ℕ). Links back (back y) xs) (sym e) links.3)
+
 -- the back words matter only on the list
 pub links_same : (back back' : ℕ → ℕ) (h : ℕ) (ys : List ℕ) → ((t : ℕ) → Has t ys → back' t ≡ back t) → Links back h ys → Links back' h ys
 links_same back back' h [] same l = l

@@ -8,3 +8,6 @@ pub mod Runs
 pub mod Laws
 pub mod Lists
 pub mod Writes
+pub mod Numbers
+pub mod Targets
+pub mod Bounds

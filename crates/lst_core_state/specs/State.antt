@@ -2,6 +2,7 @@
 use Rattle.std.specs.Prelude.{None, ℕ, zero, suc, ◌+◌, ◌-◌, ◌*◌, ◌/◌, ◌%◌, List, [], ◌∷◌, ◌++◌, Bool, false, cond, eqb, nat_lt, ◌&&◌, ◌||◌, take, replicate, slice_index_or}
 use Rattle.lst_layout.specs.declared.limits.Limits.{Limits}
 pub use Rattle.lst_layout.specs.Words.{Words}
+use Rattle.lst_layout.specs.Words.{shown}
 use Rattle.lst_model.specs.declared.acts.Act.{Act}
 use Rattle.lst_model.specs.declared.acts.Write.{Write}
 use Rattle.lst_model.specs.declared.commits.Commit.{Commit}
@@ -24,6 +25,10 @@ pub record Core : Type 0 where
   pub words : Words
   pub known : ℕ → Known  -- by session
   pub merger : Known
+
+-- a state with these words
+abbrev pub state_over : Limits → List ℕ → (ℕ → Known) → Known → Core
+state_over l words known merger = record { limits = l; words = shown l words; known = known; merger = merger }
 
 -- ---- what a session knows
 

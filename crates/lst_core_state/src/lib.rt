@@ -1,13 +1,19 @@
 //! The protocol of a store as data: what a session knows, the single atomic steps, and what holds between any two of them.
 //!
-//! Nothing here runs. `specs/` has the definitions, `proofs/` shows that each step keeps what holds.
+//! `specs/` has the definitions, `proofs/` shows that each step keeps what holds. What runs are the numbers that a program keeps
+//! of what a session knows, and the word that a step is on.
 #![tactic(auto)]
 
+mod afters;
 mod events;
 mod facts;
 mod known;
 mod laws;
+mod numbers;
+mod openings;
+mod targets;
 
+pub use afters::{advance, look};
 pub use events::Event;
 pub use facts::{Fact, Find};
 pub use known::{Counter, Done, Draft, Hold, Known, Looks, Placing, Stage};
@@ -15,3 +21,6 @@ pub use laws::{
     chains_are_sights, every_run_is_sound, histories_are_sound, seen_may_grow, steps_are_sound,
     visible_is_seen,
 };
+pub use numbers::{Numbers, newcomers};
+pub use openings::opening_words;
+pub use targets::{cell_address, target, written};

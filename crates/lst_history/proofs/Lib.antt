@@ -1,4 +1,5 @@
 pub mod Looks
+pub mod Asking
 pub mod Naming
 pub mod Values
 pub mod Joining

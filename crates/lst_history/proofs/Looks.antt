@@ -1,5 +1,7 @@
 -- What a session knows after looks, and that they find the words that the view knows.
-use Rattle.std.proofs.Common.{◌≡◌, ℕ, ◌+◌, ◌<◌, List, [], ◌∷◌, ◌++◌, Bool, true, false, cond, eqb, ◌&&◌, length, refl, sym, subst, ap, ◌∙◌, arith, append_assoc, append-nil, slice_index_or}
+use Rattle.std.proofs.Common.{◌≡◌, ℕ, ◌+◌, ◌<◌, List, [], ◌∷◌, ◌++◌, Bool, true, false, cond, eqb, ◌&&◌, length, refl, sym, subst, ap, ◌∙◌, arith, append_assoc, append-nil, length-append, slice_index_or}
+use Rattle.std.specs.List.{All}
+use Rattle.std.proofs.lemmas.List.Elements.{All-nil, All-cons, All-append}
 use Rattle.lst_layout.specs.declared.limits.Limits.{Limits}
 use Rattle.lst_layout.specs.declared.layout.Layout.{Layout}
 use Rattle.lst_layout.specs.declared.place.Place.{Place}
@@ -11,21 +13,25 @@ use Rattle.lst_layout.specs.Limits.{IsValid}
 use Rattle.lst_layout.specs.Words.{Words, shown, word_at}
 use Rattle.lst_layout.proofs.Places.{addresses_are_read}
 use Rattle.lst_layout.proofs.Shown as shows
+use Rattle.lst_model.specs.declared.commits.Commit.{Commit}
 use Rattle.lst_model.specs.Histories.{Extends}
 use Rattle.lst_core_state.specs.declared.known.Known.{Known}
 use Rattle.lst_core_state.specs.declared.known.Stage.{Stage}
 use Rattle.lst_core_state.specs.declared.known.Stage.TheVariants.{Away, Taken, Fresh, Logged, Stated, Done}
 use Rattle.lst_core_state.specs.declared.facts.Find.TheVariants.{FreshClock, TailLoad, EmptyStart}
-use Rattle.lst_core_state.specs.Facts.{index_facts, state_fact, stored_fact, commit_fact, active_find, early_find}
+use Rattle.lst_core_state.specs.Facts.{index_facts, stored_fact, commit_fact, early_find}
 use Rattle.lst_core_state.specs.State.{record_in, history_of, commits_of, mine, rank}
 use Rattle.lst_core_state.specs.Step.{look_at, refreshed, gives_up, given_up}
 use Rattle.lst_rule.specs.declared.view.View.{View}
 use Rattle.lst_rule.specs.Rule.{knows, Allowed}
+use Rattle.lst_rule.specs.Learned.{Possible}
 use Rattle.lst_rule.proofs.Knowing.{is_seen, knows_own}
 use Rattle.lst_rule.proofs.Learning.{learns_on, learns_same, kept_same, kept_on}
 use Rattle.lst_rule.specs.declared.store.Store.{Store}
 use Rattle.lst_rule.specs.Seats.{Sitting}
 use Rattle.lst_rule.specs.Stores.{IsSeatOf, Looked}
+use Rattle.lst_sights.specs.Watching.{IsNotFull}
+use Rattle.lst_sights.proofs.Watching.{clock_not_full}
 use Rattle.lst_history.specs.Peeks.{Peeked, Peeks, words_in, IsReader, Reads}
 
 -- ---- several looks
@@ -37,6 +43,7 @@ peeked_same u = record {
   later = [];
   looks = u.looks;
   is = λ i. record u { seen = sym (append-nil u.seen) i; facts = sym (append-nil u.facts) i; finds = sym (append-nil u.finds) i; looks = u.looks };
+  room = All-nil IsNotFull;
 }
 
 pub peeked_on : (u v w : Known) → Peeked u v → Peeked v w → Peeked u w
@@ -47,6 +54,7 @@ peeked_on u v w a b = record {
   looks = b.looks;
   is = b.is ∙ (ap (λ (k : Known). record k { seen = k.seen ++ b.later; facts = k.facts ++ b.facts; finds = k.finds ++ b.finds; looks = b.looks }) a.is
       ∙ (λ i. record u { seen = append_assoc u.seen a.later b.later i; facts = append_assoc u.facts a.facts b.facts i; finds = append_assoc u.finds a.finds b.finds i; looks = b.looks }));
+  room = All-append IsNotFull a.finds b.finds a.room b.room;
 }
 
 pub peeks_same : (v : View) (s : ℕ) → Peeks v v s
@@ -77,12 +85,11 @@ abbrev pub IsTelling : Place → Type 0
 IsTelling ClockWord = Unit {0}
 IsTelling (LogWord t) = Unit {0}
 IsTelling (BeginWord s n) = Unit {0}
-IsTelling (StateWord s n) = Unit {0}
 IsTelling (KeyWord r) = Unit {0}
 IsTelling (CellWord t p) = Unit {0}
 IsTelling p = ⊥
 
-still : (k : Stage) → rank k ≡ 0 → refreshed k ≡ k
+pub still : (k : Stage) → rank k ≡ 0 → refreshed k ≡ k
 still Away e = refl
 still Taken e = absurd (omega arith)
 still Fresh e = refl
@@ -98,6 +105,10 @@ no_give false false c d e = refl
 keeps_hand : (u : Known) (r key : ℕ) → u.placing.has_key ≡ false → cond (gives_up u r key) (given_up u) u ≡ u
 keeps_hand u r key none = ap (λ (b : Bool). cond b (given_up u) u) (no_give (eqb u.placing.hand (r + 1)) u.placing.has_key (eqb key u.placing.key) (eqb u.looks.index (r + 1)) none)
 
+empty_not_full : (b : Bool) (t : ℕ) → All IsNotFull (cond b (EmptyStart t ∷ []) [])
+empty_not_full true t = All-cons IsNotFull (EmptyStart t) [] tt (All-nil IsNotFull)
+empty_not_full false t = All-nil IsNotFull
+
 module _ (l : Limits) (w : Words) (u : Known) (away : rank u.turn ≡ 0) (none : u.placing.has_key ≡ false) where
   look_peeked : (p : Place) → Extends (history_of l w) u.seen → IsTelling p → Peeked u (look_at l w u p)
   look_peeked ClockWord all is = record {
@@ -106,16 +117,10 @@ module _ (l : Limits) (w : Words) (u : Known) (away : rank u.turn ≡ 0) (none :
     later = all.0;
     looks = u.looks;
     is = λ i. record u { seen = all.1 i; turn = still u.turn away i; facts = u.facts ++ index_facts l w; finds = u.finds ++ FreshClock w.clock ∷ early_find u w.clock; looks = u.looks };
+    room = clock_not_full u w.clock;
   }
   look_peeked (LogWord t) all is = peeked_same u
   look_peeked (BeginWord s n) all is = peeked_same u
-  look_peeked (StateWord s n) all is = record {
-    facts = state_fact w s n;
-    finds = active_find u s n (w.states s n);
-    later = [];
-    looks = record u.looks { state = w.states s n; session = s; number = n };
-    is = λ i. record u { seen = sym (append-nil u.seen) i; facts = u.facts ++ state_fact w s n; finds = u.finds ++ active_find u s n (w.states s n); looks = record u.looks { state = w.states s n; session = s; number = n } };
-  }
   look_peeked (KeyWord r) all is = subst (Peeked u) (sym (keeps_hand u r (w.keys r) none)) (peeked_same u)
   look_peeked (CellWord t p) all is = record {
     facts = stored_fact l w t ++ commit_fact w.log (w.cells t 0);
@@ -128,8 +133,10 @@ module _ (l : Limits) (w : Words) (u : Known) (away : rank u.turn ≡ 0) (none :
       finds = u.finds ++ TailLoad t ∷ cond (eqb p 0 && eqb (w.cells t 0) 0) (EmptyStart t ∷ []) [];
       looks = cond (eqb p 0) (record u.looks { start = w.cells t 0; about = record_in l w.cells t + 1; tail = t }) u.looks;
     };
+    room = All-cons IsNotFull (TailLoad t) (cond (eqb p 0 && eqb (w.cells t 0) 0) (EmptyStart t ∷ []) []) tt (empty_not_full (eqb p 0 && eqb (w.cells t 0) 0) t);
   }
   look_peeked CommitWord all is = absurd is
+  look_peeked (StateWord s n) all is = absurd is
   look_peeked EpochWord all is = absurd is
   look_peeked RecordCounter all is = absurd is
   look_peeked (IndexWord q) all is = absurd is
@@ -144,10 +151,10 @@ module _ (l : Limits) (w : Words) (u : Known) (away : rank u.turn ≡ 0) (none :
   look_owns s ClockWord own is = own
   look_owns s (LogWord t) own is = refl
   look_owns s (BeginWord j n) own is = refl
-  look_owns s (StateWord j n) own is = refl
   look_owns s (KeyWord r) own is = ap (mine s) (keeps_hand u r (w.keys r) none)
   look_owns s (CellWord t p) own is = refl
   look_owns s CommitWord own is = absurd is
+  look_owns s (StateWord j n) own is = absurd is
   look_owns s EpochWord own is = absurd is
   look_owns s RecordCounter own is = absurd is
   look_owns s (IndexWord q) own is = absurd is
@@ -211,6 +218,22 @@ module _ (store : Store) (a b : Sitting) (s x : ℕ) (p : Place) (reader : IsRea
 
   pub look_finds : x ≡ word_at (words_in v) p
   look_finds = looked.met.own reader.whole ∙ sym (shows.found v.limits v.words (subst (λ (ws : List ℕ). length ws ≡ words_of v.limits) (sym (allowed.whole reader.whole)) allowed.wide) p within)
+
+-- ---- the whole history
+
+both_start : (a b : List Commit) → Extends a b → Extends b a → a ≡ b
+both_start a b ([], e) h = e ∙ append-nil b
+both_start a b (x ∷ r, e) (q, f) = absurd (let m = ap length e in let n = ap length f in omega (arith, length-append b (x ∷ r), length-append a q))
+
+-- a session that has seen at least the history has seen no more
+pub seen_all : (store : Store) (a b : Sitting) (s : ℕ) → Reads store a b s → Possible b.view → Extends (knows b.view s).seen (history_of a.view.limits (words_in a.view)) → (knows b.view s).seen ≡ history_of a.view.limits (words_in a.view)
+seen_all store a b s reads p least = both_start (knows b.view s).seen (history_of a.view.limits (words_in a.view)) least
+    (subst (λ (all : List Commit). Extends all (knows b.view s).seen) (λ i. history_of (reads.limits i) (shown (reads.limits i) ((sym (p.allowed.whole reads.reader.whole) ∙ reads.words) i)))
+    (is_seen b.view p.words p.known p.merger p.allowed s reads.reader.host))
+
+-- what was seen grows
+pub seen_grows : (store : Store) (a b : Sitting) (s : ℕ) → Reads store a b s → Extends (knows b.view s).seen (knows a.view s).seen
+seen_grows store a b s reads = (reads.peeks.peeked.later, ap (λ (k : Known). k.seen) reads.peeks.peeked.is)
 
 -- ---- by the address
 

@@ -1,5 +1,6 @@
 -- What a session knows after it has only looked at words, where it had neither a record nor the turn in hand.
 use Rattle.std.specs.Prelude.{◌≡◌, ℕ, ◌<◌, List, ◌++◌, true}
+use Rattle.std.specs.List.{All}
 use Rattle.lst_layout.specs.Words.{Words, shown}
 use Rattle.lst_model.specs.declared.commits.Commit.{Commit}
 use Rattle.lst_core_state.specs.declared.known.Known.{Known}
@@ -13,14 +14,16 @@ use Rattle.lst_rule.specs.Learned.{Learns, Kept}
 use Rattle.lst_rule.specs.declared.store.Store.{Store}
 use Rattle.lst_rule.specs.Seats.{Sitting}
 use Rattle.lst_rule.specs.Stores.{IsSeatOf}
+use Rattle.lst_sights.specs.Watching.{IsNotFull}
 
--- v is u with more facts, finds and commits seen, and other words loaded last
+-- v is u with more facts, finds and commits seen, and other words loaded last. No counter was found full
 pub record Peeked (u v : Known) : Type 0 where
   pub facts : List Fact
   pub finds : List Find
   pub later : List Commit
   pub looks : Looks
   pub is : v ≡ record u { seen = u.seen ++ later; facts = u.facts ++ facts; finds = u.finds ++ finds; looks = looks }
+  pub room : All IsNotFull finds
 
 -- of the sessions and the merger only s has looked, and what it has committed stays, as do the words that the view knows
 pub record Peeks (v w : View) (s : ℕ) : Type 0 where

@@ -17,8 +17,8 @@ use lst_rule::{Seat, Store};
 use std::alloc::Global;
 
 /// The history of the store, as its log and its tail records have it, read by a seat that knows each word: each commit at its time, with its
-/// writes by key. It stores nothing. The session may have neither a record nor the turn in hand. It answers want of memory where the list
-/// finds none.
+/// writes by key. It stores nothing, and the session `s` has then seen the whole of it. The session may have neither a record nor the turn
+/// in hand. It answers want of memory where the list finds none.
 pub fn history(
     alloc: Global,
     store: &Store,
@@ -34,14 +34,16 @@ pub fn history(
     ensures seat { IsSeatOf store.now seat.new }
     ensures ok { IfOk result (λ all. all ≡ history_of seat.old.view.limits (shown seat.old.view.limits seat.old.view.words)) }
     ensures looks { Peeks seat.old.view seat.new.view s }
+    ensures seen { IfOk result (λ all. (knows seat.new.view s).seen ≡ history_of seat.old.view.limits (shown seat.old.view.limits seat.old.view.words)) }
 {
     seat.consider();
     let clock = clock(store, seat, s);
     let tails = seat.limits().tail_count();
     let mut commits = commits_until(alloc, store, seat, s, clock)?;
     for done in 0..tails {
-        enter_tail(alloc, store, seat, s, done as u32, clock, &mut commits)?;
+        enter_tail(alloc, store, seat, s, done as u32, &mut commits)?;
     }
+    seat.consider();
     Ok(History::from_items(commits))
 }
 
@@ -52,19 +54,17 @@ fn enter_tail(
     seat: &mut Seat,
     s: u32,
     done: u32,
-    clock: u64,
     commits: &mut Vec<Commit>,
 ) -> Result<(), OutOfMemory>
     requires reader { IsReader store.now seat.old s }
     requires done { done < tail_count seat.old.view.limits }
-    requires clock { clock ≡ (words_in seat.old.view).clock }
     requires commits { commits.old.items ≡ history_until seat.old.view.limits (words_in seat.old.view) done }
     ensures reads { Reads store.now seat.old seat.new s }
     ensures ok { OnOk result (commits.new.items ≡ history_until seat.old.view.limits (words_in seat.old.view) (done + 1)) }
 {
     seat.consider();
     let tail = done + 1;
-    match commit_time(store, seat, s, tail, clock) {
+    match commit_time(store, seat, s, tail) {
         Some(time) => {
             let write = tail_write(store, seat, s, tail);
             enter(alloc, commits, time, write)

@@ -1,16 +1,19 @@
 //! Single words of a store, as a seat reads them that knows each.
 ghost use Rattle.std.specs.Prelude.{◌≡◌, ◌<◌, ◌≤◌};
 ghost use Rattle.lst_layout.specs.Addresses as layout;
-ghost use Rattle.lst_layout.specs.declared.place.Place.TheVariants.{BeginWord, StateWord, KeyWord, CellWord};
+ghost use Rattle.lst_layout.specs.declared.place.Place.TheVariants.{BeginWord, KeyWord, CellWord};
+ghost use Rattle.lst_core_state.specs.State.{history_of};
+ghost use Rattle.lst_rule.specs.Rule.{knows};
 ghost use Rattle.lst_history.specs.Peeks.{words_in, IsReader, Reads};
 
-use lst_rule::{Seat, Store, load, load_cell, load_clock, load_key, load_state};
+use lst_rule::{Seat, Store, load, load_cell, load_clock, load_key};
 
-/// The number of commits.
+/// The number of commits. The session has then seen each of them.
 pub(crate) fn clock(store: &Store, seat: &mut Seat, s: u32) -> u64
     requires reader { IsReader store.now seat.old s }
     ensures reads { Reads store.now seat.old seat.new s }
     ensures word { result ≡ (words_in seat.old.view).clock }
+    ensures seen { (knows seat.new.view s).seen ≡ history_of seat.old.view.limits (words_in seat.old.view) }
 {
     load_clock(store, seat, s)
 }
@@ -36,16 +39,6 @@ pub(crate) fn begin_word(store: &Store, seat: &mut Seat, s: u32, session: u32, n
 {
     let address = store.layout().transactions(session, number, 0);
     load(store, seat, s, address)
-}
-
-/// The state word of a transaction.
-pub(crate) fn state_word(store: &Store, seat: &mut Seat, s: u32, session: u32, number: u32) -> u64
-    requires reader { IsReader store.now seat.old s }
-    requires within { layout.IsWithin seat.old.view.limits (StateWord session number) }
-    ensures reads { Reads store.now seat.old seat.new s }
-    ensures word { result ≡ (words_in seat.old.view).states session number }
-{
-    load_state(store, seat, s, session, number)
 }
 
 /// The key of a record.

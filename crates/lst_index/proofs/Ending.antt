@@ -15,7 +15,7 @@ use Rattle.lst_core_state.specs.State.{history_of, sight}
 use Rattle.lst_core_state.proofs.IndexKept.{absent, not_full}
 use Rattle.lst_core_state.proofs.Positions.{placed_says}
 use Rattle.lst_core_state.proofs.Statements.{histories_are_sound, absent_is_unseen}
-use Rattle.lst_core.specs.Reading.{state_over}
+use Rattle.lst_core_state.specs.State.{state_over}
 use Rattle.lst_rule.specs.declared.view.View.{View}
 use Rattle.lst_rule.specs.Rule.{knows, hosts, Allowed}
 use Rattle.lst_rule.specs.Learned.{Possible}

@@ -13,17 +13,17 @@ use Rattle.lst_core_state.specs.declared.facts.Fact.TheVariants.{IndexAt}
 use Rattle.lst_core_state.specs.Cells.{record_count}
 use Rattle.lst_core_state.specs.Index.{size, position_of}
 use Rattle.lst_core_state.specs.Step.{gives_up, given_up, after}
-use Rattle.lst_core.specs.Reading.{state_over}
+use Rattle.lst_core_state.specs.State.{state_over}
 use Rattle.lst_rule.specs.declared.view.View.{View}
 use Rattle.lst_rule.specs.Rule.{knows, hosts}
 use Rattle.lst_rule.specs.Learned.{Learns, Possible}
 use Rattle.lst_rule.proofs.Knowing.{is_fact, knows_own}
 use Rattle.lst_rule.specs.Stores.{Looked}
-use Rattle.lst_index.specs.Searches.{IsPlaced, Passed, Ended, Works, Keeps}
+use Rattle.lst_index.specs.Searches.{IsPlaced, Passed, EndedSince, Works, Keeps}
 use Rattle.lst_index.specs.Placings.{HasRecord}
 use Rattle.lst_index.specs.Visits.{Shows, Holds, HasOne}
 use Rattle.lst_index.proofs.Lists.{contains_last}
-use Rattle.lst_index.proofs.Views.{reworked, works_of, works_stay}
+use Rattle.lst_index.proofs.Views.{reworked, works_of, works_none, works_stay}
 use Rattle.lst_index.proofs.Wholes.{met_word}
 use Rattle.lst_index.proofs.Ending.{passed_more}
 
@@ -75,19 +75,22 @@ module _ (v w : View) (s q x : ℕ) (h : Looked v w s (IndexWord q) x) (hosted :
   index_free free whole = met_word v w (Look s (address v.limits (IndexWord q))) (IndexWord q) x x h.met whole ∙ free
 
   -- an empty one, after positions that hold other keys
-  pub index_ends : (key n : ℕ) → x ≡ 0 → n < size v.limits → q ≡ position_of v.limits key n → Passed v.limits k.facts key n → Ended w s key
+  pub index_ends : (key n : ℕ) → x ≡ 0 → n < size v.limits → q ≡ position_of v.limits key n → Passed v.limits k.facts key n → EndedSince v w s key
   index_ends key n free short is p = let t = h.met.made.told in let same : w.limits ≡ v.limits = h.view.limits in record {
-    turn = n;
-    short = subst (λ (l : Limits). n < size l) (sym same) short;
-    passed = subst (λ (l : Limits). Passed l (knows w s).facts key n) (sym same) (passed_more v.limits k.facts (knows w s).facts key n (works_stay v w s [] index_works) p);
-    before = v;
-    look = subst (λ (z : ℕ). Looked v w s (IndexWord z) 0) (is ∙ ap (λ (l : Limits). position_of l key n) (sym same)) (subst (λ (y : ℕ). Looked v w s (IndexWord q) y) free h);
-    words = slice_set t.words (address v.limits (IndexWord q)) x;
-    known = (after (state_over v.limits t.words t.known t.merger) (Look s (address v.limits (IndexWord q)))).known;
-    merger = (after (state_over v.limits t.words t.known t.merger) (Look s (address v.limits (IndexWord q)))).merger;
-    allowed = t.after;
-    empty = subst (λ (l : Limits). (shown l (slice_set t.words (address v.limits (IndexWord q)) x)).index (position_of l key n) ≡ 0) (sym same)
-        (ap (λ (z : Words). z.index (position_of v.limits key n)) t.shows ∙ (ap W.index (sym is) ∙ (at ∙ free)));
+    ended = record {
+      turn = n;
+      short = subst (λ (l : Limits). n < size l) (sym same) short;
+      passed = subst (λ (l : Limits). Passed l (knows w s).facts key n) (sym same) (passed_more v.limits k.facts (knows w s).facts key n (works_stay v w s [] index_works) p);
+      before = v;
+      look = subst (λ (z : ℕ). Looked v w s (IndexWord z) 0) (is ∙ ap (λ (l : Limits). position_of l key n) (sym same)) (subst (λ (y : ℕ). Looked v w s (IndexWord q) y) free h);
+      words = slice_set t.words (address v.limits (IndexWord q)) x;
+      known = (after (state_over v.limits t.words t.known t.merger) (Look s (address v.limits (IndexWord q)))).known;
+      merger = (after (state_over v.limits t.words t.known t.merger) (Look s (address v.limits (IndexWord q)))).merger;
+      allowed = t.after;
+      empty = subst (λ (l : Limits). (shown l (slice_set t.words (address v.limits (IndexWord q)) x)).index (position_of l key n) ≡ 0) (sym same)
+          (ap (λ (z : Words). z.index (position_of v.limits key n)) t.shows ∙ (ap W.index (sym is) ∙ (at ∙ free)));
+    };
+    since = works_none v s;
   }
 
 -- ---- a key word

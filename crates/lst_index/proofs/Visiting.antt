@@ -16,8 +16,8 @@ use Rattle.lst_rule.specs.declared.store.Store.{Store}
 use Rattle.lst_rule.specs.Seats.{Sitting}
 use Rattle.lst_rule.specs.Stores.{IsSeatOf}
 use Rattle.lst_rule.specs.declared.records.RecordId.{RecordId}
-use Rattle.lst_index.specs.Searches.{Passed, Ended, IsUnseen, Works, Keeps}
-use Rattle.lst_index.specs.Placings.{Drew, IsFull, FoundFull, full_finds, WasUnplaced, DrawsAfterLook}
+use Rattle.lst_index.specs.Searches.{Passed, EndedSince, IsUnseen, Works, Keeps}
+use Rattle.lst_index.specs.Placings.{Drew, IsFull, FoundFull, full_finds, DrawsAfterLook}
 use Rattle.lst_index.specs.Visits.{one, Uses, HasOne, Holds, Rests, Places}
 use Rattle.lst_index.proofs.Views.{works_none, works_on, works_host, uses_on, uses_one, uses_same, uses_keeps}
 use Rattle.lst_index.proofs.Ending.{ended_unseen}
@@ -36,14 +36,18 @@ if_none (Some x) f p = p
 pub unseen_on : (v w : View) (s key : ℕ) (finds : List Find) → Works v w s finds → IsUnseen (knows v s) key → IsUnseen (knows w s) key
 unseen_on v w s key finds a e = subst (λ (k : Known). IsUnseen k key) (sym a.view.now) record { commits = e.commits; own = e.own }
 
-pub found_full : (v t w : View) (s key : ℕ) → hosts v s ≡ true → s < v.limits.sessions → Works v t s [] → Ended t s key → Works t w s (FullRecords ∷ []) → IsFull w s → FoundFull v w s key
+-- what was found in a later part of a call was found in the call
+pub ended_since : (u v w : View) (s key : ℕ) → Works u v s [] → EndedSince v w s key → EndedSince u w s key
+ended_since u v w s key a e = record { ended = e.ended; since = works_on u v e.ended.before s [] a e.since }
+
+pub found_full : (v t w : View) (s key : ℕ) → hosts v s ≡ true → s < v.limits.sessions → Works v t s [] → EndedSince v t s key → Works t w s (FullRecords ∷ []) → IsFull w s → FoundFull v w s key
 found_full v t w s key hosted low a ended b full = record {
   then = t;
   before = a;
   ended = ended;
   after = b;
   full = full;
-  unseen = unseen_on t w s key (FullRecords ∷ []) b (ended_unseen t s key (works_host v t s [] a hosted) (subst (λ (l : Limits). s < l.sessions) (sym a.view.limits) low) ended);
+  unseen = unseen_on t w s key (FullRecords ∷ []) b (ended_unseen t s key (works_host v t s [] a hosted) (subst (λ (l : Limits). s < l.sessions) (sym a.view.limits) low) ended.ended);
 }
 
 -- ---- what the record in hand may be after a look, q, and a comparison, r
@@ -122,13 +126,13 @@ unseen_before : (v w : View) (s key : ℕ) (finds : List Find) → Works v w s f
 unseen_before v w s key finds a u = let t = subst (λ (k : Known). IsUnseen k key) a.view.now u in record { commits = t.commits; own = t.own }
 
 -- a look that found the key's run ended
-pub looked_first : (v t w : View) (s key : ℕ) → hosts v s ≡ true → s < v.limits.sessions → Works v t s [] → (knows t s).placing ≡ (knows v s).placing → Ended t s key → DrawsAfterLook v w s key
-looked_first v t w s key host low a same ended = inr record { then = t; before = a; drawn = ap (λ (p : Placing). p.drawn) same; ended = ended; unseen = unseen_before v t s key [] a (ended_unseen t s key (works_host v t s [] a host) (subst (λ (l : Limits). s < l.sessions) (sym a.view.limits) low) ended) }
+pub looked_first : (v t w : View) (s key : ℕ) → hosts v s ≡ true → s < v.limits.sessions → Works v t s [] → (knows t s).placing ≡ (knows v s).placing → EndedSince v t s key → DrawsAfterLook v w s key
+looked_first v t w s key host low a same ended = inr record { then = t; before = a; drawn = ap (λ (p : Placing). p.drawn) same; ended = ended; unseen = unseen_before v t s key [] a (ended_unseen t s key (works_host v t s [] a host) (subst (λ (l : Limits). s < l.sessions) (sym a.view.limits) low) ended.ended) }
 
 pub looked_on : (u v w : View) (s key : ℕ) → Works u v s [] → DrawsAfterLook u v s key → DrawsAfterLook v w s key → DrawsAfterLook u w s key
 looked_on u v w s key a (inr x) b = inr x
 looked_on u v w s key a (inl e) (inl f) = inl (f ∙ e)
-looked_on u v w s key a (inl e) (inr x) = inr record { then = x.then; before = works_on u v x.then s [] a x.before; drawn = x.drawn ∙ e; ended = x.ended; unseen = unseen_before u v s key [] a x.unseen }
+looked_on u v w s key a (inl e) (inr x) = inr record { then = x.then; before = works_on u v x.then s [] a x.before; drawn = x.drawn ∙ e; ended = ended_since u v x.then s key a x.ended; unseen = unseen_before u v s key [] a x.unseen }
 
 pub place_on : (store : Store) (v : View) (seat on : Sitting) (s key n : ℕ) → Places store v seat s key n → Works seat.view on.view s [] → IsSeatOf store on
     → Uses (knows seat.view s).placing (knows on.view s).placing (one (knows on.view s).placing.has_key) × Holds (knows on.view s).placing key × Passed store.layout.limits (knows on.view s).facts key (n + 1)
@@ -164,7 +168,7 @@ pub full_on : (u v w : View) (s key : ℕ) → Works u v s [] → FoundFull v w 
 full_on u v w s key a f = record {
   then = f.then;
   before = works_on u v f.then s [] a f.before;
-  ended = f.ended;
+  ended = ended_since u v f.then s key a f.ended;
   after = f.after;
   full = f.full;
   unseen = f.unseen;

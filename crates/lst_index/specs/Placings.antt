@@ -13,7 +13,7 @@ use Rattle.lst_core_state.specs.Cells.{record_count}
 use Rattle.lst_core_state.specs.Index.{size}
 use Rattle.lst_rule.specs.declared.view.View.{View}
 use Rattle.lst_rule.specs.Rule.{knows}
-use Rattle.lst_index.specs.Searches.{Ended, IsUnseen, Works}
+use Rattle.lst_index.specs.Searches.{EndedSince, IsUnseen, Works}
 
 -- at most m records were drawn
 pub record Drew (before now : Placing) (m : ℕ) : Type 0 where
@@ -29,7 +29,7 @@ IsFull v s = (n : ℕ) × (record_count v.limits ≤ n) × Contains (knows v s).
 pub record FoundFull (v w : View) (s key : ℕ) : Type 0 where
   pub then : View
   pub before : Works v then s []
-  pub ended : Ended then s key
+  pub ended : EndedSince v then s key
   pub after : Works then w s (FullRecords ∷ [])
   pub full : IsFull w s
   pub unseen : IsUnseen (knows w s) key
@@ -40,7 +40,7 @@ pub record WasUnplaced (v : View) (s key : ℕ) : Type 0 where
   pub then : View
   pub before : Works v then s []
   pub drawn : (knows then s).placing.drawn ≡ (knows v s).placing.drawn
-  pub ended : Ended then s key
+  pub ended : EndedSince v then s key
   pub unseen : IsUnseen (knows v s) key
 
 -- a record is drawn only for a key that was found without one

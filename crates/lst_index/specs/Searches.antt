@@ -54,6 +54,11 @@ pub record Works (v w : View) (s : ℕ) (finds : List Find) : Type 0 where
     looks = record (knows v s).looks { index = (knows w s).looks.index };
   })
 
+-- the key's run was found to end without it, by a load that was made after the view was u
+pub record EndedSince (u v : View) (s key : ℕ) : Type 0 where
+  pub ended : Ended v s key
+  pub since : Works u ended.before s []
+
 -- the record in hand is still in hand, or is given up
 abbrev pub Keeps : Placing → Placing → Type 0
 Keeps before now = (now ≡ before) ⊎ ((0 < before.hand) × (now ≡ record before { hand = 0; has_key = false }))

@@ -14,7 +14,7 @@ use Rattle.lst_rule.specs.Learned.{Kept}
 use Rattle.lst_rule.specs.declared.store.Store.{Store}
 use Rattle.lst_rule.specs.Seats.{Sitting}
 use Rattle.lst_rule.specs.Stores.{IsSeatOf}
-use Rattle.lst_index.specs.Searches.{Passed, Ended, Works, Keeps}
+use Rattle.lst_index.specs.Searches.{Passed, EndedSince, Works, Keeps}
 use Rattle.lst_index.specs.Placings.{drawn_words, claimed_words, DrawsAfterLook}
 
 -- the search of s for the key, which began with the view v, has passed n positions
@@ -54,7 +54,7 @@ pub record Shows (k : Known) (q r : ℕ) : Type 0 where
 
 -- the position is empty: the run of a key whose positions before it were known to hold other keys ends there
 abbrev pub Ends : Limits → View → View → ℕ → ℕ → Type 0
-Ends l v w s q = (key n : ℕ) → n < size l → q ≡ position_of l key n → Passed l (knows v s).facts key n → Ended w s key
+Ends l v w s q = (key n : ℕ) → n < size l → q ≡ position_of l key n → Passed l (knows v s).facts key n → EndedSince v w s key
 
 -- ---- the words of a view that knows each word
 

@@ -4,14 +4,14 @@ ghost use Rattle.lst_core_state.specs.Cells.{record_count};
 ghost use Rattle.lst_rule.specs.Rule.{knows, hosts};
 ghost use Rattle.lst_rule.specs.Learned.{Kept};
 ghost use Rattle.lst_rule.specs.Stores.{IsSeatOf};
-ghost use Rattle.lst_index.specs.Searches.{Ended, IsPlaced, IsUnseen, Works, Keeps};
+ghost use Rattle.lst_index.specs.Searches.{Ended, EndedSince, IsPlaced, IsUnseen, Works, Keeps};
 
 use crate::positions::position;
 use crate::visits::{compare, look};
 use lst_model::Key;
 use lst_rule::{RecordId, Seat, Store};
 
-/// The record of a key. None comes exactly where the key's run was found to end without it: then no commit that the session has
+/// The record of a key. None comes exactly where the key's run was found to end without it, by a load in this call: then no commit that the session has
 /// seen wrote the key, and its open transaction sees nothing of it.
 ///
 /// A record that the session has in hand is given up where its key shows on the record that is found.
@@ -25,6 +25,7 @@ pub fn find(store: &Store, seat: &mut Seat, s: u32, key: Key) -> Option<RecordId
     ensures keeps { Keeps (knows seat.old.view s).placing (knows seat.new.view s).placing }
     ensures some { IfSome result (λ r. (r.number < record_count store.now.layout.limits) × IsPlaced (knows seat.new.view s) r.number key) }
     ensures none { IfNone result (Ended seat.new.view s key) }
+    ensures since { IfNone result (EndedSince seat.old.view seat.new.view s key) }
     ensures unseen { IfNone result (IsUnseen (knows seat.new.view s) key) }
 {
     let all = store.layout().index_positions() as u32;

@@ -1,5 +1,5 @@
 -- A seat's step on one word, from what its caller knows.
-use Rattle.std.proofs.Common.{get_or, ◌≡◌, ℕ, List, true, set, sym, subst, ap, ◌∙◌, slice_index, length, length-set}
+use Rattle.std.proofs.Common.{get_or, ◌≡◌, ℕ, List, Bool, true, set, sym, subst, ap, ◌∙◌, slice_index, length, length-set}
 use Rattle.lst_layout.specs.declared.limits.Limits.{Limits}
 use Rattle.lst_layout.specs.declared.place.Place.{Place}
 use Rattle.lst_layout.specs.Addresses as layout
@@ -8,9 +8,9 @@ use Rattle.lst_layout.specs.Words.{shown}
 use Rattle.lst_core_state.specs.declared.known.Known.{Known}
 use Rattle.lst_core_state.specs.declared.events.Event.{Event}
 use Rattle.lst_core_state.specs.Step.{session_of, IsWithin, Enabled, known_after}
-use Rattle.lst_core.specs.declared.numbers.Numbers.{Numbers}
-use Rattle.lst_core.specs.Numbers.{place_for, written_of, numbers_after}
-use Rattle.lst_core.specs.Targets.{time_for}
+use Rattle.lst_core_state.specs.declared.numbers.Numbers.{Numbers}
+use Rattle.lst_core_state.specs.Numbers.{place_for, written_of, numbers_after}
+use Rattle.lst_core_state.specs.Targets.{time_for}
 use Rattle.lst_rule.specs.declared.view.View.{View}
 use Rattle.lst_rule.specs.Rule.{knows, hosts, Allowed, Ready, Told}
 use Rattle.lst_rule.specs.Learned.{CanStand, Made, Met}
@@ -60,28 +60,37 @@ module _ (l : Limits) (n : Numbers) (e : Event) (s i : ℕ) (u v : View) (asks :
   acts_found x y w h = subst (λ (z : View). (t : Told e (address v.limits P) x z w) × (slice_index t.words (address v.limits P) ≡ y)) asks.same
       (subst (λ (k : ℕ). (t : Told e k x u w) × (slice_index t.words k ≡ y)) word h)
 
-  pub acts_made : (x : ℕ) (w : View) → Told e i x u w → Made v w e P x
-  acts_made x w t = made v w e P x (acts_told x w t) own.0
+  -- what it writes, by the numbers that the view has of the session
+  written : (time y : ℕ) → written_of l n time e y ≡ written_of v.limits (told v s) time e y
+  written time y = λ j. written_of (sym asks.limits j) (asks.numbers j) time e y
+
+  -- a step that finds no number
+  pub acts_made : (time x : ℕ) (w : View) → Told e i x u w → x ≡ written_of l n time e 0 → Made v w e P (written_of v.limits (told v s) time e 0)
+  acts_made time x w t is = subst (Made v w e P) (is ∙ written time 0) (made v w e P x (acts_told x w t) own.0)
 
   acts_within : (w : View) (x : ℕ) → Told e (address v.limits P) x v w → layout.IsWithin v.limits P
   acts_within w x t = subst (λ (k : ℕ). layout.IsWithin v.limits (place_for v.limits (told v k) e)) asks.session (allowed_steps v e t.words t.known t.merger t.allowed own.0 asks.within own.1).within
 
-  pub acts_met : (x y : ℕ) (w : View) → (h : (t : Told e i x u w) × (slice_index t.words i ≡ y)) → Met v w e P x y
-  acts_met x y w h = let g = acts_found x y w h in met v w e P x y (acts_within w x g.0) g own.0
+  -- a step that finds y
+  pub acts_met : (x y : ℕ) (w : View) → (t : Told e i x u w) × (slice_index t.words i ≡ y) → x ≡ written_of l n 0 e y → Met v w e P (written_of v.limits (told v s) 0 e y) y
+  acts_met x y w h is = let g = acts_found x y w h in subst (λ (z : ℕ). Met v w e P z y) (is ∙ written 0 y) (met v w e P x y (acts_within w x g.0) g own.0)
 
-  -- the numbers after the step that found y are the new view's
-  module _ (numbers : List Numbers) (tells : Tells u numbers) (w : View) (x : ℕ) where
+  -- the limits, the hosts and the numbers that a seat keeps are those of its view after the step too, which found y (`none`: it has no
+  -- part of the table in hand)
+  module _ (numbers : List Numbers) (tells : Tells u numbers) (limits : Limits) (hosted : List Bool) (limits_are : limits ≡ u.limits) (hosted_are : hosted ≡ u.hosts) where
     here : Tells v numbers
     here = subst (λ (z : View). Tells z numbers) asks.same tells
 
-    pub acts_tells : (t : Told e (address v.limits P) x v w) (y : ℕ) → slice_index t.words (address v.limits P) ≡ y → (a : Numbers) → a ≡ numbers_after l e y n → Tells w (set numbers s a)
-    acts_tells t y found a is = tells_after v w numbers e (address v.limits P) x s a here asks.session asks.hosted t
-        (becomes v e t.words t.known t.merger t.allowed own.0 asks.within own.1
-        ∙ ((λ j. numbers_after (asks.limits j) e (slice_index t.words (address v.limits (place_for v.limits (told v (asks.session j)) e))) ((ap (told v) asks.session ∙ sym asks.numbers) j)) ∙ (ap (λ (z : ℕ). numbers_after l e z n) found ∙ sym is)))
-
--- numbers that are read at its place in the seat's list are the session's
-pub acts_same : (l : Limits) (n : Numbers) (e : Event) (s i : ℕ) (u v : View) → Asks l n e s i u v → (numbers : List Numbers) → Tells u numbers → (m : Numbers) → m ≡ get_or numbers s m → m ≡ n
-acts_same l n e s i u v asks numbers tells m read = reads u v numbers s m asks.same tells read asks.hosted ∙ sym asks.numbers
+    pub acts_keep : {A : Type 0} → A → (x y : ℕ) (w : View) → (t : Told e i x u w) × (slice_index t.words i ≡ y) → (m a : Numbers) → m ≡ get_or numbers s m → a ≡ numbers_after l e y m → A × (limits ≡ w.limits) × (hosted ≡ w.hosts) × Tells w (set numbers s a)
+    acts_keep none x y w h m a read is = let g = acts_found x y w h in (
+      none,
+      limits_are ∙ sym (ap (λ (z : View). z.limits) h.0.now),
+      hosted_are ∙ sym (ap (λ (z : View). z.hosts) h.0.now),
+      tells_after v w numbers e (address v.limits P) x s a here asks.session asks.hosted g.0
+          (becomes v e g.0.words g.0.known g.0.merger g.0.allowed own.0 asks.within own.1
+          ∙ ((λ j. numbers_after (asks.limits j) e (slice_index g.0.words (address v.limits (place_for v.limits (told v (asks.session j)) e))) ((ap (told v) asks.session ∙ sym asks.numbers) j))
+          ∙ (ap (λ (z : ℕ). numbers_after l e z n) g.1 ∙ sym (is ∙ ap (numbers_after l e y) (reads u v numbers s m asks.same tells read asks.hosted ∙ sym asks.numbers))))),
+    )
 
 -- the seat is still one of the store
 pub still_seat : (store : Store) (a b : Sitting) (e : Event) (i x : ℕ) → IsSeatOf store a → b.table ≡ a.table → Told e i x a.view b.view → IsSeatOf store b

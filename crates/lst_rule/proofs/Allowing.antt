@@ -19,7 +19,7 @@ use Rattle.lst_core_state.specs.Step.{session_of, known_of, IsWithin, Enabled, S
 use Rattle.lst_core_state.specs.Facts.{IsFact}
 use Rattle.lst_core_state.specs.Sound.{FactsOf, Sound}
 use Rattle.lst_core_state.proofs.Keeps as kept
-use Rattle.lst_core.specs.Reading.{state_over}
+use Rattle.lst_core_state.specs.State.{state_over}
 use Rattle.lst_rule.specs.declared.view.View.{View}
 use Rattle.lst_rule.specs.Rule.{knows, hosts, Fits, Ruled, view_after, Allowed, Makes, Ready, Told}
 use Rattle.lst_rule.proofs.Afters.{after_limits, after_words, after_here, after_else, after_history, after_facts}

@@ -12,11 +12,11 @@ use Rattle.lst_core_state.specs.Step.{IsWithin, Enabled}
 use Rattle.lst_core_state.specs.Sound.{Sound}
 use Rattle.lst_core_state.proofs.CellsKept.{tail_at-some}
 use Rattle.lst_core_state.proofs.Room.{seen_few}
-use Rattle.lst_core.specs.Numbers.{numbers_of, Allows}
-use Rattle.lst_core.specs.Bounds.{IsWritable}
-use Rattle.lst_core.proofs.Numbered.{enabled_allows}
-use Rattle.lst_core.proofs.Stepping.{begin_fits, tail_fits, head_fits, rows_few, tails_few}
-use Rattle.lst_core.proofs.Walking.{first_link}
+use Rattle.lst_core_state.specs.Numbers.{numbers_of, Allows}
+use Rattle.lst_core_state.specs.Bounds.{IsWritable}
+use Rattle.lst_core_state.proofs.Numbered.{enabled_allows}
+use Rattle.lst_core_state.proofs.Bounds.{begin_fits, tail_fits, head_fits, rows_few, tails_few}
+use Rattle.lst_core_state.proofs.Lists.{first_link}
 
 module _ (c : Core) (sound : Sound c) (s : ℕ) (low : s < c.limits.sessions) where
   abbrev L : Limits

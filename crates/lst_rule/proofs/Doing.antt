@@ -8,8 +8,8 @@ use Rattle.lst_layout.specs.declared.place.Place.{Place}
 use Rattle.lst_layout.specs.declared.place.Place.TheVariants.{ClockWord, CommitWord, EpochWord, RecordCounter, LogWord, BeginWord, StateWord, KeyWord, IndexWord, HeadWord, TailCounter, CellWord, DirectoryWord, FrameWord, PinWord, PostingWord}
 use Rattle.lst_core_state.specs.declared.events.Event.{Event}
 use Rattle.lst_core_state.specs.declared.events.Event.TheVariants.{Look, Begin, Take, Log, State, Clock, Give, Close, DrawRecord, StoreKey, Claim, Latch, DrawTail, StoreCell, Install, Release, Stamp}
-use Rattle.lst_core.specs.declared.numbers.Numbers.{Numbers}
-use Rattle.lst_core.specs.Numbers.{written_of, numbers_look, numbers_after}
+use Rattle.lst_core_state.specs.declared.numbers.Numbers.{Numbers}
+use Rattle.lst_core_state.specs.Numbers.{written_of, numbers_look, numbers_after}
 use Rattle.lst_rule.specs.Operations.{IsStore, IsExchange, IsDraw, IsLatch, IsQuiet}
 
 -- what a store leaves doesn't depend on what it found

@@ -16,11 +16,11 @@ use Rattle.lst_core_state.specs.State.{Core}
 use Rattle.lst_core_state.specs.Step.{session_of, known_of, IsWithin, Enabled, words_after, known_after}
 use Rattle.lst_core_state.specs.Sound.{Sound}
 use Rattle.lst_core_state.proofs.Keeps.{session_low}
-use Rattle.lst_core.specs.Numbers.{numbers_of, place_for, written_of, numbers_after}
-use Rattle.lst_core.specs.Targets.{time_for}
-use Rattle.lst_core.specs.Reading.{state_over}
-use Rattle.lst_core.proofs.Numbered.{numbers_law, look_numbers}
-use Rattle.lst_core.proofs.Stepped as stepped
+use Rattle.lst_core_state.specs.Numbers.{numbers_of, place_for, written_of, numbers_after}
+use Rattle.lst_core_state.specs.Targets.{time_for}
+use Rattle.lst_core_state.specs.State.{state_over}
+use Rattle.lst_core_state.proofs.Numbered.{numbers_law, look_numbers}
+use Rattle.lst_core_state.proofs.Stepped as stepped
 use Rattle.lst_rule.specs.declared.view.View.{View}
 use Rattle.lst_rule.specs.Rule.{knows, hosts, Allowed, Ready}
 use Rattle.lst_rule.specs.Learned.{CanStand}

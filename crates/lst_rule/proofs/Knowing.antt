@@ -10,8 +10,8 @@ use Rattle.lst_core_state.specs.Facts.{IsFact}
 use Rattle.lst_core_state.specs.State.{Core, rank, history_of, writes_of}
 use Rattle.lst_core_state.proofs.Histories.{length-history}
 use Rattle.lst_core_state.proofs.Room.{clock_low}
-use Rattle.lst_core.proofs.Stepping.{rows_few}
-use Rattle.lst_core.specs.Reading.{state_over}
+use Rattle.lst_core_state.proofs.Bounds.{rows_few}
+use Rattle.lst_core_state.specs.State.{state_over}
 use Rattle.lst_rule.specs.declared.view.View.{View}
 use Rattle.lst_rule.specs.Rule.{knows, hosts, Allowed}
 use Rattle.lst_rule.proofs.Afters.{known_own, known_merger}

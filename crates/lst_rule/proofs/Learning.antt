@@ -10,7 +10,7 @@ use Rattle.lst_core_state.specs.declared.known.Known.{Known}
 use Rattle.lst_core_state.specs.declared.events.Event.{Event}
 use Rattle.lst_core_state.specs.State.{newcomer}
 use Rattle.lst_core_state.specs.Step.{session_of, known_after, after}
-use Rattle.lst_core.specs.Reading.{state_over}
+use Rattle.lst_core_state.specs.State.{state_over}
 use Rattle.lst_rule.specs.declared.view.View.{View}
 use Rattle.lst_rule.specs.Rule.{knows, hosts, Told}
 use Rattle.lst_rule.specs.Learned.{Possible, Learns, Kept, Made, Met}

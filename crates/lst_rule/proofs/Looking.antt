@@ -1,5 +1,5 @@
 -- A load of a seat, from what its caller knows.
-use Rattle.std.proofs.Common.{◌≡◌, ℕ, ◌<◌, ◌≤◌, List, true, get_or, set, sym, refl, subst, ap, ◌∙◌, slice_index, length}
+use Rattle.std.proofs.Common.{◌≡◌, ℕ, ◌<◌, ◌≤◌, List, true, get_or, set, sym, refl, subst, ap, ◌∙◌, slice_index, length, arith}
 use Rattle.lst_layout.specs.declared.limits.Limits.{Limits}
 use Rattle.lst_layout.specs.declared.place.Place.{Place}
 use Rattle.lst_layout.specs.Limits.{IsValid}
@@ -11,16 +11,17 @@ use Rattle.lst_layout.proofs.Apart.{below}
 use Rattle.lst_layout.proofs.Places.{addresses_are_read}
 use Rattle.lst_core_state.specs.declared.events.Event.TheVariants.{Look}
 use Rattle.lst_core_state.specs.Step.{known_after, look_at}
-use Rattle.lst_core.specs.declared.numbers.Numbers.{Numbers}
-use Rattle.lst_core.specs.Numbers.{numbers_of, numbers_look}
+use Rattle.lst_core_state.specs.declared.numbers.Numbers.{Numbers}
+use Rattle.lst_core_state.specs.Numbers.{numbers_of, numbers_look}
 use Rattle.lst_rule.specs.declared.view.View.{View}
 use Rattle.lst_rule.specs.Rule.{knows, hosts, Ready, Told}
 use Rattle.lst_rule.specs.Learned.{Learns}
 use Rattle.lst_rule.proofs.Enabling.{becomes, ready_at}
 use Rattle.lst_rule.proofs.Learning.{met, kept_by}
-use Rattle.lst_rule.specs.Seats.{told, Tells}
+use Rattle.lst_rule.specs.declared.store.Store.{Store}
+use Rattle.lst_rule.specs.Seats.{Sitting, told, Tells}
 use Rattle.lst_rule.specs.Operations.{IsQuiet}
-use Rattle.lst_rule.specs.Stores.{Looked}
+use Rattle.lst_rule.specs.Stores.{IsSeatOf, Looked}
 use Rattle.lst_rule.proofs.Doing.{quiet}
 use Rattle.lst_rule.proofs.Telling.{tells_after, tells_still, reads}
 
@@ -32,6 +33,9 @@ pub record Loads (s a : ℕ) (p : Place) (u v : View) (numbers : List Numbers) :
   pub place : layout.IsWithin v.limits p
   pub at : a ≡ address v.limits p
   pub tells : Tells u numbers
+
+pub loads : (store : Store) (seat : Sitting) (s a : ℕ) (p : Place) (u : View) (numbers : List Numbers) → IsSeatOf store seat → u ≡ seat.view → hosts seat.view s ≡ true → layout.IsWithin seat.view.limits p → a ≡ address seat.view.limits p → Tells u numbers → Loads s a p u seat.view numbers
+loads store seat s a p u numbers is same hosted place at tells = record { same = same; hosted = hosted; low = (let h = is.low s hosted in let e = ap (λ (l : Limits). l.sessions) is.limits in omega arith); place = place; at = at; tells = tells }
 
 module _ (s a : ℕ) (p : Place) (u v : View) (numbers : List Numbers) (loads : Loads s a p u v numbers) where
   abbrev L : Limits

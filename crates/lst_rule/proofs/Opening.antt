@@ -16,7 +16,7 @@ use Rattle.lst_core_state.specs.Runs as runs
 use Rattle.lst_core_state.specs.Step.{known_of}
 use Rattle.lst_core_state.specs.Sound.{Sound}
 use Rattle.lst_core_state.proofs.Starts.{opening_sound}
-use Rattle.lst_core.specs.Reading.{state_over}
+use Rattle.lst_core_state.specs.State.{state_over}
 use Rattle.lst_rule.specs.declared.view.View.{View}
 use Rattle.lst_rule.specs.Rule.{crew, first_words, hosts, Fits, Ruled}
 use Rattle.lst_rule.specs.Learned.{Possible}

@@ -5,10 +5,10 @@ use Rattle.lst_layout.specs.declared.limits.Limits.{Limits}
 use Rattle.lst_layout.specs.Limits.{IsValid}
 use Rattle.lst_layout.specs.Words.{IsOpening}
 use Rattle.lst_core_state.specs.State.{newcomer}
-use Rattle.lst_core.specs.declared.numbers.Numbers.{Numbers}
-use Rattle.lst_core.specs.Numbers.{numbers_of}
-use Rattle.lst_core.specs.Machine.{newcomer_numbers}
-use Rattle.lst_core.proofs.Opened.{newcomer_is}
+use Rattle.lst_core_state.specs.declared.numbers.Numbers.{Numbers}
+use Rattle.lst_core_state.specs.Numbers.{numbers_of}
+use Rattle.lst_core_state.specs.Numbers.{newcomer_numbers}
+use Rattle.lst_core_state.proofs.Numbered.{newcomer_is}
 use Rattle.lst_rule.specs.Rule.{crew}
 use Rattle.lst_rule.proofs.Opening.{same_at, crew_possible}
 use Rattle.lst_rule.specs.Learned.{Possible}

@@ -11,10 +11,10 @@ use Rattle.lst_core_state.specs.declared.events.Event.{Event}
 use Rattle.lst_core_state.specs.State.{newcomer, history_of}
 use Rattle.lst_core_state.specs.Step.{session_of, IsWithin, Enabled, known_after}
 use Rattle.lst_core_state.proofs.Histories.{starts_length}
-use Rattle.lst_core.specs.declared.numbers.Numbers.{Numbers}
-use Rattle.lst_core.specs.Numbers.{numbers_of, place_for}
-use Rattle.lst_core.specs.Bounds.{IsWritable}
-use Rattle.lst_core.specs.Reading.{state_over}
+use Rattle.lst_core_state.specs.declared.numbers.Numbers.{Numbers}
+use Rattle.lst_core_state.specs.Numbers.{numbers_of, place_for}
+use Rattle.lst_core_state.specs.Bounds.{IsWritable}
+use Rattle.lst_core_state.specs.State.{state_over}
 use Rattle.lst_rule.specs.declared.view.View.{View}
 use Rattle.lst_rule.specs.Rule.{knows, hosts, view_after, Told}
 use Rattle.lst_rule.specs.Learned.{Possible}

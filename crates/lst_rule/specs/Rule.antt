@@ -14,7 +14,7 @@ use Rattle.lst_core_state.specs.Cells.{listed}
 use Rattle.lst_core_state.specs.State.{Core, newcomer, history_of}
 use Rattle.lst_core_state.specs.Step.{session_of, known_of, IsWithin, Enabled, Stands, IsEnabled, words_after, known_after, after}
 use Rattle.lst_core_state.specs.Sound.{FactsOf, SeenIsRecorded, Sound}
-use Rattle.lst_core.specs.Reading.{state_over}
+use Rattle.lst_core_state.specs.State.{state_over}
 use Rattle.lst_rule.specs.declared.view.View.{View}
 
 -- ---- what a seat knows

@@ -2,7 +2,7 @@
 //! numbers it changes, is looked up by nobody at run time.
 ghost use Rattle.std.specs.Prelude.{◌≡◌, ◌<◌, ◌^◌, true};
 ghost use Rattle.lst_core_state.specs.Step.{session_of, IsWithin, Enabled};
-ghost use Rattle.lst_core.specs.Numbers.{place_for, written_of};
+ghost use Rattle.lst_core_state.specs.Numbers.{place_for, written_of};
 ghost use Rattle.lst_rule.specs.Rule.{knows, hosts};
 ghost use Rattle.lst_rule.specs.Learned.{CanStand, Times, Made, Met};
 ghost use Rattle.lst_rule.specs.Operations.{IsStore, IsExchange, IsDraw, IsLatch};
@@ -12,7 +12,7 @@ ghost use Rattle.lst_rule.specs.Stores.{IsSeatOf};
 use crate::seat::Seat;
 use crate::store::Store;
 use crate::{add_one, compare_exchange, set_lowest_bit, store_word};
-use lst_core::{Event, advance, target, written};
+use lst_core_state::{Event, advance, target, written};
 
 /// A step that stores a word. A stamp stores the time.
 #[inline(always)]

@@ -9,7 +9,7 @@ ghost use Rattle.lst_rule.specs.Stores.{IsSeatOf, Looked, Clocked};
 use crate::load_word;
 use crate::seat::Seat;
 use crate::store::Store;
-use lst_core::{Event, cell_address, look};
+use lst_core_state::{Event, cell_address, look};
 use lst_layout::Place;
 
 /// A load that changes no number of the session.

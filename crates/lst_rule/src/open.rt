@@ -1,14 +1,14 @@
 //! The opening of a store.
 ghost use Rattle.std.specs.Prelude.{◌≡◌, ◌+◌, IfOk, replicate, true};
 ghost use Rattle.lst_layout.specs.Words.{IsOpening};
-ghost use Rattle.lst_core.specs.Machine.{newcomer_numbers};
+ghost use Rattle.lst_core_state.specs.Numbers.{newcomer_numbers};
 ghost use Rattle.lst_rule.specs.Rule.{crew};
 ghost use Rattle.lst_rule.specs.Stores.{IsSeatOf};
 
 use crate::seat::Seat;
 use crate::store::Store;
 use atomic_table::Table;
-use lst_core::{newcomers, opening_words};
+use lst_core_state::{newcomers, opening_words};
 use lst_layout::Layout;
 use lst_model::OutOfMemory;
 use std::alloc::Global;

@@ -2,7 +2,7 @@
 ghost use Rattle.std.specs.Prelude.{◌≡◌, ◌+◌, MatchOption};
 
 use crate::TableSeat;
-use lst_core::{Event, Numbers};
+use lst_core_state::{Event, Numbers};
 use lst_layout::Limits;
 use std::marker::Model;
 
@@ -31,8 +31,8 @@ impl Seat {
     ghost use Rattle.lst_layout.specs.Addresses as layout;
     ghost use Rattle.lst_layout.specs.Limits.{IsValid};
     ghost use Rattle.lst_core_state.specs.Step.{session_of, Enabled, IsWithin};
-    ghost use Rattle.lst_core.specs.Numbers.{numbers_of, place_for};
-    ghost use Rattle.lst_core.specs.Bounds.{IsWritable};
+    ghost use Rattle.lst_core_state.specs.Numbers.{numbers_of, place_for};
+    ghost use Rattle.lst_core_state.specs.Bounds.{IsWritable};
     ghost use Rattle.lst_rule.specs.Rule.{knows, hosts};
     ghost use Rattle.lst_rule.specs.Learned.{Possible};
 

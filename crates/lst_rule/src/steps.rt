@@ -12,7 +12,7 @@ ghost use Rattle.lst_rule.specs.Stores.{IsSeatOf, Tried};
 use crate::acts::{exchange_event, store_event};
 use crate::seat::Seat;
 use crate::store::Store;
-use lst_core::Event;
+use lst_core_state::Event;
 
 /// Stores the begin word of the next transaction: a begin that the session has seen. Allowed where none is open and the number is below the
 /// limit.

@@ -10,7 +10,7 @@ ghost use Rattle.lst_rule.specs.Stores.{IsSeatOf};
 use crate::acts::{draw_event, exchange_event, latch_event, store_event};
 use crate::seat::Seat;
 use crate::store::Store;
-use lst_core::Event;
+use lst_core_state::Event;
 
 /// Adds one to the record counter, and answers the record drawn, or a number at the limit or above. Allowed with no record in hand, once
 /// a load has found the counter below its limit since the last draw.

@@ -17,7 +17,7 @@ use Rattle.lst_core_state.specs.Cells.{record_count}
 use Rattle.lst_core_state.specs.Index.{is_placed}
 use Rattle.lst_core_state.specs.State.{Core, rank}
 use Rattle.lst_core_state.specs.Step.{refreshed}
-use Rattle.lst_core.specs.Reading.{state_over}
+use Rattle.lst_core_state.specs.State.{state_over}
 use Rattle.lst_rule.specs.declared.view.View.{View}
 use Rattle.lst_rule.specs.Rule.{knows, hosts, Allowed}
 use Rattle.lst_rule.specs.Learned.{Possible, Learns, Kept}

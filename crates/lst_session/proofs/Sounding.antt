@@ -3,7 +3,7 @@ use Rattle.std.proofs.Common.{◌≡◌, sym, subst, arith}
 use Rattle.lst_model.specs.Soundness.{IsSound}
 use Rattle.lst_core_state.specs.declared.known.Known.{Known}
 use Rattle.lst_core_state.proofs.Statements.{histories_are_sound}
-use Rattle.lst_core.specs.Reading.{state_over}
+use Rattle.lst_core_state.specs.State.{state_over}
 use Rattle.lst_rule.specs.Rule.{knows}
 use Rattle.lst_rule.proofs.Knowing.{knows_own}
 use Rattle.lst_session.specs.Laws.{SeenIsSound}

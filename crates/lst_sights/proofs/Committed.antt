@@ -18,7 +18,7 @@ use Rattle.lst_core_state.proofs.Decoded.{logged_apart}
 use Rattle.lst_core_state.proofs.Histories.{length-history, starts_length}
 use Rattle.lst_core_state.proofs.Positions.{placed_holds}
 use Rattle.lst_core_state.proofs.Sightings.{commit_line, history_front}
-use Rattle.lst_core.specs.Reading.{state_over}
+use Rattle.lst_core_state.specs.State.{state_over}
 use Rattle.lst_rule.specs.declared.view.View.{View}
 use Rattle.lst_rule.specs.Rule.{knows, hosts, Allowed}
 use Rattle.lst_rule.proofs.Knowing.{is_fact, is_seen, clock_is}

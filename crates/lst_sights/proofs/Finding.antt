@@ -24,7 +24,7 @@ use Rattle.lst_core_state.proofs.Functions.{either}
 use Rattle.lst_core_state.proofs.Steps.{writer_odd, writer_even}
 use Rattle.lst_core_state.proofs.FactsPart.{more_facts, index_are_facts, chain_are_facts}
 use Rattle.lst_core_state.specs.Index.{size}
-use Rattle.lst_core.specs.Reading.{state_over}
+use Rattle.lst_core_state.specs.State.{state_over}
 use Rattle.lst_rule.specs.declared.view.View.{View}
 use Rattle.lst_rule.specs.Rule.{knows, hosts}
 use Rattle.lst_rule.specs.Learned.{Met}

@@ -13,7 +13,7 @@ use Rattle.lst_core_state.specs.Step.{session_of, IsCommitted, words_after}
 use Rattle.lst_core_state.specs.Sound.{Sound}
 use Rattle.lst_core_state.proofs.CellsKept.{put_in_here, put_in_off, put_in_place}
 use Rattle.lst_core_state.proofs.Steps.{writer_even}
-use Rattle.lst_core.specs.Reading.{state_over}
+use Rattle.lst_core_state.specs.State.{state_over}
 use Rattle.lst_rule.specs.declared.view.View.{View}
 use Rattle.lst_rule.specs.Rule.{knows}
 use Rattle.lst_rule.specs.Learned.{Kept, Made}

@@ -13,7 +13,7 @@ use Rattle.lst_core_state.specs.Facts.{IsFact}
 use Rattle.lst_core_state.specs.State.{Words, Core, rank, entry, name_of}
 use Rattle.lst_core_state.specs.Sound.{Sound}
 use Rattle.lst_core_state.proofs.Steps.{name_entry}
-use Rattle.lst_core.specs.Reading.{state_over}
+use Rattle.lst_core_state.specs.State.{state_over}
 use Rattle.lst_rule.specs.declared.view.View.{View}
 use Rattle.lst_rule.specs.Rule.{knows, hosts, Allowed}
 use Rattle.lst_rule.proofs.Knowing.{knows_own, knows_merger, low_own, is_fact}

@@ -20,7 +20,7 @@ use Rattle.lst_core_state.proofs.Steps.{name_entry}
 use Rattle.lst_core_state.proofs.Positions.{placed_holds}
 use Rattle.lst_core_state.proofs.Sightings.{snapshot_chain}
 use Rattle.lst_core_state.proofs.VersionsKept.{early_of}
-use Rattle.lst_core.specs.Reading.{state_over}
+use Rattle.lst_core_state.specs.State.{state_over}
 use Rattle.lst_rule.proofs.Knowing.{is_fact}
 use Rattle.lst_sights.specs.Laws.{SightsFit}
 use Rattle.lst_sights.proofs.Telling.{own_state, low, is_known, is_on_known}

@@ -15,7 +15,7 @@ use Rattle.lst_core_state.specs.Facts.{IsFact}
 use Rattle.lst_core_state.specs.State.{Words, Core, entry, writer_at, name_of, line, back_in, head_of}
 use Rattle.lst_core_state.proofs.CellsKept.{tail_at-some, tail_at-none, tail_range-is}
 use Rattle.lst_core_state.proofs.Steps.{name_entry}
-use Rattle.lst_core.specs.Reading.{state_over}
+use Rattle.lst_core_state.specs.State.{state_over}
 use Rattle.lst_rule.specs.declared.view.View.{View}
 use Rattle.lst_rule.specs.Rule.{knows, hosts, Allowed}
 use Rattle.lst_rule.proofs.Knowing.{is_fact, knows_own}

@@ -47,13 +47,13 @@ returns-in-Some-clause-words c = found_leaves c.args.seat.now.view c.look.new.se
 pub returns-in_err-take_record-clause-kept : goal.returns-in_err-take_record-clause-kept
 returns-in_err-take_record-clause-kept c = on_err c.from_residual.result (refused_full c.args.seat.now.view c.look.new.seat.view c.args.s c.args.key c.look.ensures.works.view.limits c.look.ensures.works.view.whole c.look.ensures.kept c.look.ensures.placing
     (works_host _ _ _ _ c.look.ensures.works c.requires.host)
-    (c.in_default.ensures.none c.args.key c.args.turn c.requires.turn (c.position-at.ensures.position ∙ ap (λ (y : Layout). position_of y.limits c.args.key c.args.turn) c.layout.ensures) c.requires.passed)
+    ((c.in_default.ensures.none c.args.key c.args.turn c.requires.turn (c.position-at.ensures.position ∙ ap (λ (y : Layout). position_of y.limits c.args.key c.args.turn) c.layout.ensures) c.requires.passed)).ended
     c.take_record.new.seat.view c.in_err-take_record.ensures.kept c.in_err-take_record.ensures.reached)
 
 pub returns-clause-words : goal.returns-clause-words
 returns-clause-words c = settled_leaves c.args.seat.now.view c.look.new.seat.view c.args.s c.args.key c.look.ensures.works.view.limits c.look.ensures.works.view.whole c.look.ensures.kept c.look.ensures.placing
     (works_host _ _ _ _ c.look.ensures.works c.requires.host)
-    (c.in_default.ensures.none c.args.key c.args.turn c.requires.turn (c.position-at.ensures.position ∙ ap (λ (y : Layout). position_of y.limits c.args.key c.args.turn) c.layout.ensures) c.requires.passed)
+    ((c.in_default.ensures.none c.args.key c.args.turn c.requires.turn (c.position-at.ensures.position ∙ ap (λ (y : Layout). position_of y.limits c.args.key c.args.turn) c.layout.ensures) c.requires.passed)).ended
     c.take_record.new.seat.view c.settle.new.seat.view c.position-at.result (subst (λ (l : Limits). c.position-at.result < size l) (ap (λ (y : Layout). y.limits) c.layout.ensures ∙ sym c.requires.seat.limits) c.position-at.ensures.below)
     c.in_ok-take_record.ensures.works.view.limits c.in_ok-take_record.ensures.works.view.whole c.in_default.ensures.free c.in_ok-take_record.ensures.stores c.settle.result c.settle.ensures.stores
 

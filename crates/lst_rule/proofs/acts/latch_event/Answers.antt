@@ -1,71 +1,27 @@
-use Rattle.std.proofs.Common.{ℕ, bit_or, ap, sym, subst, ◌∙◌}
+use Rattle.std.proofs.Common.{◌≡◌, bit_or, ap, ◌∙◌}
 use Rattle.lst_layout.specs.Words.{shown}
-use Rattle.lst_core.specs.Numbers.{place_for, written_of, numbers_after}
-use Rattle.lst_core.specs.Targets.{time_for}
+use Rattle.lst_core_state.specs.Targets.{time_for}
 use Rattle.lst_rule.specs.declared.view.View.{View}
-use Rattle.lst_rule.specs.Learned.{Met}
-use Rattle.lst_rule.specs.Seats.{told}
 use Rattle.lst_rule.proofs.Doing.{latched}
-use Rattle.lst_rule.proofs.Acting.{Asks, acts_ready, acts_told, acts_found, acts_met, acts_tells, acts_same, still_seat}
+use Rattle.lst_rule.proofs.Acting.{Asks, acts_ready, acts_told, acts_met, acts_keep, still_seat}
 use Rattle.lst_rule.proofs.acts.latch_event.Goals as goal
+use Rattle.lst_rule.proofs.acts.latch_event.Goals.{After-target-word}
+
+asked : (c : After-target-word) (u : View) → u ≡ c.args.seat.now.view → Asks c.args.store.now.layout.limits c.numbers-now.result.now c.args.event c.args.s c.target-word.result u c.args.seat.now.view
+asked c u same = record { same = same; limits = c.requires.seat.limits; numbers = c.numbers-now.ensures.is; session = c.requires.session; hosted = c.requires.host; within = c.requires.within; ok = c.requires.enabled; stands = c.requires.stands; at = c.target-word.ensures.address }
 
 pub set_lowest_bit-found-requires-clause-ready : goal.set_lowest_bit-found-requires-clause-ready
-set_lowest_bit-found-requires-clause-ready c = let asked : Asks c.args.store.now.layout.limits c.numbers-now.result.now c.args.event c.args.s c.target-word.result c.seat.inside.place.me.0 c.args.seat.now.view = record {
-  same = ap (λ z. z.view) c.seat.view_is;
-  limits = c.requires.seat.limits;
-  numbers = c.numbers-now.ensures.is;
-  session = c.requires.session;
-  hosted = c.requires.host;
-  within = c.requires.within;
-  ok = c.requires.enabled;
-  stands = c.requires.stands;
-  at = c.target-word.ensures.address;
-} in acts_ready _ _ _ _ _ _ _ asked (λ x. bit_or x 1) (λ words known merger a x. latched c.args.store.now.layout.limits c.numbers-now.result.now (time_for c.args.seat.now.view.limits (shown c.args.seat.now.view.limits words) c.args.event) c.args.event c.requires.kind x)
+set_lowest_bit-found-requires-clause-ready c = acts_ready _ _ _ _ _ _ _ (asked (goal.at.set_lowest_bit-found-requires-clause-ready c).After-target-word c.seat.inside.place.me.0 (ap (λ z. z.view) c.seat.view_is))
+    (λ x. bit_or x 1) (λ words known merger a x. latched c.args.store.now.layout.limits c.numbers-now.result.now (time_for c.args.seat.now.view.limits (shown c.args.seat.now.view.limits words) c.args.event) c.args.event c.requires.kind x)
 
 pub invariant_of-seat : goal.invariant_of-seat
-invariant_of-seat c = let t = c.set_lowest_bit-found.ensures.told.0 in
-    let asked : Asks c.args.store.now.layout.limits c.numbers-now.result.now c.args.event c.args.s c.target-word.result c.seat.inside.place.me.0 c.args.seat.now.view = record {
-      same = ap (λ z. z.view) c.seat.view_is;
-      limits = c.requires.seat.limits;
-      numbers = c.numbers-now.ensures.is;
-      session = c.requires.session;
-      hosted = c.requires.host;
-      within = c.requires.within;
-      ok = c.requires.enabled;
-      stands = c.requires.stands;
-      at = c.target-word.ensures.address;
-    } in (
-      c.set_lowest_bit-found.ensures.table.2 ∙ c.seat.invariant.0,
-      c.seat.invariant.1 ∙ sym (ap (λ (v : View). v.limits) t.now),
-      c.seat.invariant.2 ∙ sym (ap (λ (v : View). v.hosts) t.now),
-      (let g = acts_found _ _ _ _ _ _ _ asked (bit_or c.set_lowest_bit-found.result 1) c.set_lowest_bit-found.result c.set_lowest_bit-found.new.seat.me.0 c.set_lowest_bit-found.ensures.told in acts_tells _ _ _ _ _ _ _ asked c.seat.inside.numbers.items c.seat.invariant.3 c.set_lowest_bit-found.new.seat.me.0 (bit_or c.set_lowest_bit-found.result 1) g.0 c.set_lowest_bit-found.result g.1 c.advance.new.now (c.advance.ensures ∙ ap (numbers_after c.args.store.now.layout.limits c.args.event c.set_lowest_bit-found.result) (acts_same _ _ _ _ _ _ _ asked c.seat.inside.numbers.items c.seat.invariant.3 c.index_mut.result.now c.index_mut.ensures.value))),
-    )
+invariant_of-seat c = acts_keep _ _ _ _ _ _ _ (asked (goal.at.invariant_of-seat c).After-target-word c.seat.inside.place.me.0 (ap (λ z. z.view) c.seat.view_is)) c.seat.inside.numbers.items c.seat.invariant.3 _ _ c.seat.invariant.1 c.seat.invariant.2 (c.set_lowest_bit-found.ensures.table.2 ∙ c.seat.invariant.0)
+    (bit_or c.set_lowest_bit-found.result 1) c.set_lowest_bit-found.result c.set_lowest_bit-found.new.seat.me.0 c.set_lowest_bit-found.ensures.told c.index_mut.result.now c.advance.new.now c.index_mut.ensures.value c.advance.ensures
 
 pub returns-clause-seat : goal.returns-clause-seat
-returns-clause-seat c = let asked : Asks c.args.store.now.layout.limits c.numbers-now.result.now c.args.event c.args.s c.target-word.result c.seat.inside.place.me.0 c.args.seat.now.view = record {
-  same = ap (λ z. z.view) c.seat.view_is;
-  limits = c.requires.seat.limits;
-  numbers = c.numbers-now.ensures.is;
-  session = c.requires.session;
-  hosted = c.requires.host;
-  within = c.requires.within;
-  ok = c.requires.enabled;
-  stands = c.requires.stands;
-  at = c.target-word.ensures.address;
-} in still_seat _ _ _ c.args.event _ (bit_or c.set_lowest_bit-found.result 1) c.requires.seat (c.set_lowest_bit-found.ensures.table.0 ∙ ap (λ z. z.table) c.seat.view_is) (acts_told _ _ _ _ _ _ _ asked (bit_or c.set_lowest_bit-found.result 1) c.set_lowest_bit-found.new.seat.me.0 c.set_lowest_bit-found.ensures.told.0)
+returns-clause-seat c = still_seat _ _ _ c.args.event _ (bit_or c.set_lowest_bit-found.result 1) c.requires.seat (c.set_lowest_bit-found.ensures.table.0 ∙ ap (λ z. z.table) c.seat.view_is)
+    (acts_told _ _ _ _ _ _ _ (asked (goal.at.returns-clause-seat c).After-target-word c.seat.inside.place.me.0 (ap (λ z. z.view) c.seat.view_is)) (bit_or c.set_lowest_bit-found.result 1) c.set_lowest_bit-found.new.seat.me.0 c.set_lowest_bit-found.ensures.told.0)
 
 pub returns-clause-met : goal.returns-clause-met
-returns-clause-met c = let asked : Asks c.args.store.now.layout.limits c.numbers-now.result.now c.args.event c.args.s c.target-word.result c.seat.inside.place.me.0 c.args.seat.now.view = record {
-  same = ap (λ z. z.view) c.seat.view_is;
-  limits = c.requires.seat.limits;
-  numbers = c.numbers-now.ensures.is;
-  session = c.requires.session;
-  hosted = c.requires.host;
-  within = c.requires.within;
-  ok = c.requires.enabled;
-  stands = c.requires.stands;
-  at = c.target-word.ensures.address;
-} in
-    subst (λ (x : ℕ). Met c.args.seat.now.view c.set_lowest_bit-found.new.seat.me.0 c.args.event (place_for c.args.seat.now.view.limits (told c.args.seat.now.view c.args.s) c.args.event) x c.set_lowest_bit-found.result)
-    ((latched c.args.store.now.layout.limits c.numbers-now.result.now 0 c.args.event c.requires.kind c.set_lowest_bit-found.result) ∙ (λ j. written_of (sym c.requires.seat.limits j) (c.numbers-now.ensures.is j) 0 c.args.event c.set_lowest_bit-found.result))
-    (acts_met _ _ _ _ _ _ _ asked (bit_or c.set_lowest_bit-found.result 1) c.set_lowest_bit-found.result c.set_lowest_bit-found.new.seat.me.0 c.set_lowest_bit-found.ensures.told)
+returns-clause-met c = acts_met _ _ _ _ _ _ _ (asked (goal.at.returns-clause-met c).After-target-word c.seat.inside.place.me.0 (ap (λ z. z.view) c.seat.view_is)) (bit_or c.set_lowest_bit-found.result 1) c.set_lowest_bit-found.result c.set_lowest_bit-found.new.seat.me.0 c.set_lowest_bit-found.ensures.told
+    (latched c.args.store.now.layout.limits c.numbers-now.result.now 0 c.args.event c.requires.kind c.set_lowest_bit-found.result)

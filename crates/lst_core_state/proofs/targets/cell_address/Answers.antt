@@ -1,10 +1,10 @@
-use Rattle.std.proofs.Common.{◌≡◌, ◌+◌, ◌-◌, ◌*◌, ◌<◌, ◌^◌, ℕ, arith, ◌∙◌, ap, subst, sym, zero-mul}
+use Rattle.std.proofs.Common.{◌≡◌, ◌+◌, ◌-◌, ◌*◌, ◌<◌, ℕ, arith, ◌∙◌, ap, subst, sym, zero-mul}
 use Rattle.lst_layout.specs.declared.limits.Limits.{Limits}
 use Rattle.lst_layout.specs.declared.place.Place.TheVariants.{CellWord}
 use Rattle.lst_layout.specs.Addresses.{IsWithin, address, tail_number}
 use Rattle.lst_layout.specs.Areas.{words_of, cell_words, tail_cells_start}
 use Rattle.lst_layout.proofs.Apart.{below}
-use Rattle.lst_core.proofs.steps.cell_address.Goals as goal
+use Rattle.lst_core_state.proofs.targets.cell_address.Goals as goal
 
 module _ (l : Limits) (first tail w place : ℕ) (is_first : first ≡ address l (CellWord (tail_number l 0 1) 0)) (wide : w ≡ cell_words l) where
   -- the first word of the area

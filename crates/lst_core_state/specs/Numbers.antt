@@ -1,5 +1,5 @@
 -- The numbers of what a session knows, and each step on them.
-use Rattle.std.specs.Prelude.{◌≡◌, ℕ, zero, suc, ◌+◌, ◌-◌, ◌*◌, ◌/◌, ◌%◌, ◌^◌, ◌<◌, ◌≤◌, List, [], ◌∷◌, Bool, true, false, ◌&&◌, ◌||◌, cond, eqb, nat_lt, length, bit_or, slice_index_or, slice_set}
+use Rattle.std.specs.Prelude.{◌≡◌, ℕ, zero, suc, ◌+◌, ◌-◌, ◌*◌, ◌/◌, ◌%◌, ◌^◌, ◌<◌, ◌≤◌, List, [], ◌∷◌, Bool, true, false, ◌&&◌, ◌||◌, cond, eqb, nat_lt, length, bit_or, replicate, slice_index_or, slice_set}
 use Rattle.lst_layout.specs.declared.limits.Limits.{Limits}
 use Rattle.lst_layout.specs.declared.place.Place.{Place}
 use Rattle.lst_layout.specs.declared.place.Place.TheVariants.{ClockWord, CommitWord, RecordCounter, LogWord, BeginWord, StateWord, KeyWord, IndexWord, HeadWord, TailCounter, CellWord}
@@ -8,11 +8,11 @@ use Rattle.lst_core_state.specs.declared.events.Event.{Event}
 use Rattle.lst_core_state.specs.declared.events.Event.TheVariants.{Look, Begin, Take, Log, State, Clock, Give, Close, DrawRecord, StoreKey, Claim, Latch, DrawTail, StoreCell, Install, Release, Stamp}
 use Rattle.lst_core_state.specs.declared.known.Known.{Known}
 use Rattle.lst_core_state.specs.declared.known.Counter.{Counter}
+use Rattle.lst_core_state.specs.declared.numbers.Numbers.{Numbers}
 use Rattle.lst_core_state.specs.declared.known.Stage.TheVariants.{Away, Taken, Logged, Stated, Done}
 use Rattle.lst_core_state.specs.Cells.{record_count, range_of}
 use Rattle.lst_core_state.specs.State.{rank, name_of, no_hold}
 use Rattle.lst_core_state.specs.Step.{refreshed, number_in}
-use Rattle.lst_core.specs.declared.numbers.Numbers.{Numbers}
 
 -- whether a load serves a draw, by counter, for n counters
 abbrev pub flags : ℕ → List Counter → List Bool
@@ -37,6 +37,26 @@ numbers_of v = record {
   stored = v.draft.stored;
   index = v.looks.index;
   served = flags 64 v.counters;
+}
+
+-- the numbers of a session that knows nothing
+abbrev pub newcomer_numbers : Numbers
+newcomer_numbers = record {
+  number = 0;
+  begin = 0;
+  read_only = false;
+  is_open = false;
+  turn = Away;
+  seen = 0;
+  has_writes = false;
+  hand = 0;
+  key = 0;
+  has_key = false;
+  is_serving = false;
+  hold = no_hold;
+  stored = 0;
+  index = 0;
+  served = replicate 64 false;
 }
 
 -- the word that a step is on

@@ -6,11 +6,11 @@ ghost use Rattle.lst_layout.specs.Limits.{IsValid};
 ghost use Rattle.lst_core_state.specs.Cells.{record_count};
 ghost use Rattle.lst_core_state.specs.Step as step;
 ghost use Rattle.lst_core_state.specs.State as state;
-ghost use Rattle.lst_core.specs.Numbers as spec;
-ghost use Rattle.lst_core.specs.Bounds.{IsWritable};
+ghost use Rattle.lst_core_state.specs.Numbers as spec;
+ghost use Rattle.lst_core_state.specs.Bounds.{IsWritable};
 
 use crate::numbers::Numbers;
-use lst_core_state::{Event, Hold, Stage};
+use crate::{Event, Hold, Stage};
 use lst_layout::{Layout, Limits, Place};
 
 /// Nothing in hand.
@@ -106,7 +106,7 @@ fn draw_record(limits: &Limits, now: &mut Numbers, found: u64)
 }
 
 /// A draw of a tail that found this number.
-#[tactic(auto, using(crate::proofs::Masks::tail_few))]
+#[tactic(auto, using(crate::proofs::Bounds::tail_few))]
 fn draw_tail(limits: &Limits, now: &mut Numbers, range: u32, found: u64)
     requires sized { IsValid limits.now }
     requires range { range < limits.now.ranges }
@@ -221,15 +221,4 @@ pub fn advance(layout: &Layout, now: &mut Numbers, event: Event, found: u64)
             tail: _,
         } => {}
     }
-}
-
-/// The numbers of a session after its step on a word, where it found this.
-pub fn after(layout: &Layout, now: Numbers, event: Event, found: u64) -> Numbers
-    requires within { step.IsWithin layout.now.limits event }
-    requires writable { IsWritable layout.now.limits now event }
-    ensures { result ≡ spec.numbers_after layout.now.limits event found now }
-{
-    let mut next = now;
-    advance(layout, &mut next, event, found);
-    next
 }

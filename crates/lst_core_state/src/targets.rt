@@ -8,11 +8,11 @@ ghost use Rattle.lst_layout.specs.declared.place.Place.TheVariants.{CellWord};
 ghost use Rattle.lst_core_state.specs.Cells.{record_count};
 ghost use Rattle.lst_core_state.specs.Step as step;
 ghost use Rattle.lst_core_state.specs.State as state;
-ghost use Rattle.lst_core.specs.Numbers as spec;
-ghost use Rattle.lst_core.specs.Bounds.{IsWritable};
+ghost use Rattle.lst_core_state.specs.Numbers as spec;
+ghost use Rattle.lst_core_state.specs.Bounds.{IsWritable};
 
+use crate::Event;
 use crate::numbers::Numbers;
-use lst_core_state::Event;
 use lst_layout::{Layout, Limits};
 
 /// The address of a word of a tail, by its number among all tails.

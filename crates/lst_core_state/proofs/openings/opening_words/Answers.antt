@@ -1,7 +1,7 @@
-use Rattle.std.proofs.Common.{◌≡◌, ◌+◌, ◌<◌, ◌≤◌, ℕ, List, subst, sym, arith, ◌∙◌, ap, slice_set}
-use Rattle.lst_layout.specs.Areas.{words_of, page_count, directory_start}
-use Rattle.lst_core.proofs.Opened.{IsNumbered, directory_first, directory_room, numbered_next, numbered_all}
-use Rattle.lst_core.proofs.cores.opening_words.Goals as goal
+use Rattle.std.proofs.Common.{◌≡◌, ◌+◌, ℕ, subst, sym, arith, ◌∙◌, slice_set}
+use Rattle.lst_layout.specs.Areas.{page_count, directory_start}
+use Rattle.lst_core_state.proofs.Opened.{IsNumbered, directory_first, directory_room, numbered_next, numbered_all}
+use Rattle.lst_core_state.proofs.openings.opening_words.Goals as goal
 
 pub index_mut-requires : goal.index_mut-requires
 index_mut-requires c = let l = c.args.layout.now.limits in

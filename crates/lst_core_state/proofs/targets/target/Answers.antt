@@ -3,8 +3,8 @@ use Rattle.lst_layout.specs.Addresses.{address}
 use Rattle.lst_layout.proofs.Places.{at}
 use Rattle.lst_core_state.specs.declared.events.Event.{Event}
 use Rattle.lst_core_state.specs.Step.{IsWithin}
-use Rattle.lst_core.specs.Numbers.{place_for}
-use Rattle.lst_core.proofs.steps.target.Goals as goal
+use Rattle.lst_core_state.specs.Numbers.{place_for}
+use Rattle.lst_core_state.proofs.targets.target.Goals as goal
 
 pub returns-in-Look-clause-address : goal.returns-in-Look-clause-address
 returns-in-Look-clause-address c = let within = subst (λ (e : Event). IsWithin c.args.layout.now.limits e) c.in-Look.is c.requires.within in

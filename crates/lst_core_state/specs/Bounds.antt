@@ -4,7 +4,7 @@ use Rattle.lst_layout.specs.declared.limits.Limits.{Limits}
 use Rattle.lst_core_state.specs.declared.events.Event.{Event}
 use Rattle.lst_core_state.specs.declared.events.Event.TheVariants.{Begin, Install, Release}
 use Rattle.lst_core_state.specs.Cells.{record_count, range_of}
-use Rattle.lst_core.specs.declared.numbers.Numbers.{Numbers}
+use Rattle.lst_core_state.specs.declared.numbers.Numbers.{Numbers}
 
 -- a begin isn't above what was seen
 abbrev pub BeginFits : Numbers → Event → Type 0

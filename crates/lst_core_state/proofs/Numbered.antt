@@ -1,5 +1,6 @@
 -- A step on the numbers and on one word is the step on the state.
-use Rattle.std.proofs.Common.{◌≡◌, ℕ, ◌+◌, ◌-◌, ◌%◌, ◌<◌, List, [], ◌∷◌, ◌++◌, Bool, true, false, ◌||◌, cond, eqb, nat_lt, length, get_or, set, refl, sym, ◌∙◌, arith, length-append, lt-ltb, ltb-true}
+use Rattle.std.proofs.Common.{◌≡◌, ℕ, zero, suc, ◌+◌, ◌-◌, ◌%◌, ◌<◌, List, [], ◌∷◌, ◌++◌, Bool, true, false, ◌||◌, cond, eqb, nat_lt, length, get_or, set, refl, sym, ap, ◌∙◌, arith, length-append, lt-ltb, ltb-true}
+use Rattle.std.specs.Prelude.{replicate}
 use Rattle.lst_layout.specs.declared.limits.Limits.{Limits}
 use Rattle.lst_layout.specs.declared.place.Place.{Place}
 use Rattle.lst_layout.specs.declared.place.Place.TheVariants.{ClockWord, CommitWord, EpochWord, RecordCounter, LogWord, BeginWord, StateWord, KeyWord, IndexWord, HeadWord, TailCounter, CellWord, DirectoryWord, FrameWord, PinWord, PostingWord}
@@ -17,12 +18,22 @@ use Rattle.lst_core_state.specs.declared.known.Counter.{Counter}
 use Rattle.lst_core_state.specs.declared.known.Looks.{Looks}
 use Rattle.lst_core_state.proofs.Functions.{either}
 use Rattle.lst_core_state.specs.Cells.{record_count}
-use Rattle.lst_core_state.specs.State.{Words, writes_of, counter_of, act_in, record_in}
+use Rattle.lst_core_state.specs.State.{Words, newcomer, no_counter, writes_of, counter_of, act_in, record_in}
 use Rattle.lst_core_state.specs.Step as step
-use Rattle.lst_core_state.specs.Step.{session_of, Enabled, Stands, words_after, known_after, look_at, served, spent, drawn_full}
+use Rattle.lst_core_state.specs.Step.{Enabled, known_after, look_at, served, spent, drawn_full}
 use Rattle.lst_core_state.proofs.Histories.{length-history}
-use Rattle.lst_core.specs.Numbers.{numbers_of, place_for, numbers_look, numbers_after, Allows, flags}
-use Rattle.lst_core.proofs.Flags.{flags_at, flags_set}
+use Rattle.lst_core_state.specs.Numbers.{numbers_of, place_for, numbers_look, numbers_after, newcomer_numbers, Allows, flags}
+use Rattle.lst_core_state.proofs.Flags.{flags_at, flags_set}
+
+-- ---- the numbers of a newcomer
+
+flags_none : (n k : ℕ) → flags n (replicate k no_counter) ≡ replicate n false
+flags_none zero k = refl
+flags_none (suc n) zero = ap (λ (bs : List Bool). false ∷ bs) (flags_none n zero)
+flags_none (suc n) (suc k) = ap (λ (bs : List Bool). false ∷ bs) (flags_none n k)
+
+pub newcomer_is : (l : Limits) → numbers_of (newcomer l) ≡ newcomer_numbers
+newcomer_is l = λ i. record newcomer_numbers { served = flags_none 64 l.ranges i }
 
 -- ---- what the numbers allow is what the knowledge allows
 

@@ -1,7 +1,7 @@
 use Rattle.std.proofs.Common.{◌-◌, ◌≡◌, ◌≤◌}
 use Rattle.std.specs.Prelude.{replicate}
-use Rattle.lst_core.specs.Machine.{newcomer_numbers}
-use Rattle.lst_core.proofs.cores.newcomers.Given as goal
+use Rattle.lst_core_state.specs.Numbers.{newcomer_numbers}
+use Rattle.lst_core_state.proofs.numbers.newcomers.Given as goal
 
 abbrev pub invariant-loop-made : goal.invariant-loop-made
 invariant-loop-made l = (l.numbers.items ≡ replicate l.made newcomer_numbers) × (l.made ≤ l.count)

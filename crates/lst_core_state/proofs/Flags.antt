@@ -2,7 +2,7 @@
 use Rattle.std.proofs.Common.{◌≡◌, ℕ, zero, suc, ◌<◌, ◌≤◌, List, [], ◌∷◌, Bool, false, length, get_or, set, refl, ap, arith}
 use Rattle.lst_core_state.specs.declared.known.Counter.{Counter}
 use Rattle.lst_core_state.specs.State.{no_counter}
-use Rattle.lst_core.specs.Numbers.{flags}
+use Rattle.lst_core_state.specs.Numbers.{flags}
 
 pub flags_at : (n : ℕ) (cs : List Counter) (i : ℕ) → i < n → get_or (flags n cs) i false ≡ (get_or cs i no_counter).is_serving
 flags_at zero cs i low = absurd (omega arith)

@@ -23,8 +23,8 @@ use Rattle.lst_core_state.proofs.IndexKept.{records_few}
 use Rattle.lst_core_state.proofs.Counters.{counter_low}
 use Rattle.lst_core_state.proofs.Room.{room}
 use Rattle.lst_core_state.proofs.Steady.{put_same}
-use Rattle.lst_core.specs.Numbers.{numbers_of, place_for, written_of}
-use Rattle.lst_core.specs.Targets.{time_for}
+use Rattle.lst_core_state.specs.Numbers.{numbers_of, place_for, written_of}
+use Rattle.lst_core_state.specs.Targets.{time_for}
 
 same_in : (f : ℕ → ℕ → ℕ) (k m : ℕ) → put_in f k m (f k m) ≡ f
 same_in f k m = (λ i. put f k (put_same (f k) m i)) ∙ put_same f k
