@@ -1,7 +1,6 @@
 -- What a write leaves of what a transaction sees of a key.
-use Rattle.std.proofs.Common.{◌≡◌, ℕ, ◌<◌, List, [], ◌∷◌, ◌++◌, Bool, true, false, length, take, refl, sym, subst, ap, ◌∙◌, arith, inl, inr, Contains}
+use Rattle.std.proofs.Common.{◌≡◌, ℕ, List, [], ◌∷◌, ◌++◌, false, sym, subst, ap, ◌∙◌, arith, inl, inr}
 use Rattle.std.proofs.lemmas.List.Elements.{Contains-append_left}
-use Rattle.lst_layout.specs.declared.limits.Limits.{Limits}
 use Rattle.lst_model.specs.declared.acts.Act.{Act}
 use Rattle.lst_model.specs.Histories.{all_acts_on, acts_on}
 use Rattle.lst_core_state.specs.declared.known.Known.{Known}
@@ -14,16 +13,16 @@ use Rattle.lst_core_state.specs.declared.facts.Find.{Find}
 use Rattle.lst_core_state.specs.State.{sight, rank, FitsAfter}
 use Rattle.lst_core_state.specs.Step.{refreshed}
 use Rattle.lst_rule.specs.declared.view.View.{View}
-use Rattle.lst_rule.specs.Rule.{knows, hosts}
-use Rattle.lst_sights.specs.Seen.{SeesAlike, HasKey}
+use Rattle.lst_rule.specs.Rule.{knows}
+use Rattle.lst_sights.specs.Seen.{HasKey}
 use Rattle.lst_sights.specs.Laws.{KeptBy}
 use Rattle.lst_sights.specs.Watching.{Watched}
 use Rattle.lst_txn.specs.Transactions.{IsFree, Opens}
 use Rattle.lst_index.specs.Searches.{IsUnseen, Works, Keeps}
 use Rattle.lst_index.specs.Searches as index
 use Rattle.lst_write.specs.Holding.{MayLatch, IsPlaced, Latches}
-use Rattle.lst_write.specs.Appending.{FitsSight, HasWhole, Appends, InstallsHeld}
-use Rattle.lst_drive.specs.Driving.{SeesActs, Writes}
+use Rattle.lst_write.specs.Appending.{FitsSight, Appends, InstallsHeld}
+use Rattle.lst_drive.specs.Driving.{SeesActs}
 
 sees_more : (k : Known) (more : List Fact) (rec key : ℕ) → HasKey k.facts rec key → HasKey (k.facts ++ more) rec key
 sees_more k more rec key has = (has.0, Contains-append_left k.facts more (IndexAt has.0 rec key) has.1)

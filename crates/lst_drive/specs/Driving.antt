@@ -1,4 +1,4 @@
--- Sessions of one seat that hosts them all, as the tests drive them.
+-- Sessions of one seat that hosts them all, as the tests operate them.
 use Rattle.std.specs.Prelude.{◌≡◌, ◌≢◌, ℕ, ◌<◌, List, [], ◌∷◌, ◌++◌, true, length}
 use Rattle.lst_layout.specs.declared.limits.Limits.{Limits}
 use Rattle.lst_model.specs.declared.acts.Act.{Act}
@@ -20,7 +20,7 @@ use Rattle.lst_write.specs.Holding.{MayLatch, IsPlaced, HasLatch}
 use Rattle.lst_write.specs.Judgements.{HasChain, HasJudged}
 
 -- the store has two columns, and its seat hosts each session
-pub record IsCrew (store : Store) (seat : Sitting) : Type 0 where
+pub record HostsAll (store : Store) (seat : Sitting) : Type 0 where
   pub seat_of : IsSeatOf store seat
   pub columns : store.layout.limits.columns ≡ 2
   pub hosted : (s : ℕ) → s < store.layout.limits.sessions → hosts seat.view s ≡ true
@@ -34,26 +34,26 @@ IsAt l k s (Judged rec head) = HasLatch k rec head × HasJudged l k s rec head �
 IsAt l k s (Whole rec tail) = (head : ℕ) × (act : Act) × HasWhole l k s rec head tail act
 
 -- the session s is at the stage, and has no record in hand
-pub record IsDriven (seat : Sitting) (s : ℕ) (stage : Stage) : Type 0 where
+pub record IsAtStage (seat : Sitting) (s : ℕ) (stage : Stage) : Type 0 where
   pub low : s < seat.view.limits.sessions
   pub hand : (knows seat.view s).placing.hand ≡ 0
   pub at : IsAt seat.view.limits (knows seat.view s) s stage
 
 -- the sessions 0 and 1 are at these stages
 abbrev pub ArePair : Sitting → Pair → Type 0
-ArePair seat pair = IsDriven seat 0 pair.first × IsDriven seat 1 pair.second
+ArePair seat pair = IsAtStage seat 0 pair.first × IsAtStage seat 1 pair.second
 
 -- and the store has four sessions
-pub record IsTable (store : Store) (seat : Sitting) (pair : Pair) : Type 0 where
-  pub crew : IsCrew store seat
+pub record IsOpened (store : Store) (seat : Sitting) (pair : Pair) : Type 0 where
+  pub crew : HostsAll store seat
   pub four : store.layout.limits.sessions ≡ 4
   pub both : ArePair seat pair
 
--- a deed of the session s brings it to the stage, and leaves each other session where it is
-pub record Drives (store : Store) (old new : Sitting) (s : ℕ) (stage : Stage) : Type 0 where
-  pub crew : IsCrew store new
-  pub driven : IsDriven new s stage
-  pub others : (t : ℕ) (other : Stage) → t ≢ s → IsDriven old t other → IsDriven new t other
+-- a operation of the session s brings it to the stage, and leaves each other session where it is
+pub record MovesTo (store : Store) (old new : Sitting) (s : ℕ) (stage : Stage) : Type 0 where
+  pub crew : HostsAll store new
+  pub driven : IsAtStage new s stage
+  pub others : (t : ℕ) (other : Stage) → t ≢ s → IsAtStage old t other → IsAtStage new t other
 
 -- of the sessions only s learnt something: it has no turn, no latch and no record in hand, as before
 pub record Rests (v w : View) (s : ℕ) : Type 0 where

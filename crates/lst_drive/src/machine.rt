@@ -1,5 +1,5 @@
-//! The machine of one thread: what each deed of two sessions that write on one record comes to.
-use crate::stages::{Answer, Deed};
+//! The machine of one thread: what each operation of two sessions that write on one record comes to.
+use crate::stages::{Answer, Operation};
 use lst_model::Time;
 use lst_txn::{BeginFault, TurnFault};
 use lst_write::JudgeFault;
@@ -223,17 +223,17 @@ impl Machine {
         Answer::Closed
     }
 
-    /// What a deed comes to.
-    pub(crate) fn step(&mut self, s: u32, deed: Deed) -> Answer {
-        match deed {
-            Deed::Begin => self.begin(s),
-            Deed::Latch { key: _ } => self.latch(s),
-            Deed::Judge => self.judge(s),
-            Deed::Append => self.append(s),
-            Deed::Install => self.install(s),
-            Deed::Release => self.release(s),
-            Deed::Commit => self.commit(s),
-            Deed::Close => self.close(s),
+    /// What a operation comes to.
+    pub(crate) fn step(&mut self, s: u32, operation: Operation) -> Answer {
+        match operation {
+            Operation::Begin => self.begin(s),
+            Operation::Latch { key: _ } => self.latch(s),
+            Operation::Judge => self.judge(s),
+            Operation::Append => self.append(s),
+            Operation::Install => self.install(s),
+            Operation::Release => self.release(s),
+            Operation::Commit => self.commit(s),
+            Operation::Close => self.close(s),
         }
     }
 }

@@ -20,7 +20,7 @@ pub enum Stage {
 
 /// What a session does.
 #[derive(Clone, Copy, PartialEq, Eq, Debug)]
-pub enum Deed {
+pub enum Operation {
     Begin,
     /// It places a key, and tries once to latch the key's record.
     Latch { key: Key },
@@ -37,7 +37,7 @@ pub enum Deed {
 /// What a session is answered.
 #[derive(Clone, Copy, PartialEq, Eq, Debug)]
 pub enum Answer {
-    /// The deed is none for its stage.
+    /// The operation is none for its stage.
     Skipped,
     /// Its transaction has begun at this time.
     Began { time: Time },

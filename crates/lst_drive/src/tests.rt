@@ -1,10 +1,10 @@
 //! Two sessions write against each other.
 ghost use Rattle.std.specs.Prelude.{◌≡◌, ◌<◌, IfOk};
-ghost use Rattle.lst_drive.specs.Driving.{IsCrew, ArePair, IsTable};
+ghost use Rattle.lst_drive.specs.Driving.{HostsAll, ArePair, IsOpened};
 
 use crate::machine::Machine;
 use crate::{
-    Answer, Deed, Pair, Stage, commit_beside, drive, open_as_of, open_pair, peek,
+    Answer, Operation, Pair, Stage, commit_beside, load_word, open_as_of, open_pair, operate,
     put_set_and_delete,
 };
 use arrayvec::ArrayVec;
@@ -18,7 +18,7 @@ use std::test::Fail;
 
 /// The default limits, but for the tails of a range.
 fn open_table(alloc: Global, ranges: u32, tails: u32) -> Result<(Store, Seat, Pair), Fail>
-    ensures { IfOk result (λ opened. IsTable opened.0 opened.1 opened.2) }
+    ensures { IfOk result (λ opened. IsOpened opened.0 opened.1 opened.2) }
 {
     let limits = Limits {
         columns: 2,
@@ -35,23 +35,23 @@ fn open_table(alloc: Global, ranges: u32, tails: u32) -> Result<(Store, Seat, Pa
     Ok(open_pair(alloc, &layout)?)
 }
 
-/// Whether the deeds of a session come to these answers, in turn.
-fn come_to(
+/// Whether the operations of a session come to these answers, in turn.
+fn answers_are(
     store: &Store,
     seat: &mut Seat,
     pair: &mut Pair,
     s: u32,
-    deeds: &[(Deed, Answer)],
+    operations: &[(Operation, Answer)],
 ) -> bool
-    requires table { IsTable store.now seat.old pair.old }
+    requires table { IsOpened store.now seat.old pair.old }
     requires two { s < 2 }
-    ensures table { IsTable store.now seat.new pair.new }
+    ensures table { IsOpened store.now seat.new pair.new }
 {
     let mut turn = 0;
     let mut same = true;
-    while turn < deeds.len() {
-        let (deed, answer) = deeds[turn];
-        if drive(store, seat, pair, s, deed) != answer {
+    while turn < operations.len() {
+        let (operation, answer) = operations[turn];
+        if operate(store, seat, pair, s, operation) != answer {
             same = false;
         }
         turn += 1;
@@ -59,13 +59,13 @@ fn come_to(
     same
 }
 
-const BEGUN: [(Deed, Answer); 1] = [(Deed::Begin, Answer::Began { time: 0 })];
+const BEGUN: [(Operation, Answer); 1] = [(Operation::Begin, Answer::Began { time: 0 })];
 
-const FIRST_WRITE: [(Deed, Answer); 4] = [
-    (Deed::Latch { key: 7 }, Answer::Head { head: 0 }),
-    (Deed::Judge, Answer::Judged),
-    (Deed::Append, Answer::Tail { tail: 1 }),
-    (Deed::Install, Answer::Installed),
+const FIRST_WRITE: [(Operation, Answer); 4] = [
+    (Operation::Latch { key: 7 }, Answer::Head { head: 0 }),
+    (Operation::Judge, Answer::Judged),
+    (Operation::Append, Answer::Tail { tail: 1 }),
+    (Operation::Install, Answer::Installed),
 ];
 
 #[test]
@@ -74,33 +74,33 @@ fn a_write_leaves_its_words(rt: HostRuntime) -> Result<(), Fail> {
     let head = store.layout().indirection(0);
     let start = store.layout().tail_cells(0, 1, 0);
     let encoding = store.layout().tail_cells(0, 1, 1);
-    assert!(rt; come_to(&store, &mut seat, &mut pair, 0, &BEGUN));
+    assert!(rt; answers_are(&store, &mut seat, &mut pair, 0, &BEGUN));
     assert_eq!(rt;
-        drive(&store, &mut seat, &mut pair, 0, Deed::Latch { key: 7 }),
+        operate(&store, &mut seat, &mut pair, 0, Operation::Latch { key: 7 }),
         Answer::Head { head: 0 }
     );
-    assert!(rt; come_to(&store, &mut seat, &mut pair, 1, &BEGUN));
+    assert!(rt; answers_are(&store, &mut seat, &mut pair, 1, &BEGUN));
     assert_eq!(rt;
-        drive(&store, &mut seat, &mut pair, 1, Deed::Latch { key: 7 }),
+        operate(&store, &mut seat, &mut pair, 1, Operation::Latch { key: 7 }),
         Answer::Latched
     );
-    assert_eq!(rt; peek(&store, &mut seat, &pair, head), Some(1));
+    assert_eq!(rt; load_word(&store, &mut seat, &pair, head), Some(1));
     assert_eq!(rt;
-        drive(&store, &mut seat, &mut pair, 0, Deed::Judge),
+        operate(&store, &mut seat, &mut pair, 0, Operation::Judge),
         Answer::Judged
     );
     assert_eq!(rt;
-        drive(&store, &mut seat, &mut pair, 0, Deed::Append),
+        operate(&store, &mut seat, &mut pair, 0, Operation::Append),
         Answer::Tail { tail: 1 }
     );
-    assert_eq!(rt; peek(&store, &mut seat, &pair, start), Some(33));
-    assert_eq!(rt; peek(&store, &mut seat, &pair, encoding), Some(259));
-    assert_eq!(rt; peek(&store, &mut seat, &pair, head), Some(1));
+    assert_eq!(rt; load_word(&store, &mut seat, &pair, start), Some(33));
+    assert_eq!(rt; load_word(&store, &mut seat, &pair, encoding), Some(259));
+    assert_eq!(rt; load_word(&store, &mut seat, &pair, head), Some(1));
     assert_eq!(rt;
-        drive(&store, &mut seat, &mut pair, 0, Deed::Install),
+        operate(&store, &mut seat, &mut pair, 0, Operation::Install),
         Answer::Installed
     );
-    assert_eq!(rt; peek(&store, &mut seat, &pair, head), Some(2));
+    assert_eq!(rt; load_word(&store, &mut seat, &pair, head), Some(2));
     Ok(())
 }
 
@@ -108,61 +108,61 @@ fn a_write_leaves_its_words(rt: HostRuntime) -> Result<(), Fail> {
 fn an_unfinished_version_stops_a_writer(rt: HostRuntime) -> Result<(), Fail> {
     let (store, mut seat, mut pair) = open_table(rt.alloc(), 4, 1)?;
     let (head, second) = (store.layout().indirection(0), store.layout().indirection(1));
-    assert!(rt; come_to(&store, &mut seat, &mut pair, 0, &BEGUN));
-    assert!(rt; come_to(&store, &mut seat, &mut pair, 1, &BEGUN));
-    assert!(rt; come_to(&store, &mut seat, &mut pair, 0, &FIRST_WRITE));
+    assert!(rt; answers_are(&store, &mut seat, &mut pair, 0, &BEGUN));
+    assert!(rt; answers_are(&store, &mut seat, &mut pair, 1, &BEGUN));
+    assert!(rt; answers_are(&store, &mut seat, &mut pair, 0, &FIRST_WRITE));
     let fault = JudgeFault::Unfinished {
         session: 0,
         number: 1,
     };
     let refused = [
-        (Deed::Latch { key: 7 }, Answer::Head { head: 1 }),
-        (Deed::Judge, Answer::NotJudged { fault }),
-        (Deed::Release, Answer::Released),
+        (Operation::Latch { key: 7 }, Answer::Head { head: 1 }),
+        (Operation::Judge, Answer::NotJudged { fault }),
+        (Operation::Release, Answer::Released),
     ];
-    assert!(rt; come_to(&store, &mut seat, &mut pair, 1, &refused));
-    assert_eq!(rt; peek(&store, &mut seat, &pair, head), Some(2));
+    assert!(rt; answers_are(&store, &mut seat, &mut pair, 1, &refused));
+    assert_eq!(rt; load_word(&store, &mut seat, &pair, head), Some(2));
     // The one tail of the range is drawn.
     let full = [
-        (Deed::Latch { key: 8 }, Answer::Head { head: 0 }),
-        (Deed::Judge, Answer::Judged),
-        (Deed::Append, Answer::TailFull),
+        (Operation::Latch { key: 8 }, Answer::Head { head: 0 }),
+        (Operation::Judge, Answer::Judged),
+        (Operation::Append, Answer::TailFull),
     ];
-    assert!(rt; come_to(&store, &mut seat, &mut pair, 1, &full));
-    assert_eq!(rt; peek(&store, &mut seat, &pair, second), Some(1));
+    assert!(rt; answers_are(&store, &mut seat, &mut pair, 1, &full));
+    assert_eq!(rt; load_word(&store, &mut seat, &pair, second), Some(1));
     assert_eq!(rt;
-        drive(&store, &mut seat, &mut pair, 1, Deed::Release),
+        operate(&store, &mut seat, &mut pair, 1, Operation::Release),
         Answer::Released
     );
-    assert_eq!(rt; peek(&store, &mut seat, &pair, second), Some(0));
+    assert_eq!(rt; load_word(&store, &mut seat, &pair, second), Some(0));
     Ok(())
 }
 
 #[test]
 fn one_session_at_a_time_commits(rt: HostRuntime) -> Result<(), Fail> {
     let (store, mut seat, mut pair) = open_table(rt.alloc(), 4, 4096)?;
-    assert!(rt; come_to(&store, &mut seat, &mut pair, 0, &BEGUN));
-    assert!(rt; come_to(&store, &mut seat, &mut pair, 1, &BEGUN));
-    assert!(rt; come_to(&store, &mut seat, &mut pair, 0, &FIRST_WRITE));
+    assert!(rt; answers_are(&store, &mut seat, &mut pair, 0, &BEGUN));
+    assert!(rt; answers_are(&store, &mut seat, &mut pair, 1, &BEGUN));
+    assert!(rt; answers_are(&store, &mut seat, &mut pair, 0, &FIRST_WRITE));
     let second = [
-        (Deed::Latch { key: 8 }, Answer::Head { head: 0 }),
-        (Deed::Judge, Answer::Judged),
-        (Deed::Append, Answer::Tail { tail: 2 }),
-        (Deed::Install, Answer::Installed),
+        (Operation::Latch { key: 8 }, Answer::Head { head: 0 }),
+        (Operation::Judge, Answer::Judged),
+        (Operation::Append, Answer::Tail { tail: 2 }),
+        (Operation::Install, Answer::Installed),
     ];
-    assert!(rt; come_to(&store, &mut seat, &mut pair, 1, &second));
+    assert!(rt; answers_are(&store, &mut seat, &mut pair, 1, &second));
     let committed = commit_beside(&store, &mut seat, &mut pair);
     assert_eq!(rt; committed, Some((Some(TurnFault::Busy), 1)));
     let fault = TurnFault::Idle;
     let active = BeginFault::Active;
     let last = [
-        (Deed::Close, Answer::Closed),
-        (Deed::Close, Answer::Idle),
-        (Deed::Commit, Answer::NotCommitted { fault }),
-        (Deed::Begin, Answer::Began { time: 1 }),
-        (Deed::Begin, Answer::NotBegun { fault: active }),
+        (Operation::Close, Answer::Closed),
+        (Operation::Close, Answer::Idle),
+        (Operation::Commit, Answer::NotCommitted { fault }),
+        (Operation::Begin, Answer::Began { time: 1 }),
+        (Operation::Begin, Answer::NotBegun { fault: active }),
     ];
-    assert!(rt; come_to(&store, &mut seat, &mut pair, 1, &last));
+    assert!(rt; answers_are(&store, &mut seat, &mut pair, 1, &last));
     let future = BeginFault::Future { clock: 1 };
     assert_eq!(rt; open_as_of(&store, &mut seat, &pair, 2), Err(future));
     Ok(())
@@ -195,24 +195,24 @@ fn one_transaction_puts_sets_and_deletes_a_row(rt: HostRuntime) -> Result<(), Fa
 }
 
 // The turns of a session: it begins, latches, judges, writes or releases, latches and judges again, and ends.
-const BEGINS: [Deed; 1] = [Deed::Begin];
+const BEGINS: [Operation; 1] = [Operation::Begin];
 
-const LATCHES: [Deed; 1] = [Deed::Latch { key: 7 }];
+const LATCHES: [Operation; 1] = [Operation::Latch { key: 7 }];
 
-const JUDGES: [Deed; 1] = [Deed::Judge];
+const JUDGES: [Operation; 1] = [Operation::Judge];
 
-const LATCHES_AND_JUDGES: [Deed; 2] = [Deed::Latch { key: 7 }, Deed::Judge];
+const LATCHES_AND_JUDGES: [Operation; 2] = [Operation::Latch { key: 7 }, Operation::Judge];
 
-const WRITES: [Deed; 3] = [Deed::Append, Deed::Install, Deed::Release];
+const WRITES: [Operation; 3] = [Operation::Append, Operation::Install, Operation::Release];
 
-const RELEASES: [Deed; 1] = [Deed::Release];
+const RELEASES: [Operation; 1] = [Operation::Release];
 
-const COMMITS: [Deed; 3] = [Deed::Release, Deed::Commit, Deed::Close];
+const COMMITS: [Operation; 3] = [Operation::Release, Operation::Commit, Operation::Close];
 
-const CLOSES: [Deed; 2] = [Deed::Release, Deed::Close];
+const CLOSES: [Operation; 2] = [Operation::Release, Operation::Close];
 
-/// The deeds of a session's turn; the plan says whether it writes, and whether it commits.
-fn deeds_of(turn: u32, plan: u32) -> &'static [Deed] {
+/// The operations of a session's turn; the plan says whether it writes, and whether it commits.
+fn deeds_of(turn: u32, plan: u32) -> &'static [Operation] {
     match turn {
         0 => &BEGINS,
         1 => &LATCHES,
@@ -223,24 +223,24 @@ fn deeds_of(turn: u32, plan: u32) -> &'static [Deed] {
     }
 }
 
-/// Whether the deeds of a session come to what they come to in the machine of one thread.
+/// Whether the operations of a session come to what they come to in the machine of one thread.
 fn agree(
     store: &Store,
     seat: &mut Seat,
     pair: &mut Pair,
     machine: &mut Machine,
     s: u32,
-    deeds: &[Deed],
+    operations: &[Operation],
 ) -> bool
-    requires table { IsTable store.now seat.old pair.old }
+    requires table { IsOpened store.now seat.old pair.old }
     requires two { s < 2 }
-    ensures table { IsTable store.now seat.new pair.new }
+    ensures table { IsOpened store.now seat.new pair.new }
 {
     let mut turn = 0;
     let mut same = true;
-    while turn < deeds.len() {
-        let deed = deeds[turn];
-        if drive(store, seat, pair, s, deed) != machine.step(s, deed) {
+    while turn < operations.len() {
+        let operation = operations[turn];
+        if operate(store, seat, pair, s, operation) != machine.step(s, operation) {
             same = false;
         }
         turn += 1;
@@ -258,8 +258,8 @@ fn order_agrees(alloc: Global, order: u32, plan: u32) -> Result<bool, Fail> {
     while left > 0 {
         let s = bits % 2;
         let turn = turns[s as usize];
-        let deeds = deeds_of(turn, if s == 0 { plan % 4 } else { plan / 4 });
-        if !agree(&store, &mut seat, &mut pair, &mut machine, s, deeds) {
+        let operations = deeds_of(turn, if s == 0 { plan % 4 } else { plan / 4 });
+        if !agree(&store, &mut seat, &mut pair, &mut machine, s, operations) {
             return Ok(false);
         }
         turns[s as usize] = turn.wrapping_add(1);

@@ -2,7 +2,7 @@
 ghost use Rattle.std.specs.Prelude.{◌≡◌, ◌<◌, length};
 ghost use Rattle.lst_rule.specs.Rule.{knows};
 ghost use Rattle.lst_rule.specs.Stores.{IsSeatOf};
-ghost use Rattle.lst_drive.specs.Driving.{IsCrew, IsDriven, ArePair, Rests};
+ghost use Rattle.lst_drive.specs.Driving.{HostsAll, IsAtStage, ArePair, Rests};
 
 use crate::pairs::Pair;
 use crate::stages::Stage;
@@ -12,8 +12,8 @@ use lst_txn::{BeginFault, TurnFault, as_of, take_turn};
 
 /// A session that has something to commit, or no open transaction, tries for the turn, and gives it back. Why it was refused, or None.
 fn try_turn(store: &Store, seat: &mut Seat, s: u32) -> Option<TurnFault>
-    requires crew { IsCrew store.now seat.old }
-    requires out { IsDriven seat.old s Stage.Out }
+    requires crew { HostsAll store.now seat.old }
+    requires out { IsAtStage seat.old s Stage.Out }
     requires writes { 0 < length (knows seat.old.view s).own }
     ensures seat { IsSeatOf store.now seat.new }
     ensures out { Rests seat.old.view seat.new.view s }
@@ -34,9 +34,9 @@ pub fn commit_beside(
     seat: &mut Seat,
     pair: &mut Pair,
 ) -> Option<(Option<TurnFault>, Time)>
-    requires crew { IsCrew store.now seat.old }
+    requires crew { HostsAll store.now seat.old }
     requires pair { ArePair seat.old pair.old }
-    ensures crew { IsCrew store.now seat.new }
+    ensures crew { HostsAll store.now seat.new }
     ensures pair { ArePair seat.new pair.new }
 {
     let (Stage::In, Stage::In) = (pair.first, pair.second) else {
@@ -61,10 +61,10 @@ pub fn open_as_of(
     pair: &Pair,
     time: Time,
 ) -> Result<Time, BeginFault>
-    requires crew { IsCrew store.now seat.old }
+    requires crew { HostsAll store.now seat.old }
     requires pair { ArePair seat.old pair.now }
     requires three { 2 < store.now.layout.limits.sessions }
-    ensures crew { IsCrew store.now seat.new }
+    ensures crew { HostsAll store.now seat.new }
     ensures pair { ArePair seat.new pair.now }
 {
     let _ = pair;

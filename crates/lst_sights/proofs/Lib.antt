@@ -7,4 +7,6 @@ pub mod Stamps
 pub mod Watching
 pub mod Writing
 pub mod Committed
+pub mod Keying
 pub mod Asking
+pub mod Backs

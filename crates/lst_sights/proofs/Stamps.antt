@@ -18,7 +18,7 @@ use Rattle.lst_rule.specs.declared.view.View.{View}
 use Rattle.lst_rule.specs.Rule.{knows}
 use Rattle.lst_rule.specs.Learned.{Kept, Made}
 use Rattle.lst_rule.proofs.Knowing.{whole_words}
-use Rattle.lst_sights.specs.Watching.{IsStamped}
+use Rattle.lst_sights.specs.Watching.{IsStamped, KeepsStamps}
 
 pub stamped_same : (w : Words) → IsStamped w w
 stamped_same w = record { rest = refl; others = λ t p some. refl; stored = λ t. refl; writers = λ t. refl }
@@ -63,10 +63,18 @@ module _ (c : Core) (sound : Sound c) (x : ℕ) (is : IsCommitted c.words x) whe
     writers = λ t. dite (ℕ_discrete t x) (λ e. subst (λ (y : ℕ). writer_at after y ≡ writer_at w y) (sym e) named) (λ other. ap (writer w.log) (else t other));
   }
 
+  pub stamp_keeps : KeepsStamps c.words (record c.words { cells = put_in c.words.cells x 0 (2 * (state_at c.words x - 1)) })
+  stamp_keeps t even = dite (ℕ_discrete t x)
+      (λ e. subst (λ (y : ℕ). after.cells y 0 % 2 ≡ 0) (sym e) (let h = here in omega arith))
+      (λ other. ap (λ (y : ℕ). y % 2) (else t other) ∙ even)
+
 -- the words that a view knows
 
 pub kept_stamped : (v w : View) → w.limits ≡ v.limits → Kept v w → v.whole ≡ true → IsStamped (shown v.limits v.words) (shown w.limits w.words)
 kept_stamped v w same kept whole = subst (λ (b : Words). IsStamped (shown v.limits v.words) b) (λ i. shown (sym same i) (sym (kept.words whole) i)) (stamped_same (shown v.limits v.words))
+
+pub kept_keeps : (v w : View) → w.limits ≡ v.limits → Kept v w → v.whole ≡ true → KeepsStamps (shown v.limits v.words) (shown w.limits w.words)
+kept_keeps v w same kept whole = subst (λ (b : Words). KeepsStamps (shown v.limits v.words) b) (λ i. shown (sym same i) (sym (kept.words whole) i)) (λ t even. even)
 
 -- what a step makes of them
 pub made_words : (v w : View) (e : Event) (p : Place) (x : ℕ) → Made v w e p x → v.whole ≡ true → shown w.limits w.words ≡ words_after v.limits (shown v.limits v.words) (knows v (session_of e)) e
@@ -77,3 +85,8 @@ pub made_stamped : (v w : View) (s range n x : ℕ) (p : Place) → Made v w (St
 made_stamped v w s range n x p made whole = let t = made.told in let a = whole_words v t.words t.known t.merger t.allowed whole in
     subst (λ (b : Words). IsStamped (shown v.limits v.words) b) (sym (made_words v w (Stamp s range n) p x made whole))
     (stamp_stamps (state_over v.limits v.words t.known t.merger) a.sound (range * v.limits.tails + n) (subst (λ (ws : List ℕ). IsCommitted (shown v.limits ws) (range * v.limits.tails + n)) (sym (t.allowed.whole whole)) t.enabled.1))
+
+pub made_keeps : (v w : View) (s range n x : ℕ) (p : Place) → Made v w (Stamp s range n) p x → v.whole ≡ true → KeepsStamps (shown v.limits v.words) (shown w.limits w.words)
+made_keeps v w s range n x p made whole = let t = made.told in let a = whole_words v t.words t.known t.merger t.allowed whole in
+    subst (λ (b : Words). KeepsStamps (shown v.limits v.words) b) (sym (made_words v w (Stamp s range n) p x made whole))
+    (stamp_keeps (state_over v.limits v.words t.known t.merger) a.sound (range * v.limits.tails + n) (subst (λ (ws : List ℕ). IsCommitted (shown v.limits ws) (range * v.limits.tails + n)) (sym (t.allowed.whole whole)) t.enabled.1))

@@ -24,9 +24,9 @@ use Rattle.lst_rule.specs.Rule.{knows}
 use Rattle.lst_rule.specs.Learned.{Learns}
 use Rattle.lst_rule.proofs.Knowing.{is_seen, knows_own}
 use Rattle.lst_rule.proofs.Learning.{learns_on, learns_same, kept_by}
-use Rattle.lst_sights.specs.Watching.{IsNotFull, Watches, Watched, IsWatched, IsStamped}
+use Rattle.lst_sights.specs.Watching.{IsNotFull, Watches, Watched, IsWatched, IsStamped, KeepsStamps}
 use Rattle.lst_sights.specs.Laws.{LooksWatch, StampsWatch, WatchesJoin, WatchersKeep, KeptBy}
-use Rattle.lst_sights.proofs.Stamps.{stamped_same, stamped_on, kept_stamped, made_stamped}
+use Rattle.lst_sights.proofs.Stamps.{stamped_same, stamped_on, kept_stamped, made_stamped, kept_keeps, made_keeps}
 use Rattle.lst_sights.proofs.Telling.{low, is_known, is_on_known}
 
 -- ---- no counter was found full
@@ -94,6 +94,7 @@ watched_same v s = record {
   watches = watches_same (knows v s);
   own = λ low. refl;
   words = λ whole. stamped_same (shown v.limits v.words);
+  stamps = λ whole t even. even;
 }
 
 pub watches_join : WatchesJoin
@@ -102,18 +103,21 @@ watches_join u v w s a b = record {
   watches = watches_on (knows u s) (knows v s) (knows w s) a.watches b.watches;
   own = λ low. b.own (subst (λ (l : Limits). s < l.sessions) (sym a.learns.limits) low) ∙ a.own low;
   words = λ whole. stamped_on (shown u.limits u.words) (shown v.limits v.words) (shown w.limits w.words) (a.words whole) (b.words (a.learns.whole ∙ whole));
+  stamps = λ whole t even. b.stamps (a.learns.whole ∙ whole) t (a.stamps whole t even);
 }
 
-watched : (v w : View) (s : ℕ) (k : Known) → Learns v w s k → Watches (knows v s) k → (s < v.limits.sessions → mine s k ≡ mine s (knows v s)) → (v.whole ≡ true → IsStamped (shown v.limits v.words) (shown w.limits w.words)) → Watched v w s
-watched v w s k learns watches own words = record {
+watched : (v w : View) (s : ℕ) (k : Known) → Learns v w s k → Watches (knows v s) k → (s < v.limits.sessions → mine s k ≡ mine s (knows v s)) → (v.whole ≡ true → IsStamped (shown v.limits v.words) (shown w.limits w.words))
+    → (v.whole ≡ true → KeepsStamps (shown v.limits v.words) (shown w.limits w.words)) → Watched v w s
+watched v w s k learns watches own words stamps = record {
   learns = record { now = refl; others = learns.others; hosted = learns.hosted; limits = learns.limits; note = learns.note; note_facts = learns.note_facts; whole = learns.whole };
   watches = subst (λ (u : Known). Watches (knows v s) u) (sym learns.now) watches;
   own = λ low. ap (mine s) learns.now ∙ own low;
   words = words;
+  stamps = stamps;
 }
 
 pub stamps_watch : StampsWatch
-stamps_watch v w s range n x p made = watched v w s (knows v s) made.view (watches_same (knows v s)) (λ low. refl) (made_stamped v w s range n x p made)
+stamps_watch v w s range n x p made = watched v w s (knows v s) made.view (watches_same (knows v s)) (λ low. refl) (made_stamped v w s range n x p made) (made_keeps v w s range n x p made)
 
 -- a look leaves what a session s has committed, which it has seen
 look_owns : (l : Limits) (w : Words) (u : Known) (s : ℕ) (p : Place) → commits_of s (history_of l w) ≡ mine s u → IsWatched p → mine s (look_at l w u p) ≡ mine s u
@@ -200,6 +204,7 @@ looks_watch v w s x p hosted inside is m = let t = m.made.told in let W : Words 
     (look_watches v.limits W k p (is_seen v t.words t.known t.merger t.allowed s hosted) is)
     (λ low. look_owns v.limits W k s p (sym (t.allowed.sound.views s low).own ∙ ap (mine s) (sym (knows_own v t.words t.known t.merger t.allowed s hosted (λ e. omega arith)))) is)
     (kept_stamped v w m.made.view.limits (kept_by v w (Look s (address v.limits p)) p x m))
+    (kept_keeps v w m.made.view.limits (kept_by v w (Look s (address v.limits p)) p x m))
 
 keeps : (u v : Known) → u.begin ≤ length u.seen → Watches u v → KeptBy u v
 keeps u v high watches = subst (λ (k : Known). KeptBy u k) (sym watches.is) record {

@@ -59,6 +59,10 @@ pub record IsCopy (l : Limits) (facts : List Fact) (rec head : ℕ) (copy : List
   pub ends : Contains facts (ChainEnds rec (tails_of copy))
   pub chain : IsChainFrom l facts rec head copy
 
+-- the facts have a version with this tail, whose back word is a number of its range
+abbrev pub IsLinked : Limits → List Fact → ℕ → Type 0
+IsLinked l facts tail = (rec : ℕ) × (c : Version) × IsVersionOf l rec c × Contains facts (fact_of c) × (c.tail ≡ tail) × (c.back ≤ l.tails)
+
 -- every fact of the old list is in the new one
 abbrev pub Includes : List Fact → List Fact → Type 0
 Includes new old = (f : Fact) → Contains old f → Contains new f

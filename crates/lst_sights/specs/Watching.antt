@@ -1,5 +1,5 @@
 -- What a session knows after it has only looked at versions, statuses and the clock.
-use Rattle.std.specs.Prelude.{◌≡◌, ◌⊎◌, ℕ, ◌<◌, List, ◌++◌, true, eqb}
+use Rattle.std.specs.Prelude.{◌≡◌, ◌⊎◌, ℕ, ◌%◌, ◌<◌, List, ◌++◌, true, eqb}
 use Rattle.std.specs.List.{All}
 use Rattle.lst_layout.specs.declared.place.Place.{Place}
 use Rattle.lst_layout.specs.declared.place.Place.TheVariants.{ClockWord, StateWord, HeadWord, CellWord}
@@ -42,12 +42,17 @@ pub record IsStamped (a b : Words) : Type 0 where
   pub stored : (t : ℕ) → eqb (b.cells t 0) 0 ≡ eqb (a.cells t 0) 0
   pub writers : (t : ℕ) → writer_at b t ≡ writer_at a t
 
+-- stamps stay stamps
+abbrev pub KeepsStamps : Words → Words → Type 0
+KeepsStamps a b = (t : ℕ) → a.cells t 0 % 2 ≡ 0 → b.cells t 0 % 2 ≡ 0
+
 -- of the sessions and the merger only s has looked. What it has committed stays, and so do the words that the view knows, but for stamps
 pub record Watched (v w : View) (s : ℕ) : Type 0 where
   pub learns : Learns v w s (knows w s)
   pub watches : Watches (knows v s) (knows w s)
   pub own : s < v.limits.sessions → mine s (knows w s) ≡ mine s (knows v s)
   pub words : v.whole ≡ true → IsStamped (shown v.limits v.words) (shown w.limits w.words)
+  pub stamps : v.whole ≡ true → KeepsStamps (shown v.limits v.words) (shown w.limits w.words)
 
 -- a word of a version or a status
 abbrev pub IsWatched : Place → Type 0

@@ -1,10 +1,9 @@
 pub mod Reading
 pub mod Meanings
-pub mod Settling
 pub mod Lists
 pub mod Chains
 pub mod Stamping
 pub mod Filling
 pub mod Walking
 pub mod Acting
-pub mod Pairing
+pub mod Resolving

@@ -1,4 +1,3 @@
 pub mod Readers
 pub mod Patches
 pub mod Walks
-pub mod Pairs

@@ -6,9 +6,6 @@
 mod columns;
 mod rows;
 mod stamps;
-mod statuses;
-#[cfg(test)]
-mod tests;
 mod words;
 
 pub use columns::column;

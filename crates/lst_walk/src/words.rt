@@ -2,6 +2,7 @@
 ghost use Rattle.std.specs.Prelude.{◌≡◌, ℕ, ◌+◌, ◌*◌, ◌<◌, ◌≤◌, ◌^◌, slice_index};
 ghost use Rattle.lst_core_state.specs.Cells.{record_count};
 ghost use Rattle.lst_rule.specs.Rule.{knows};
+ghost use Rattle.lst_rule.specs.Learned.{Possible};
 ghost use Rattle.lst_sights.specs.Copies.{Version};
 ghost use Rattle.lst_sights.specs.Seen.{act_by};
 ghost use Rattle.lst_sights.specs.Loads.{ChainFound, WordFound};
@@ -12,21 +13,13 @@ ghost use Rattle.lst_walk.specs.Patches.{act_for};
 use lst_bits::{Encoding, unpack_encoding, unpack_head};
 use lst_rule::{RecordId, Seat, Store, load_cell, load_head};
 
-/// The number among all tail records of a range's tail record, which has this number in the range.
-pub(crate) fn tail_of(store: &Store, range: u32, number: u32) -> u32
-    requires range { range < store.now.layout.limits.ranges }
-    requires number { number ≤ store.now.layout.limits.tails }
-    ensures { result ≡ range * store.now.layout.limits.tails + number }
-{
-    range * store.layout().limits.tails + number
-}
-
 /// The number in its range of a record's newest version, or 0.
 pub(crate) fn head(store: &Store, seat: &mut Seat, s: u32, rec: RecordId) -> u32
     requires reader { IsReader store.now seat.old s }
     requires rec { rec.number < record_count store.now.layout.limits }
     ensures reader { IsReader store.now seat.new s }
     ensures watched { Watched seat.old.view seat.new.view s }
+    ensures possible { Possible seat.new.view }
     ensures chain { ChainFound store.now.layout.limits (knows seat.new.view s) s rec.number result }
 {
     unpack_head(load_head(store, seat, s, rec.number)).0
@@ -53,17 +46,6 @@ pub(crate) fn encoding(store: &Store, seat: &mut Seat, s: u32, tail: u32) -> Enc
     ensures act { (c : Version) → IsAt seat.old.view s tail c → act_by c ≡ act_for result.kind result.mask c.values }
 {
     unpack_encoding(word(store, seat, s, tail, 1))
-}
-
-/// The number in its range of the version below.
-pub(crate) fn back(store: &Store, seat: &mut Seat, s: u32, tail: u32) -> u32
-    requires reader { IsReader store.now seat.old s }
-    requires version { (c : Version) × IsAt seat.old.view s tail c × (c.back < 2 ^ 32) }
-    ensures reader { IsReader store.now seat.new s }
-    ensures watched { Watched seat.old.view seat.new.view s }
-    ensures back { (c : Version) → IsAt seat.old.view s tail c → result ≡ c.back }
-{
-    word(store, seat, s, tail, 2) as u32
 }
 
 /// The value word of a column of a version.

@@ -16,8 +16,9 @@ use Rattle.lst_rule.proofs.Knowing.{knows_own}
 use Rattle.lst_rule.specs.declared.store.Store.{Store}
 use Rattle.lst_rule.specs.Seats.{Sitting}
 use Rattle.lst_rule.specs.Stores.{IsSeatOf, Looked}
-use Rattle.lst_sights.specs.Copies.{Version, fact_of, IsVersionOf, IsChainFrom, IsCopy, Includes}
+use Rattle.lst_sights.specs.Copies.{Version, fact_of, IsVersionOf, IsChainFrom, IsCopy, IsLinked, Includes}
 use Rattle.lst_sights.specs.Judging.{IsClosed, AreClosed, IsJudged}
+use Rattle.lst_sights.specs.Loads.{IsBack}
 use Rattle.lst_sights.specs.Watching.{Watched}
 use Rattle.lst_sights.proofs.Copying.{chains_are_walked, copies_stay, chain_stays}
 use Rattle.lst_sights.proofs.Finding.{words_are_found}
@@ -27,7 +28,7 @@ use Rattle.lst_sights.proofs.Watching.{looks_watch, watched_same, watches_join}
 use Rattle.lst_write.specs.Holding.{HasLatch}
 use Rattle.lst_write.specs.Standings.{IsVersion, Stands}
 use Rattle.lst_write.specs.declared.standing.Standing.TheVariants.{Seen, Closed, Newer, Unfinished}
-use Rattle.lst_write.specs.Judgements.{HasChain, HasJudged, IsLinked, IsBack, Stops, FoundNewer, FoundUnfinished, Judges}
+use Rattle.lst_write.specs.Judgements.{HasChain, HasJudged, Stops, FoundNewer, FoundUnfinished, Judges}
 use Rattle.lst_write.proofs.Found.{version_word}
 use Rattle.lst_write.proofs.Keeping.{kept, still_hosts, still_on, found_before, turn_stays}
 
@@ -43,16 +44,6 @@ latched_away v s rec head p hosted low latch = let a = p.allowed in let same : k
 
 pub turn_kept : (v w : View) (s rec head : ℕ) → Possible v → hosts v s ≡ true → s < v.limits.sessions → HasLatch (knows v s) rec head → Watched v w s → (knows w s).turn ≡ (knows v s).turn
 turn_kept v w s rec head p hosted low latch watched = turn_stays (knows v s) (knows w s) (latched_away v s rec head p hosted low latch) watched.watches
-
--- the back word of a version
-pub back_is : (v w : View) (s tail x : ℕ) → hosts v s ≡ true → Looked v w s (CellWord tail 2) x → IsBack v.limits (knows v s) tail x
-back_is v w s tail x hosted h rec c is known at = (words_are_found v w s rec 2 x c hosted is known (omega arith) (subst (λ (t : ℕ). Looked v w s (CellWord t 2) x) (sym at) h).met).back refl
-
-pub back_watched : (v w : View) (s tail x : ℕ) → hosts v s ≡ true → Looked v w s (CellWord tail 2) x → IsLinked v.limits (knows v s) tail → Watched v w s
-back_watched v w s tail x hosted h (rec, c, is, known, at, few) = looks_watch v w s x (CellWord tail 2) hosted (version_word v.limits (knows v s) tail 2 (omega arith) (rec, c, is, known, at)) tt h.met
-
-pub back_few : (v w : View) (s tail x : ℕ) → hosts v s ≡ true → Looked v w s (CellWord tail 2) x → IsLinked v.limits (knows v s) tail → x < 2 ^ 32
-back_few v w s tail x hosted h (rec, c, is, known, at, few) = let e = back_is v w s tail x hosted h rec c is known at in let a = h.met.made.told.allowed.sound.sized.tails.1 in omega arith
 
 -- ---- closed versions
 
@@ -171,11 +162,11 @@ module _ (store : Store) (v : View) (seat : Sitting) (s rec head n : ℕ) (J : J
         known_later : Contains (knows w s).facts (fact_of hand.version)
         known_later = (kept u w s watched).facts (fact_of hand.version) hand.known
 
-        pub walk_again : IsLinked w.limits (knows w s) tail
+        pub walk_again : IsLinked w.limits (knows w s).facts tail
         walk_again = (rec, hand.version, is_later, known_later, tail_is, let e = ap (λ (l : Limits). l.tails) watched.learns.limits in let a = hand.falls in let b = hand.few in omega arith)
 
         -- a closed one, and then the one below it
-        module _ (next : Sitting) (m : ℕ) (seat_of : IsSeatOf store next) (later : Watched w next.view s) (back : IsBack w.limits (knows w s) tail m) where
+        module _ (next : Sitting) (m : ℕ) (seat_of : IsSeatOf store next) (later : Watched w next.view s) (back : IsBack w.limits (knows w s).facts tail m) where
           both : Watched seat.view next.view s
           both = watches_join u w next.view s watched later
 

@@ -27,14 +27,6 @@ HasChain l k rec head = (copy : List Version) × IsCopy l k.facts rec head copy
 abbrev pub HasJudged : Limits → Known → ℕ → ℕ → ℕ → Type 0
 HasJudged l k s rec head = (copy : List Version) × IsCopy l k.facts rec head copy × IsJudged k s copy
 
--- the facts have a version with this tail, whose back word is a number of its range
-abbrev pub IsLinked : Limits → Known → ℕ → Type 0
-IsLinked l k tail = (rec : ℕ) × (c : Version) × IsVersionOf l rec c × Contains k.facts (fact_of c) × (c.tail ≡ tail) × (c.back ≤ l.tails)
-
--- each version with this tail that the facts have has the back word n
-abbrev pub IsBack : Limits → Known → ℕ → ℕ → Type 0
-IsBack l k tail n = (rec : ℕ) (c : Version) → IsVersionOf l rec c → Contains k.facts (fact_of c) → c.tail ≡ tail → n ≡ c.back
-
 -- these are all versions of the record's chain, newest first: the transactions of those before c are closed
 pub record Stops (l : Limits) (k : Known) (rec head : ℕ) (passed : List Version) (c : Version) (older : List Version) : Type 0 where
   pub copy : IsCopy l k.facts rec head (passed ++ c ∷ older)

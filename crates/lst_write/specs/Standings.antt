@@ -66,14 +66,6 @@ pub record IsOther (k : Known) (s j n : ℕ) : Type 0 where
   pub name : name_of j n ≢ name_of s k.number
   pub begun : j ≡ s → n ≤ k.number
 
--- the state word of the transaction, number n of the session j, was loaded last and told that it is committed at this time
-pub record FoundCommitted (k : Known) (j n time : ℕ) : Type 0 where
-  pub some : 0 < time
-  pub fact : Contains k.facts (StateAt j n (time + 1))
-  pub state : k.looks.state ≡ time + 1
-  pub session : k.looks.session ≡ j
-  pub number : k.looks.number ≡ n
-
 -- each version of the transaction of this name, whose start word was loaded last before the view was v, stands so
 abbrev pub StandsBy : View → View → ℕ → ℕ → Standing → Type 0
 StandsBy v w s name standing = (rec : ℕ) (c : Version) → StartFound (knows v s) rec c (1 + 2 * c.writer) → c.writer ≡ name → IsStanding v w s rec c standing

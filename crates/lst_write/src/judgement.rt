@@ -1,17 +1,17 @@
 //! Whether a transaction may write on a record.
 ghost use Rattle.std.specs.Prelude.{◌≡◌, ◌+◌, ◌*◌, ◌<◌, ◌≤◌, ◌/◌, true, IfOk, IfErr};
-ghost use Rattle.lst_core_state.specs.Cells.{record_count, range_of};
+ghost use Rattle.lst_core_state.specs.Cells.{record_count};
 ghost use Rattle.lst_rule.specs.Rule.{knows, hosts};
 ghost use Rattle.lst_rule.specs.Stores.{IsSeatOf};
 ghost use Rattle.lst_sights.specs.Laws.{KeptBy};
 ghost use Rattle.lst_sights.specs.Watching.{Watched};
 ghost use Rattle.lst_write.specs.Holding.{HasLatch};
-ghost use Rattle.lst_write.specs.Judgements.{HasChain, HasJudged, FaultIs, IsLinked, IsBack};
+ghost use Rattle.lst_write.specs.Judgements.{HasChain, HasJudged, FaultIs};
 
 use crate::standing::{Standing, standing_of};
-use lst_layout::Layout;
 use lst_model::Time;
-use lst_rule::{RecordId, Seat, Store, load_cell};
+use lst_rule::{RecordId, Seat, Store};
+use lst_sights::{tail_of, version_below};
 
 /// Why a transaction may not write on a record.
 #[derive(Clone, Copy, PartialEq, Eq, Debug)]
@@ -20,27 +20,6 @@ pub enum JudgeFault {
     Newer { time: Time },
     /// The transaction with this number of this other session has written on the record, and isn't finished.
     Unfinished { session: u32, number: u32 },
-}
-
-/// The number among all tails of a tail of a record, by its number in the record's range.
-pub(crate) fn tail_number(layout: &Layout, rec: RecordId, number: u32) -> u32
-    requires record { rec.number < record_count layout.now.limits }
-    requires number { number ≤ layout.now.limits.tails }
-    ensures { result ≡ range_of rec.number * layout.now.limits.tails + number }
-{
-    rec.number / 256 * layout.limits.tails + number
-}
-
-/// The number in its range of the version below one, or 0.
-fn version_below(store: &Store, seat: &mut Seat, s: u32, tail: u32) -> u32
-    requires seat { IsSeatOf store.now seat.old }
-    requires host { hosts seat.old.view s ≡ true }
-    requires version { IsLinked seat.old.view.limits (knows seat.old.view s) tail }
-    ensures seat { IsSeatOf store.now seat.new }
-    ensures watched { Watched seat.old.view seat.new.view s }
-    ensures back { IsBack seat.old.view.limits (knows seat.old.view s) tail result }
-{
-    load_cell(store, seat, s, tail, 2) as u32
 }
 
 /// Looks whether the session may write on a record whose latch it has: it walks from the newest version past closed ones to the first other
@@ -71,7 +50,7 @@ pub fn judge(
     seat.consider();
     let mut number = head;
     while number > 0 {
-        let tail = tail_number(store.layout(), rec, number);
+        let tail = tail_of(store, rec.number / 256, number);
         match standing_of(store, seat, s, tail) {
             Standing::Seen => return Ok(()),
             Standing::Closed => number = version_below(store, seat, s, tail),

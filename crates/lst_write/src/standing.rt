@@ -1,16 +1,17 @@
 //! How a version of a record stands to a transaction that is to write above it.
-ghost use Rattle.std.specs.Prelude.{◌≡◌, ◌+◌, ◌<◌, ◌≤◌, ◌↔◌, IsTrue, length, true};
+ghost use Rattle.std.specs.Prelude.{◌≡◌, ◌+◌, ◌<◌, ◌≤◌, length, true};
 ghost use Rattle.lst_layout.specs.Addresses as layout;
 ghost use Rattle.lst_layout.specs.declared.place.Place.TheVariants.{StateWord};
 ghost use Rattle.lst_core_state.specs.State.{name_of};
 ghost use Rattle.lst_rule.specs.Rule.{knows, hosts};
 ghost use Rattle.lst_rule.specs.Stores.{IsSeatOf};
 ghost use Rattle.lst_sights.specs.Watching.{Watched};
-ghost use Rattle.lst_write.specs.Standings.{IsStamp, IsOther, IsVersion, FoundCommitted, StandsAt, StandsBy, Stands, standing_at};
+ghost use Rattle.lst_write.specs.Standings.{IsStamp, IsOther, IsVersion, StandsAt, StandsBy, Stands, standing_at};
 
-use lst_bits::{Start, State, unpack_start, unpack_state};
+use lst_bits::{Start, unpack_start};
 use lst_model::Time;
-use lst_rule::{Seat, Store, load_cell, load_clock, load_state};
+use lst_rule::{Seat, Status, Store, load_cell, load_clock, transaction_status};
+use lst_sights::is_own;
 
 /// How a version stands to a transaction.
 #[derive(Clone, Copy, PartialEq, Eq, Debug)]
@@ -67,37 +68,6 @@ fn stamped_standing(store: &Store, seat: &mut Seat, s: u32, time: Time) -> Stand
     committed_standing(seat, s, time)
 }
 
-/// How the versions of a transaction stand whose state word was found to be committed at a time.
-fn logged_standing(
-    store: &Store,
-    seat: &mut Seat,
-    s: u32,
-    session: u32,
-    number: u32,
-    time: Time,
-) -> Standing
-    requires seat { IsSeatOf store.now seat.old }
-    requires host { hosts seat.old.view s ≡ true }
-    requires on { (knows seat.old.view s).is_open ≡ true }
-    requires other { IsOther (knows seat.old.view s) s session number }
-    requires place { layout.IsWithin seat.old.view.limits (StateWord session number) }
-    requires found { FoundCommitted (knows seat.old.view s) session number time }
-    ensures seat { IsSeatOf store.now seat.new }
-    ensures watched { Watched seat.old.view seat.new.view s }
-    ensures stands { StandsBy seat.old.view seat.new.view s (name_of session number) result }
-{
-    seat.consider();
-    if time <= seat.seen(s) {
-        return committed_standing(seat, s, time);
-    }
-    let clock = load_clock(store, seat, s);
-    if time > clock {
-        return Standing::Unfinished { session, number };
-    }
-    seat.consider();
-    committed_standing(seat, s, time)
-}
-
 /// How the versions of a transaction stand that isn't the open one of the session.
 fn written_standing(store: &Store, seat: &mut Seat, s: u32, session: u32, number: u32) -> Standing
     requires seat { IsSeatOf store.now seat.old }
@@ -109,19 +79,14 @@ fn written_standing(store: &Store, seat: &mut Seat, s: u32, session: u32, number
     ensures watched { Watched seat.old.view seat.new.view s }
     ensures stands { StandsBy seat.old.view seat.new.view s (name_of session number) result }
 {
-    match unpack_state(load_state(store, seat, s, session, number)) {
-        State::Active => Standing::Unfinished { session, number },
-        State::Closed => Standing::Closed,
-        State::Committed { time } => logged_standing(store, seat, s, session, number, time),
+    let status = transaction_status(store, seat, s, session, number);
+    seat.consider();
+    match status {
+        Status::Empty => unreachable!(),
+        Status::Unfinished { .. } => Standing::Unfinished { session, number },
+        Status::Closed => Standing::Closed,
+        Status::Committed { time } => committed_standing(seat, s, time),
     }
-}
-
-/// Whether a transaction is the last one that the session began.
-fn is_own(seat: &Seat, s: u32, session: u32, number: u32) -> bool
-    requires { hosts seat.now.view s ≡ true }
-    ensures { IsTrue result ↔ (session ≡ s) × (number ≡ (knows seat.now.view s).number) }
-{
-    session == s && number == seat.number(s)
 }
 
 /// How a version stands, which is named by its tail's number among all tails.

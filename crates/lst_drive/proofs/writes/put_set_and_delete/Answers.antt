@@ -1,5 +1,5 @@
 use Rattle.std.proofs.Common.{[], ◌∷◌, ◌++◌}
-use Rattle.lst_model.specs.declared.acts.Act.TheVariants.{Put, Set}
+use Rattle.lst_model.specs.declared.acts.Act.TheVariants.{Put}
 use Rattle.lst_drive.proofs.Writing.{no_hand, may_write, sees_none, may_place, fits_sight}
 use Rattle.lst_drive.proofs.writes.put_set_and_delete.Goals as goal
 

@@ -1,8 +1,8 @@
-use Rattle.std.proofs.Common.{ℕ, nat_le, sym, ap, ◌∙◌, arith}
+use Rattle.std.proofs.Common.{refl, true≢false, ℕ, nat_le, sym, ap, ◌∙◌, arith, inl, inr}
 use Rattle.lst_layout.specs.declared.place.Place.TheVariants.{CellWord}
 use Rattle.lst_core_state.specs.State.{name_of}
 use Rattle.lst_walk.proofs.Reading.{watched_on, reader_on, looked_watched, start_found}
-use Rattle.lst_walk.proofs.Stamping.{tail_place, start_is, named, named_session, named_number, version_at, at_same, stamp_seen, named_own_seen, named_other_seen, other_name, own_few}
+use Rattle.lst_walk.proofs.Stamping.{tail_place, start_is, named, named_session, named_number, version_at, at_same, stamp_seen, named_own_seen, named_other_seen, untimed_empty, timed_found, own_found, concluded, other_name, own_few}
 use Rattle.lst_walk.proofs.stamps.is_seen.Goals as goal
 
 pub load_cell-start-requires-clause-place : goal.load_cell-start-requires-clause-place
@@ -29,9 +29,6 @@ returns-in-At-clause-watched c = looked_watched c.args.seat.now.view c.load_cell
 pub returns-in-At-clause-seen : goal.returns-in-At-clause-seen
 returns-in-At-clause-seen c = λ d at. ap (λ (n : ℕ). nat_le c.in-At.time n) c.begin.ensures ∙ stamp_seen c.args.seat.now.view c.load_cell-start.new.seat.view c.args.s c.tail_of.result c.load_cell-start.result c.in-At.time c.requires.reader.host ((reader_on c.args.store.now c.args.seat.now c.load_cell-start.new.seat c.args.s c.requires.reader (looked_watched c.args.seat.now.view c.load_cell-start.new.seat.view c.args.s c.load_cell-start.result (CellWord c.tail_of.result 0) c.requires.reader.host (tail_place c.args.store.now.layout.limits c.args.seat.now.view c.args.range c.args.tail c.tail_of.result 0 c.requires.reader.seat_of.limits c.tail_of.ensures c.requires.range c.requires.tail (omega arith)) tt c.load_cell-start.ensures.looked) c.load_cell-start.ensures.seat)).host c.requires.reader.opened ((reader_on c.args.store.now c.args.seat.now c.load_cell-start.new.seat c.args.s c.requires.reader (looked_watched c.args.seat.now.view c.load_cell-start.new.seat.view c.args.s c.load_cell-start.result (CellWord c.tail_of.result 0) c.requires.reader.host (tail_place c.args.store.now.layout.limits c.args.seat.now.view c.args.range c.args.tail c.tail_of.result 0 c.requires.reader.seat_of.limits c.tail_of.ensures c.requires.range c.requires.tail (omega arith)) tt c.load_cell-start.ensures.looked) c.load_cell-start.ensures.seat)).opened (looked_watched c.args.seat.now.view c.load_cell-start.new.seat.view c.args.s c.load_cell-start.result (CellWord c.tail_of.result 0) c.requires.reader.host (tail_place c.args.store.now.layout.limits c.args.seat.now.view c.args.range c.args.tail c.tail_of.result 0 c.requires.reader.seat_of.limits c.tail_of.ensures c.requires.range c.requires.tail (omega arith)) tt c.load_cell-start.ensures.looked) c.load_cell-start.ensures.looked c.in-At.ensures.word d (at_same c.args.seat.now.view c.args.s _ c.tail_of.result d (sym c.tail_of.ensures) at)
 
-pub is_own-requires-clause-few : goal.is_own-requires-clause-few
-is_own-requires-clause-few c = (own_few c.args.store.now c.args.seat.now c.args.s c.requires.reader, c.in-By.ensures.range.0)
-
 pub returns-then-is_own-clause-reader : goal.returns-then-is_own-clause-reader
 returns-then-is_own-clause-reader c = reader_on c.args.store.now c.args.seat.now c.load_cell-start.new.seat c.args.s c.requires.reader (looked_watched c.args.seat.now.view c.load_cell-start.new.seat.view c.args.s c.load_cell-start.result (CellWord c.tail_of.result 0) c.requires.reader.host (tail_place c.args.store.now.layout.limits c.args.seat.now.view c.args.range c.args.tail c.tail_of.result 0 c.requires.reader.seat_of.limits c.tail_of.ensures c.requires.range c.requires.tail (omega arith)) tt c.load_cell-start.ensures.looked) c.load_cell-start.ensures.seat
 
@@ -39,7 +36,7 @@ pub returns-then-is_own-clause-watched : goal.returns-then-is_own-clause-watched
 returns-then-is_own-clause-watched c = looked_watched c.args.seat.now.view c.load_cell-start.new.seat.view c.args.s c.load_cell-start.result (CellWord c.tail_of.result 0) c.requires.reader.host (tail_place c.args.store.now.layout.limits c.args.seat.now.view c.args.range c.args.tail c.tail_of.result 0 c.requires.reader.seat_of.limits c.tail_of.ensures c.requires.range c.requires.tail (omega arith)) tt c.load_cell-start.ensures.looked
 
 pub returns-then-is_own-clause-seen : goal.returns-then-is_own-clause-seen
-returns-then-is_own-clause-seen c = λ d at. named_own_seen c.args.seat.now.view c.load_cell-start.new.seat.view c.args.s c.tail_of.result c.load_cell-start.result c.in-By.session c.in-By.number c.requires.reader.host (looked_watched c.args.seat.now.view c.load_cell-start.new.seat.view c.args.s c.load_cell-start.result (CellWord c.tail_of.result 0) c.requires.reader.host (tail_place c.args.store.now.layout.limits c.args.seat.now.view c.args.range c.args.tail c.tail_of.result 0 c.requires.reader.seat_of.limits c.tail_of.ensures c.requires.range c.requires.tail (omega arith)) tt c.load_cell-start.ensures.looked) c.load_cell-start.ensures.looked c.in-By.ensures.word (sym c.is_own.ensures ∙ c.if-is_own.true) d (at_same c.args.seat.now.view c.args.s _ c.tail_of.result d (sym c.tail_of.ensures) at)
+returns-then-is_own-clause-seen c = λ d at. named_own_seen c.args.seat.now.view c.load_cell-start.new.seat.view c.args.s c.tail_of.result c.load_cell-start.result c.in-By.session c.in-By.number c.requires.reader.host (looked_watched c.args.seat.now.view c.load_cell-start.new.seat.view c.args.s c.load_cell-start.result (CellWord c.tail_of.result 0) c.requires.reader.host (tail_place c.args.store.now.layout.limits c.args.seat.now.view c.args.range c.args.tail c.tail_of.result 0 c.requires.reader.seat_of.limits c.tail_of.ensures c.requires.range c.requires.tail (omega arith)) tt c.load_cell-start.ensures.looked) c.load_cell-start.ensures.looked c.in-By.ensures.word (c.if-is_own.ensures.0 refl) d (at_same c.args.seat.now.view c.args.s _ c.tail_of.result d (sym c.tail_of.ensures) at)
 
 pub is_committed-requires-clause-reader : goal.is_committed-requires-clause-reader
 is_committed-requires-clause-reader c = reader_on c.args.store.now c.args.seat.now c.load_cell-start.new.seat c.args.s c.requires.reader (looked_watched c.args.seat.now.view c.load_cell-start.new.seat.view c.args.s c.load_cell-start.result (CellWord c.tail_of.result 0) c.requires.reader.host (tail_place c.args.store.now.layout.limits c.args.seat.now.view c.args.range c.args.tail c.tail_of.result 0 c.requires.reader.seat_of.limits c.tail_of.ensures c.requires.range c.requires.tail (omega arith)) tt c.load_cell-start.ensures.looked) c.load_cell-start.ensures.seat
@@ -54,10 +51,22 @@ pub is_committed-requires-clause-number : goal.is_committed-requires-clause-numb
 is_committed-requires-clause-number c = named_number c.args.store.now.layout.limits c.args.seat.now.view c.load_cell-start.new.seat.view c.args.s c.tail_of.result c.load_cell-start.result c.args.store.now.layout.valid c.requires.reader.seat_of.limits c.requires.reader.host (tail_place c.args.store.now.layout.limits c.args.seat.now.view c.args.range c.args.tail c.tail_of.result 0 c.requires.reader.seat_of.limits c.tail_of.ensures c.requires.range c.requires.tail (omega arith)) c.load_cell-start.ensures.looked c.in-By.session c.in-By.number c.in-By.ensures.word c.in-By.ensures.range.0
 
 pub is_committed-requires-clause-other : goal.is_committed-requires-clause-other
-is_committed-requires-clause-other c = other_name c.in-By.session c.in-By.number _ (sym c.is_own.ensures ∙ c.if-is_own.false)
+is_committed-requires-clause-other c = other_name c.args.s c.in-By.session c.in-By.number _ (own_few c.args.store.now c.args.seat.now c.args.s c.requires.reader) c.in-By.ensures.range.0 (λ q. true≢false (sym (c.if-is_own.ensures.1 q)))
 
 pub returns-else-is_own-clause-watched : goal.returns-else-is_own-clause-watched
 returns-else-is_own-clause-watched c = watched_on c.args.seat.now.view c.load_cell-start.new.seat.view c.is_committed.new.seat.view c.args.s (looked_watched c.args.seat.now.view c.load_cell-start.new.seat.view c.args.s c.load_cell-start.result (CellWord c.tail_of.result 0) c.requires.reader.host (tail_place c.args.store.now.layout.limits c.args.seat.now.view c.args.range c.args.tail c.tail_of.result 0 c.requires.reader.seat_of.limits c.tail_of.ensures c.requires.range c.requires.tail (omega arith)) tt c.load_cell-start.ensures.looked) c.is_committed.ensures.watched
 
 pub returns-else-is_own-clause-seen : goal.returns-else-is_own-clause-seen
 returns-else-is_own-clause-seen c = λ d at. named_other_seen c.args.seat.now.view c.load_cell-start.new.seat.view c.args.s c.tail_of.result c.load_cell-start.result c.in-By.session c.in-By.number c.is_committed.result c.requires.reader.host c.requires.reader.opened (looked_watched c.args.seat.now.view c.load_cell-start.new.seat.view c.args.s c.load_cell-start.result (CellWord c.tail_of.result 0) c.requires.reader.host (tail_place c.args.store.now.layout.limits c.args.seat.now.view c.args.range c.args.tail c.tail_of.result 0 c.requires.reader.seat_of.limits c.tail_of.ensures c.requires.range c.requires.tail (omega arith)) tt c.load_cell-start.ensures.looked) c.load_cell-start.ensures.looked c.in-By.ensures.word c.is_committed.ensures.seen d (at_same c.args.seat.now.view c.args.s _ c.tail_of.result d (sym c.tail_of.ensures) at)
+
+pub returns-in-Empty-clause-resolved : goal.returns-in-Empty-clause-resolved
+returns-in-Empty-clause-resolved c = inr (inl (untimed_empty c.args.store.now.layout.limits c.args.seat.now.view c.load_cell-start.new.seat.view c.load_cell-start.new.seat.view c.args.s c.args.range c.args.tail c.tail_of.result c.load_cell-start.result c.requires.reader.seat_of.limits c.tail_of.ensures c.load_cell-start.ensures.looked c.in-Empty.ensures.word))
+
+pub returns-in-At-clause-resolved : goal.returns-in-At-clause-resolved
+returns-in-At-clause-resolved c = inl (timed_found c.args.store.now.layout.limits c.args.seat.now.view c.load_cell-start.new.seat.view c.load_cell-start.new.seat.view c.args.s c.args.range c.args.tail c.tail_of.result c.load_cell-start.result c.requires.reader.seat_of.limits c.tail_of.ensures c.load_cell-start.ensures.looked c.in-At.time c.in-At.ensures.range.0 c.in-At.ensures.word)
+
+pub returns-then-is_own-clause-resolved : goal.returns-then-is_own-clause-resolved
+returns-then-is_own-clause-resolved c = inr (inr (own_found c.args.store.now.layout.limits c.args.seat.now.view c.load_cell-start.new.seat.view c.load_cell-start.new.seat.view c.args.s c.args.range c.args.tail c.tail_of.result c.load_cell-start.result c.requires.reader.seat_of.limits c.tail_of.ensures c.load_cell-start.ensures.looked c.in-By.session c.in-By.number c.in-By.ensures.word (c.if-is_own.ensures.0 refl) (looked_watched c.args.seat.now.view c.load_cell-start.new.seat.view c.args.s c.load_cell-start.result (CellWord c.tail_of.result 0) c.requires.reader.host (tail_place c.args.store.now.layout.limits c.args.seat.now.view c.args.range c.args.tail c.tail_of.result 0 c.requires.reader.seat_of.limits c.tail_of.ensures c.requires.range c.requires.tail (omega arith)) tt c.load_cell-start.ensures.looked)))
+
+pub returns-else-is_own-clause-resolved : goal.returns-else-is_own-clause-resolved
+returns-else-is_own-clause-resolved c = concluded c.args.store.now.layout.limits c.args.seat.now.view c.load_cell-start.new.seat.view c.is_committed.new.seat.view c.args.s c.args.range c.args.tail c.tail_of.result c.load_cell-start.result c.requires.reader.seat_of.limits c.tail_of.ensures c.load_cell-start.ensures.looked c.in-By.session c.in-By.number c.in-By.ensures.word c.in-By.ensures.range.0 (looked_watched c.args.seat.now.view c.load_cell-start.new.seat.view c.args.s c.load_cell-start.result (CellWord c.tail_of.result 0) c.requires.reader.host (tail_place c.args.store.now.layout.limits c.args.seat.now.view c.args.range c.args.tail c.tail_of.result 0 c.requires.reader.seat_of.limits c.tail_of.ensures c.requires.range c.requires.tail (omega arith)) tt c.load_cell-start.ensures.looked) c.is_committed.ensures.told

@@ -1,7 +1,6 @@
-use Rattle.std.proofs.Common.{◌+◌, ◌*◌, ap, ◌∙◌, arith}
-use Rattle.lst_layout.specs.declared.layout.Layout.{Layout}
+use Rattle.std.proofs.Common.{ap, arith}
 use Rattle.lst_layout.specs.declared.limits.Limits.{Limits}
-use Rattle.lst_core_state.specs.Cells.{record_count, range_of}
+use Rattle.lst_core_state.specs.Cells.{record_count}
 use Rattle.lst_sights.proofs.Watching.{watches_join, watchers_keep}
 use Rattle.lst_write.proofs.Walking.{latched_on, turn_kept, starts_walk, walk_ends, hand, walk_version, walk_seen, walk_newer, walk_unfinished, walk_again, walk_falls, walk_on}
 use Rattle.lst_write.proofs.judgement.judge.Goals as goal
@@ -9,14 +8,14 @@ use Rattle.lst_write.proofs.judgement.judge.Goals as goal
 pub loop-number-init : goal.loop-number-init
 loop-number-init c = starts_walk _ _ _ _ _ c.requires.seat c.requires.host (latched_on _ _ _ _ c.consider.ensures c.requires.host c.requires.own c.requires.latch) c.requires.chain
 
-pub tail_number-tail-requires-clause-record : goal.tail_number-tail-requires-clause-record
-tail_number-tail-requires-clause-record c = let low = c.loop-number.invariant.copy.low in let e = ap record_count c.loop-number.invariant.seat_of.limits in let f = ap (λ (l : Layout). record_count l.limits) c.layout.ensures in omega arith
+pub tail_of-tail-requires-clause-range : goal.tail_of-tail-requires-clause-range
+tail_of-tail-requires-clause-range c = let low = c.loop-number.invariant.copy.low in let e = ap record_count c.loop-number.invariant.seat_of.limits in omega arith
 
-pub tail_number-tail-requires-clause-number : goal.tail_number-tail-requires-clause-number
-tail_number-tail-requires-clause-number c = let few = (hand _ _ _ _ _ _ _ c.loop-number.invariant c.loop-number-test.true).few in let e = ap (λ (l : Limits). l.tails) c.loop-number.invariant.seat_of.limits in let f = ap (λ (l : Layout). l.limits.tails) c.layout.ensures in omega arith
+pub tail_of-tail-requires-clause-number : goal.tail_of-tail-requires-clause-number
+tail_of-tail-requires-clause-number c = let few = (hand _ _ _ _ _ _ _ c.loop-number.invariant c.loop-number-test.true).few in let e = ap (λ (l : Limits). l.tails) c.loop-number.invariant.seat_of.limits in omega arith
 
 pub standing_of-requires-clause-version : goal.standing_of-requires-clause-version
-standing_of-requires-clause-version c = walk_version _ _ _ _ _ _ _ c.loop-number.invariant c.loop-number-test.true _ (c.tail_number-tail.ensures ∙ ap (λ (l : Layout). range_of c.args.rec.number * l.limits.tails + c.loop-number.number) c.layout.ensures)
+standing_of-requires-clause-version c = walk_version _ _ _ _ _ _ _ c.loop-number.invariant c.loop-number-test.true _ (c.tail_of-tail.ensures)
 
 pub returns-in-Seen-clause-watched : goal.returns-in-Seen-clause-watched
 returns-in-Seen-clause-watched c = watches_join _ _ _ _ c.loop-number.invariant.watched c.standing_of.ensures.watched
@@ -37,22 +36,22 @@ pub returns-in-Unfinished-clause-turn : goal.returns-in-Unfinished-clause-turn
 returns-in-Unfinished-clause-turn c = turn_kept _ _ _ _ _ c.consider.ensures c.requires.host c.requires.own c.requires.latch (watches_join _ _ _ _ c.loop-number.invariant.watched c.standing_of.ensures.watched)
 
 pub returns-in-Seen-clause-ok : goal.returns-in-Seen-clause-ok
-returns-in-Seen-clause-ok c = walk_seen _ _ _ _ _ _ _ c.loop-number.invariant c.loop-number-test.true _ (c.tail_number-tail.ensures ∙ ap (λ (l : Layout). range_of c.args.rec.number * l.limits.tails + c.loop-number.number) c.layout.ensures) _ c.standing_of.ensures.watched c.in-Seen.ensures.stands
+returns-in-Seen-clause-ok c = walk_seen _ _ _ _ _ _ _ c.loop-number.invariant c.loop-number-test.true _ (c.tail_of-tail.ensures) _ c.standing_of.ensures.watched c.in-Seen.ensures.stands
 
 pub returns-in-Newer-clause-err : goal.returns-in-Newer-clause-err
-returns-in-Newer-clause-err c = walk_newer _ _ _ _ _ _ _ c.loop-number.invariant c.loop-number-test.true _ (c.tail_number-tail.ensures ∙ ap (λ (l : Layout). range_of c.args.rec.number * l.limits.tails + c.loop-number.number) c.layout.ensures) _ c.standing_of.ensures.watched c.in-Newer.time c.consider-in-Newer.ensures c.in-Newer.ensures.stands
+returns-in-Newer-clause-err c = walk_newer _ _ _ _ _ _ _ c.loop-number.invariant c.loop-number-test.true _ (c.tail_of-tail.ensures) _ c.standing_of.ensures.watched c.in-Newer.time c.consider-in-Newer.ensures c.in-Newer.ensures.stands
 
 pub returns-in-Unfinished-clause-err : goal.returns-in-Unfinished-clause-err
-returns-in-Unfinished-clause-err c = walk_unfinished _ _ _ _ _ _ _ c.loop-number.invariant c.loop-number-test.true _ (c.tail_number-tail.ensures ∙ ap (λ (l : Layout). range_of c.args.rec.number * l.limits.tails + c.loop-number.number) c.layout.ensures) _ c.standing_of.ensures.watched c.in-Unfinished.session c.in-Unfinished.number c.in-Unfinished.ensures.stands
+returns-in-Unfinished-clause-err c = walk_unfinished _ _ _ _ _ _ _ c.loop-number.invariant c.loop-number-test.true _ (c.tail_of-tail.ensures) _ c.standing_of.ensures.watched c.in-Unfinished.session c.in-Unfinished.number c.in-Unfinished.ensures.stands
 
 pub version_below-number-requires-clause-version : goal.version_below-number-requires-clause-version
-version_below-number-requires-clause-version c = walk_again _ _ _ _ _ _ _ c.loop-number.invariant c.loop-number-test.true _ (c.tail_number-tail.ensures ∙ ap (λ (l : Layout). range_of c.args.rec.number * l.limits.tails + c.loop-number.number) c.layout.ensures) _ c.standing_of.ensures.watched
+version_below-number-requires-clause-version c = walk_again _ _ _ _ _ _ _ c.loop-number.invariant c.loop-number-test.true _ (c.tail_of-tail.ensures) _ c.standing_of.ensures.watched
 
 pub loop-number-smaller : goal.loop-number-smaller
-loop-number-smaller c = walk_falls _ _ _ _ _ _ _ c.loop-number.invariant c.loop-number-test.true _ (c.tail_number-tail.ensures ∙ ap (λ (l : Layout). range_of c.args.rec.number * l.limits.tails + c.loop-number.number) c.layout.ensures) _ c.standing_of.ensures.watched c.version_below-number.new.seat c.version_below-number.result c.version_below-number.ensures.seat c.version_below-number.ensures.watched c.version_below-number.ensures.back
+loop-number-smaller c = walk_falls _ _ _ _ _ _ _ c.loop-number.invariant c.loop-number-test.true _ (c.tail_of-tail.ensures) _ c.standing_of.ensures.watched c.version_below-number.new.seat c.version_below-number.result c.version_below-number.ensures.seat c.version_below-number.ensures.watched c.version_below-number.ensures.back
 
 pub loop-number-preserved : goal.loop-number-preserved
-loop-number-preserved c = walk_on _ _ _ _ _ _ _ c.loop-number.invariant c.loop-number-test.true _ (c.tail_number-tail.ensures ∙ ap (λ (l : Layout). range_of c.args.rec.number * l.limits.tails + c.loop-number.number) c.layout.ensures) _ c.standing_of.ensures.watched c.version_below-number.new.seat c.version_below-number.result c.version_below-number.ensures.seat c.version_below-number.ensures.watched c.version_below-number.ensures.back c.in-Closed.ensures.stands
+loop-number-preserved c = walk_on _ _ _ _ _ _ _ c.loop-number.invariant c.loop-number-test.true _ (c.tail_of-tail.ensures) _ c.standing_of.ensures.watched c.version_below-number.new.seat c.version_below-number.result c.version_below-number.ensures.seat c.version_below-number.ensures.watched c.version_below-number.ensures.back c.in-Closed.ensures.stands
 
 pub returns-clause-turn : goal.returns-clause-turn
 returns-clause-turn c = turn_kept _ _ _ _ _ c.consider.ensures c.requires.host c.requires.own c.requires.latch c.loop-number.invariant.watched

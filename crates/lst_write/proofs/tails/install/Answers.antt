@@ -1,5 +1,5 @@
 use Rattle.lst_write.proofs.Installing.{install_enabled, install_stands, install_word, installed}
-use Rattle.std.proofs.Common.{◌+◌, ◌<◌, sym, subst, arith}
+use Rattle.std.proofs.Common.{◌<◌, sym, subst, arith}
 use Rattle.lst_core_state.specs.declared.known.Hold.{Hold}
 use Rattle.lst_write.proofs.Freeing.{install_frees, install_writes}
 use Rattle.lst_write.proofs.tails.install.Goals as goal

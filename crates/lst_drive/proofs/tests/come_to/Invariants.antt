@@ -1,9 +1,0 @@
-use Rattle.std.proofs.Common.{◌-◌, ◌≤◌, length}
-use Rattle.lst_drive.specs.Driving.{IsTable}
-use Rattle.lst_drive.proofs.tests.come_to.Given as goal
-
-abbrev pub invariant-loop-turn : goal.invariant-loop-turn
-invariant-loop-turn l = IsTable l.store l.seat l.pair
-
-abbrev pub decreases-loop-turn : goal.decreases-loop-turn
-decreases-loop-turn l = length l.deeds - l.turn
