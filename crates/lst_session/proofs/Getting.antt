@@ -18,8 +18,8 @@ use Rattle.lst_rule.specs.Learned.{Possible, Kept}
 use Rattle.lst_index.specs.Searches.{Works, Keeps}
 use Rattle.lst_calls.specs.Traces.{Reads}
 use Rattle.lst_crew_state.proofs.Owns.{sights_are_told}
-use Rattle.lst_session.specs.Crews.{words_of, IsCrewView, store_told, Answers}
-use Rattle.lst_session.proofs.Crewed.{core_of, known_is, is_crew, told_is, opened_some, kept_words, stamped_is, same_draws, crew_after, told_stays, watched_crew, watched_told}
+use Rattle.lst_session.specs.Crews.{words_of, store_told, Answers}
+use Rattle.lst_session.proofs.Crewed.{IsCrewView, core_of, known_is, is_crew, told_is, opened_some, kept_words, stamped_is, same_draws, crew_after, told_stays, watched_crew, watched_told}
 
 -- what the machine's transaction sees of a key is its session's sight
 pub sight_is : (v : View) → IsCrewView v → Possible v → (s : ℕ) → s < v.limits.sessions → (knows v s).is_open ≡ true → (key : ℕ) → row_of (sight_of v.limits (store_told v) s (knows v s).begin) key ≡ row_from None (sight (knows v s) key)
