@@ -13,3 +13,4 @@ pub mod Clocks
 pub mod Opens
 pub mod Quiets
 pub mod Stating
+pub mod Asking

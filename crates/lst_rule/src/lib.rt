@@ -31,7 +31,7 @@ pub use open::open_store;
 pub use records::RecordId;
 pub use rule::{Adds, Exchanges, Loads, Means, SetsBits, StoreRule, Stores};
 pub use seat::Seat;
-pub use status::{Status, status_of};
+pub use status::{Status, status_of, transaction_status};
 pub use steps::{step_begin, step_clock, step_close, step_give, step_log, step_state, step_take};
 pub use store::Store;
 pub use view::View;

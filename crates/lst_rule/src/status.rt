@@ -5,7 +5,7 @@ ghost use Rattle.lst_layout.specs.Addresses as layout;
 ghost use Rattle.lst_layout.specs.declared.place.Place.TheVariants.{StateWord};
 ghost use Rattle.lst_rule.specs.Rule.{hosts};
 ghost use Rattle.lst_rule.specs.Stores.{IsSeatOf};
-ghost use Rattle.lst_rule.specs.Statuses.{IsNamed, Says, SaysCommitted, StatusOf, Asked};
+ghost use Rattle.lst_rule.specs.Statuses.{IsNamed, SaysCommitted, Answers, StatusOf, Asked};
 
 use crate::loads::{load_clock, load_state};
 use crate::seat::Seat;
@@ -51,13 +51,22 @@ fn commit_status(
     }
 }
 
-/// The status of a transaction.
-fn transaction_status(store: &Store, seat: &mut Seat, s: u32, session: u32, number: u32) -> Status
+/// The status of a transaction, by its state word: of the one with this number, from 1 on, of this session, as the start words of its
+/// versions name it. A commit at a time above what the session `s` has seen (the number of the sessions for the merger) is judged by a
+/// clock loaded then: the transaction is unfinished where its time is above that too. The answer is never `Empty`.
+pub fn transaction_status(
+    store: &Store,
+    seat: &mut Seat,
+    s: u32,
+    session: u32,
+    number: u32,
+) -> Status
     requires seat { IsSeatOf store.now seat.old }
     requires host { hosts seat.old.view s ≡ true }
     requires place { layout.IsWithin seat.old.view.limits (StateWord session number) }
     ensures seat { IsSeatOf store.now seat.new }
-    ensures says { Says seat.old.view seat.new.view s session number result }
+    ensures hosted { seat.new.view.hosts ≡ seat.old.view.hosts }
+    ensures status { Answers seat.old.view seat.new.view s session number result }
     ensures asked { Asked seat.old.view seat.new.view s }
 {
     match load_state(store, seat, s, session, number) {
@@ -67,8 +76,8 @@ fn transaction_status(store: &Store, seat: &mut Seat, s: u32, session: u32, numb
     }
 }
 
-/// The status of the version that has a start word. A transaction that was found committed at a time above what the session has seen is
-/// judged by a clock loaded then: it is unfinished where its time is above that too.
+/// The status of the version that has a start word: empty, stamped with a commit time, or that of the transaction that the word names
+/// (`transaction_status`).
 pub fn status_of(store: &Store, seat: &mut Seat, s: u32, start: u64) -> Status
     requires seat { IsSeatOf store.now seat.old }
     requires host { hosts seat.old.view s ≡ true }

@@ -41,14 +41,14 @@ use Rattle.lst_sights.proofs.Telling.{low, is_known, is_on_known, state_tells}
 
 -- what a session knows that is as much as it knew, with the facts of a chain that is as it was
 chain_met : (v w : View) (e : Event) (p : Place) (x y s rec : ℕ) (k : Known) → hosts v s ≡ true → (m : Met v w e p x y) → knows w s ≡ k → rec < record_count v.limits
-    → FactsOf v.limits (shown v.limits m.made.told.words) k.facts → Includes k.facts (chain_facts v.limits (shown v.limits m.made.told.words) rec) → SeesAlike (knows v s) k → k.is_open ≡ (knows v s).is_open
+    → FactsOf v.limits (shown v.limits m.made.told.words) k.facts → Includes k.facts (chain_facts v.limits (shown v.limits m.made.told.words) rec) → SeesAlike (knows v s) k → Includes k.facts (knows v s).facts → k.is_open ≡ (knows v s).is_open
     → (shown v.limits m.made.told.words).heads rec ≡ y → ChainFound w.limits (knows w s) s rec (y / 2)
-chain_met v w e p x y s rec k hosted m now below facts all same is_open head = let t = m.made.told in let a = t.allowed in
+chain_met v w e p x y s rec k hosted m now below facts all same older is_open head = let t = m.made.told in let a = t.allowed in
     subst (λ (l : Limits). ChainFound l (knows w s) s rec (y / 2)) (sym m.made.view.limits) (subst (λ (u : Known). ChainFound v.limits u s rec (y / 2)) (sym now)
     (subst (λ (z : ℕ). ChainFound v.limits k s rec (z / 2)) head
     (chain_found (state_over v.limits t.words t.known t.merger) a.sound s rec k below facts all
     (λ is_on. let was : (knows v s).is_open ≡ true = sym is_open ∙ is_on in
-    (low v t.words t.known t.merger a s hosted was, is_on_known v t.words t.known t.merger a s hosted was, subst (λ (u : Known). SeesAlike u k) (is_known v t.words t.known t.merger a s hosted was) same)))))
+    (low v t.words t.known t.merger a s hosted was, is_on_known v t.words t.known t.merger a s hosted was, subst (λ (u : Known). SeesAlike u k) (is_known v t.words t.known t.merger a s hosted was) same, subst (λ (u : Known). Includes k.facts u.facts) (is_known v t.words t.known t.merger a s hosted was) older)))))
 
 pub loads_find_chains : LoadsFindChains
 loads_find_chains v w s rec x hosted below m = let t = m.made.told in let W : Words = shown v.limits t.words in let k : Known = knows v s in
@@ -57,7 +57,7 @@ loads_find_chains v w s rec x hosted below m = let t = m.made.told in let W : Wo
     (m.made.view.now ∙ ap (look_at v.limits W k) ((addresses_are_read v.limits t.allowed.sound.sized).back (HeadWord rec) below)) below
     (more_facts v.limits W k.facts (chain_facts v.limits W rec) old (chain_are_facts (state_over v.limits t.words t.known t.merger) t.allowed.sound rec below))
     (λ f h. Contains-append_right k.facts (chain_facts v.limits W rec) f h)
-    record { number = refl; begin = refl; own = refl; front = refl } refl m.found
+    record { number = refl; begin = refl; own = refl; front = refl } (λ f h. Contains-append_left k.facts (chain_facts v.limits W rec) f h) refl m.found
 
 pub latches_find_chains : LatchesFindChains
 latches_find_chains v w s rec x y hosted m = let t = m.made.told in let W : Words = shown v.limits t.words in let k : Known = knows v s in let below = t.within.1 in
@@ -67,11 +67,11 @@ latches_find_chains v w s rec x y hosted m = let t = m.made.told in let W : Word
     (λ _ now. chain_met v w (Latch s rec) (HeadWord rec) x y s rec (latched v.limits W k rec) hosted m now below
     (more_facts v.limits W k.facts (index_facts v.limits W ++ chain_facts v.limits W rec) old (more_facts v.limits W (index_facts v.limits W) (chain_facts v.limits W rec) (index_are_facts v.limits W (size v.limits)) chain))
     (λ f h. Contains-append_right k.facts (index_facts v.limits W ++ chain_facts v.limits W rec) f (Contains-append_right (index_facts v.limits W) (chain_facts v.limits W rec) f h))
-    record { number = refl; begin = refl; own = refl; front = refl } refl m.found)
+    record { number = refl; begin = refl; own = refl; front = refl } (λ f h. Contains-append_left k.facts (index_facts v.limits W ++ chain_facts v.limits W rec) f h) refl m.found)
     (λ _ now. chain_met v w (Latch s rec) (HeadWord rec) x y s rec (latch_lost v.limits W k rec) hosted m now below
     (more_facts v.limits W k.facts (chain_facts v.limits W rec) old chain)
     (λ f h. Contains-append_right k.facts (chain_facts v.limits W rec) f h)
-    record { number = refl; begin = refl; own = refl; front = refl } refl m.found)
+    record { number = refl; begin = refl; own = refl; front = refl } (λ f h. Contains-append_left k.facts (chain_facts v.limits W rec) f h) refl m.found)
     m.made.view.now
 
 -- ---- words of tails

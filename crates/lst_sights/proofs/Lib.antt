@@ -7,3 +7,5 @@ pub mod Stamps
 pub mod Watching
 pub mod Writing
 pub mod Committed
+pub mod Keying
+pub mod Asking

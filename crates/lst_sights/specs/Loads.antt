@@ -1,5 +1,5 @@
 -- What loads tell of versions that the facts have.
-use Rattle.std.specs.Prelude.{◌≡◌, ℕ, ◌+◌, ◌*◌, ◌/◌, ◌%◌, ◌<◌, List, true, slice_index}
+use Rattle.std.specs.Prelude.{◌≡◌, ◌⊎◌, ℕ, ◌+◌, ◌*◌, ◌/◌, ◌%◌, ◌<◌, List, [], true, slice_index}
 use Rattle.std.specs.List.{Contains}
 use Rattle.lst_layout.specs.declared.limits.Limits.{Limits}
 use Rattle.lst_core_state.specs.Lists.{is_until}
@@ -7,7 +7,7 @@ use Rattle.lst_core_state.specs.declared.known.Known.{Known}
 use Rattle.lst_core_state.specs.declared.facts.Fact.TheVariants.{StateAt, CommitAt}
 use Rattle.lst_core_state.specs.Facts.{unfinished}
 use Rattle.lst_sights.specs.Copies.{Version, IsCopy}
-use Rattle.lst_sights.specs.Seen.{is_early, IsSight, HasKey}
+use Rattle.lst_sights.specs.Seen.{is_early, seen_acts, IsSight, HasKey}
 
 -- what the session s, which knows v, has of the record's whole chain once it found the indirection word, with the number `head`
 pub record ChainFound (l : Limits) (v : Known) (s rec head : ℕ) : Type 0 where
@@ -15,6 +15,8 @@ pub record ChainFound (l : Limits) (v : Known) (s rec head : ℕ) : Type 0 where
   pub is : IsCopy l v.facts rec head copy
   -- what the open transaction sees of the copy is its sight of the record's key, where it knows the key
   pub sight : (key : ℕ) → v.is_open ≡ true → HasKey v.facts rec key → IsSight v s key copy
+  -- where it sees anything of the copy, it knows the record's key
+  pub keyed : v.is_open ≡ true → (seen_acts v s copy ≡ []) ⊎ ((key : ℕ) × HasKey v.facts rec key)
 
 -- a load of the start word of the version c of the record found x, and then the session knows v
 pub record StartFound (v : Known) (rec : ℕ) (c : Version) (x : ℕ) : Type 0 where

@@ -1,6 +1,5 @@
 pub mod Reading
 pub mod Meanings
-pub mod Settling
 pub mod Lists
 pub mod Chains
 pub mod Stamping
@@ -8,3 +7,4 @@ pub mod Filling
 pub mod Walking
 pub mod Acting
 pub mod Pairing
+pub mod Resolving

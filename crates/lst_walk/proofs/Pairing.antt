@@ -34,6 +34,7 @@ use Rattle.lst_index.proofs.Views.{keeps_free}
 use Rattle.lst_write.specs.Holding.{Latches}
 use Rattle.lst_write.specs.Appending.{FitsSight, FindsFull, Appends, InstallsHeld}
 use Rattle.lst_walk.specs.Walks.{IsRowOf}
+use Rattle.lst_walk.proofs.Walking.{row_of_key}
 use Rattle.lst_walk.specs.Pairs.{IsIdle, IsPair}
 
 still_away : (k : Stage) → rank k ≡ 0 → rank (refreshed k) ≡ 0
@@ -129,4 +130,4 @@ module _ (v w : View) (s rec key q : ℕ) (possible : Possible v) (hosted : host
   still_placed = (q, kept.facts (IndexAt q rec key) fact)
 
   pub fits_row : (row : Option (List Cell)) (act : Act) → IsRowOf v s rec row → Fits row act → FitsSight (knows w s) rec act
-  fits_row row act is fits = fits_kept (knows v s) (knows w s) rec act kept.alike kept.facts (key, (q, fact), subst (λ (r : Option (List Cell)). Fits r act) (is key (q, fact)) fits)
+  fits_row row act is fits = fits_kept (knows v s) (knows w s) rec act kept.alike kept.facts (key, (q, fact), subst (λ (r : Option (List Cell)). Fits r act) (row_of_key v s rec row is key (q, fact)) fits)

@@ -1,9 +1,9 @@
 -- Stamps, and what is seen of a version by its start word.
-use Rattle.std.proofs.Common.{◌≡◌, ◌≢◌, ◌⊎◌, ℕ, ◌+◌, ◌*◌, ◌/◌, ◌%◌, ◌^◌, ◌<◌, ◌≤◌, List, Bool, true, false, eqb, nat_le, ◌||◌, length, Contains, refl, sym, subst, ap, ◌∙◌, arith, inl, inr, ne_eqb, eq-eqb, eqb-true, true≢false}
+use Rattle.std.proofs.Common.{◌≡◌, ◌≢◌, ℕ, ◌+◌, ◌*◌, ◌/◌, ◌%◌, ◌^◌, ◌<◌, ◌≤◌, List, Bool, true, false, eqb, nat_le, ◌||◌, Contains, refl, sym, subst, ap, ◌∙◌, arith, inl, inr, ne_eqb, eq-eqb, eqb-true, true≢false}
 use Rattle.std.proofs.lemmas.List.Elements.{Contains-append_right}
 use Rattle.std.specs.Prelude.{cond, Option, None, Some, is_some, IfSome, IfNone}
 use Rattle.lst_layout.specs.declared.limits.Limits.{Limits}
-use Rattle.lst_layout.specs.declared.place.Place.TheVariants.{CellWord}
+use Rattle.lst_layout.specs.declared.place.Place.TheVariants.{CellWord, StateWord}
 use Rattle.lst_layout.specs.Addresses as layout
 use Rattle.lst_layout.specs.Addresses.{address, IsTailWord}
 use Rattle.lst_layout.specs.Limits.{IsValid}
@@ -17,14 +17,14 @@ use Rattle.lst_core_state.specs.declared.facts.Find.{Find}
 use Rattle.lst_core_state.specs.declared.facts.Find.TheVariants.{UnfinishedVersion}
 use Rattle.lst_core_state.specs.Facts.{unfinished as unfinished_find, about, about_tail}
 use Rattle.lst_core_state.specs.State.{name_of}
-use Rattle.lst_core_state.proofs.Histories.{starts_length}
 use Rattle.lst_rule.specs.declared.view.View.{View}
 use Rattle.lst_rule.specs.Rule.{knows, hosts}
 use Rattle.lst_rule.specs.Learned.{Possible, CanStand, Times, Made}
-use Rattle.lst_rule.proofs.Knowing.{is_seen, clock_is}
 use Rattle.lst_rule.specs.declared.store.Store.{Store}
 use Rattle.lst_rule.specs.Seats.{Sitting}
 use Rattle.lst_rule.specs.Stores.{Looked}
+use Rattle.lst_rule.specs.declared.status.Status.TheVariants.{Unfinished}
+use Rattle.lst_rule.specs.Statuses.{Answers, FoundSince, KnownCommitted}
 use Rattle.lst_sights.specs.Copies.{Version}
 use Rattle.lst_sights.specs.Seen.{is_early, sees}
 use Rattle.lst_sights.specs.Watching.{Watched}
@@ -33,8 +33,7 @@ use Rattle.lst_sights.proofs.Finding.{tails_are_found}
 use Rattle.lst_sights.proofs.Telling.{statuses_tell}
 use Rattle.lst_sights.proofs.Committed.{committed_may_be_stamped}
 use Rattle.lst_sights.proofs.Watching.{stamps_watch, watched_same}
-use Rattle.lst_walk.specs.Readers.{IsReader, IsAt, HasVersion, IsStatus, Timed, Untimed, Stamped}
-use Rattle.lst_walk.specs.declared.statuses.Status.TheVariants.{Unfinished, Closed, Committed}
+use Rattle.lst_walk.specs.Readers.{IsReader, IsAt, HasVersion, IsNotCommitted, Timed, Untimed, Stamped, OwnFound, Resolves, Concludes}
 use Rattle.lst_walk.proofs.Reading.{watched_on, at_on, facts_on, sees_on, start_found, looked_possible}
 
 -- ---- tails by range and number
@@ -78,15 +77,18 @@ at_same v s t u c e at = record { rec = at.rec; is = at.is; known = at.known; at
 -- ---- a stamp
 
 module _ (l : Limits) (v w : View) (s range n session number time : ℕ) (is : v.limits ≡ l) (watched : Watched v w s) (hosted : hosts w s ≡ true)
-    (version : (c : Version) × IsAt v s (range * l.tails + n) c × (c.writer ≡ name_of session number)) (low : session < 16) (status : IsStatus (knows v s) (knows w s) session number (Committed time)) where
+    (version : (c : Version) × IsAt v s (range * l.tails + n) c × (c.writer ≡ name_of session number)) (low : session < 16) (status : KnownCommitted (knows w s) session number time) where
   pub may_stamp : CanStand w (Stamp s range n) × Times w (Stamp s range n) time
   may_stamp = let c : Version = version.0 in let at = at_on v w s (range * l.tails + n) c watched version.1 in let same : w.limits ≡ l = watched.learns.limits ∙ is in let e = version.2 in
       let session_is : c.writer % 16 ≡ session = omega arith in let number_is : c.writer / 16 ≡ number = omega arith in
-      committed_may_be_stamped w s range n time c hosted at.is.session at.known (at.at ∙ ap (λ (k : Limits). range * k.tails + n) (sym same)) status.0 status.1
-      (inr (subst (λ (j : ℕ). Contains (knows w s).facts (StateAt j (c.writer / 16) (time + 1))) (sym session_is) (subst (λ (k : ℕ). Contains (knows w s).facts (StateAt session k (time + 1))) (sym number_is) status.2)))
+      committed_may_be_stamped w s range n time c hosted at.is.session at.known (at.at ∙ ap (λ (k : Limits). range * k.tails + n) (sym same)) status.some status.seen
+      (inr (subst (λ (j : ℕ). Contains (knows w s).facts (StateAt j (c.writer / 16) (time + 1))) (sym session_is) (subst (λ (k : ℕ). Contains (knows w s).facts (StateAt session k (time + 1))) (sym number_is) status.fact)))
 
-pub time_few : (v : View) (s time : ℕ) → Possible v → hosts v s ≡ true → time ≤ length (knows v s).seen → time < 2 ^ 32
-time_few v s time p hosted low = let q = clock_is v p.words p.known p.merger p.allowed in let few = q.1 in let size = q.0 in let front = starts_length _ (knows v s).seen (is_seen v p.words p.known p.merger p.allowed s hosted) in omega arith
+pub state_within : (l : Limits) (v : View) (session number : ℕ) → v.limits ≡ l → session < l.sessions → (0 < number) × (number ≤ l.txns) → layout.IsWithin v.limits (StateWord session number)
+state_within l v session number is low some = subst (λ (k : Limits). layout.IsWithin k (StateWord session number)) (sym is) (low, some.0, some.1)
+
+pub not_committed : (v w : View) (s session number a b : ℕ) → Answers v w s session number (Unfinished a b) → IsNotCommitted v w s session number
+not_committed v w s session number a b h = inr (subst (λ (x : ℕ). Answers v w s session number (Unfinished x number)) h.known.0 (subst (λ (y : ℕ). Answers v w s session number (Unfinished a y)) h.known.1 h))
 
 pub stamped_at : (v b w : View) (s range n time : ℕ) → Watched v b s → Made b w (Stamp s range n) (CellWord (range * b.limits.tails + n) 0) (2 * time) → Stamped v w s range n time
 stamped_at v b w s range n time watched made = record {
@@ -108,26 +110,25 @@ module _ (l : Limits) (v b w : View) (s range n t x : ℕ) (is : v.limits ≡ l)
   here = subst (λ (y : ℕ). Looked v b s (CellWord y 0) x) tail_is looked
 
   pub untimed_empty : 0 ≡ x → Untimed v b s range n
-  untimed_empty z = record { before = v; after = b; first = watched_same v s; word = x; looked = here; last = watched_same b s; why = inl (sym z) }
+  untimed_empty z = record { before = v; after = b; asked = b; first = watched_same v s; word = x; looked = here; why = inl (sym z, refl); last = watched_same b s }
 
   pub timed_found : (time : ℕ) → 0 < time → 2 * time ≡ x → Timed v b s range n
   timed_found time some word = record { before = v; after = b; first = watched_same v s; time = time; some = some; told = inl (subst (λ (y : ℕ). Looked v b s (CellWord (range * v.limits.tails + n) 0) y) (sym word) here); last = watched_same b s }
 
-  pub untimed_named : (session number : ℕ) → 1 + 2 * (16 * number + session) ≡ x → session < 16 → Watched b w s
-      → IsStatus (knows b s) (knows w s) session number Closed ⊎ IsStatus (knows b s) (knows w s) session number Unfinished → Untimed v w s range n
-  untimed_named session number word low watched why = record {
+  pub untimed_named : (session number : ℕ) → 1 + 2 * (16 * number + session) ≡ x → session < 16 → IsNotCommitted b w s session number → Untimed v w s range n
+  untimed_named session number word low why = record {
     before = v;
     after = b;
+    asked = w;
     first = watched_same v s;
     word = x;
     looked = here;
-    last = watched;
     why = inr (
       omega arith,
       (let a : session ≡ x / 2 % 16 = omega arith in let d : number ≡ x / 2 / 16 = omega arith in
-          subst (λ (j : ℕ). IsStatus (knows b s) (knows w s) j (x / 2 / 16) Closed ⊎ IsStatus (knows b s) (knows w s) j (x / 2 / 16) Unfinished) a
-          (subst (λ (k : ℕ). IsStatus (knows b s) (knows w s) session k Closed ⊎ IsStatus (knows b s) (knows w s) session k Unfinished) d why)),
+          subst (λ (j : ℕ). IsNotCommitted b w s j (x / 2 / 16)) a (subst (λ (k : ℕ). IsNotCommitted b w s session k) d why)),
     );
+    last = watched_same w s;
   }
 
   pub timed_stored : (time : ℕ) → 0 < time → Watched v b s → Stamped b w s range n time → Timed v w s range n
@@ -140,6 +141,22 @@ module _ (l : Limits) (v b w : View) (s range n t x : ℕ) (is : v.limits ≡ l)
     told = inr (subst (λ (k : Limits). Made q.before w (Stamp s range n) (CellWord (range * k.tails + n) 0) (2 * time)) first.learns.limits q.made);
     last = watched_same w s;
   }
+
+  -- its start word names the session's own transaction
+  pub own_found : (session number : ℕ) → 1 + 2 * (16 * number + session) ≡ x → eqb (name_of session number) (name_of s (knows b s).number) ≡ true → Watched v b s → OwnFound v b s range n
+  own_found session number word own watched = record {
+    before = v;
+    after = b;
+    first = watched_same v s;
+    looked = subst (λ (y : ℕ). Looked v b s (CellWord (range * v.limits.tails + n) 0) y)
+        (sym word ∙ ap (λ (y : ℕ). 1 + 2 * y) (eqb-true (name_of session number) (name_of s (knows b s).number) own ∙ ap (λ (k : Known). name_of s k.number) watched.watches.is)) here;
+    last = watched_same b s;
+  }
+
+  -- or another one, of which it is then known how far it is
+  pub concluded : (session number : ℕ) → 1 + 2 * (16 * number + session) ≡ x → session < 16 → Watched v b s → Concludes b w s range n session number → Resolves v w s range n
+  concluded session number word low first (inl q) = inl (timed_stored q.0 q.1 first q.2)
+  concluded session number word low first (inr why) = inr (inl (untimed_named session number word low why))
 
 -- ---- what is seen
 
@@ -194,10 +211,13 @@ module _ (v w : View) (s session number : ℕ) (p : Possible v) (q : Possible w)
   pub committed_seen : (time : ℕ) → 0 < time → Contains (knows w s).facts (StateAt session number (time + 1)) → nat_le time (knows w s).begin ≡ sees (knows v s) s (name_of session number)
   committed_seen time some h = seen_is (nat_le time (knows w s).begin) (tell.committed time some (at_name (time + 1) h))
 
-  pub never_seen : IsStatus (knows v s) (knows w s) session number Closed ⊎ IsStatus (knows v s) (knows w s) session number Unfinished → false ≡ sees (knows v s) s (name_of session number)
-  never_seen (inl closed) = seen_is false (tell.closed (at_name 1 closed)).0
-  never_seen (inr late) = seen_is false (tell.unfinished (about (knows v s) session number) (about_tail (knows v s) session number) (subst (λ (f : Find). Contains (knows w s).finds f) find_is since))
+  pub never_seen : IsNotCommitted v w s session number → false ≡ sees (knows v s) s (name_of session number)
+  never_seen (inl closed) = seen_is false (tell.closed (at_name 1 closed.known)).0
+  never_seen (inr unfinished) = seen_is false (tell.unfinished (about (knows v s) session number) (about_tail (knows v s) session number) (subst (λ (f : Find). Contains (knows w s).finds f) find_is since))
     where
+      late : FoundSince (knows v s) (knows w s) (unfinished_find (knows v s) session number)
+      late = unfinished.known.2.found
+
       since : Contains (knows w s).finds (unfinished_find (knows v s) session number)
       since = subst (λ (fs : List Find). Contains fs (unfinished_find (knows v s) session number)) (sym late.1) (Contains-append_right (knows v s).finds late.0 (unfinished_find (knows v s) session number) late.2)
 

@@ -1,36 +1,40 @@
 -- One version after the other.
-use Rattle.std.proofs.Common.{◌≡◌, ℕ, ◌+◌, ◌*◌, ◌/◌, ◌<◌, ◌≤◌, List, ◌∷◌, Bool, true, false, cond, length, sym, subst, ap, ◌∙◌, arith}
+use Rattle.std.proofs.Common.{◌≡◌, ◌⊎◌, ℕ, ◌+◌, ◌*◌, ◌/◌, ◌<◌, ◌≤◌, List, [], ◌∷◌, ◌++◌, Bool, true, false, cond, length, refl, sym, subst, ap, ◌∙◌, arith, inl, inr, ⊎_elim, Contains}
+use Rattle.std.proofs.lemmas.List.Elements.{All-nil}
 use Rattle.std.specs.Prelude.{Option, None, Some, replicate}
 use Rattle.lst_layout.specs.declared.limits.Limits.{Limits}
 use Rattle.lst_model.specs.declared.acts.Act.{Act}
 use Rattle.lst_model.specs.declared.acts.Act.TheVariants.{Set}
 use Rattle.lst_model.specs.Cells.{Cell, overlaid}
 use Rattle.lst_model.specs.Histories.{row_after, row_from}
-use Rattle.lst_model.specs.Soundness.{FitInTurn}
+use Rattle.lst_model.specs.Soundness.{Fits, FitInTurn}
 use Rattle.lst_core_state.specs.declared.known.Known.{Known}
 use Rattle.lst_core_state.specs.declared.facts.Fact.TheVariants.{IndexAt}
-use Rattle.lst_core_state.specs.Cells.{record_count}
+use Rattle.lst_core_state.specs.Cells.{record_count, range_of}
 use Rattle.lst_core_state.specs.State.{sight}
+use Rattle.lst_core_state.specs.Sound.{IsRecorded}
 use Rattle.lst_rule.specs.declared.view.View.{View}
 use Rattle.lst_rule.specs.Rule.{knows, hosts}
 use Rattle.lst_rule.specs.Learned.{Possible}
 use Rattle.lst_rule.specs.declared.store.Store.{Store}
 use Rattle.lst_rule.specs.Seats.{Sitting}
-use Rattle.lst_sights.specs.Copies.{Version, IsVersionOf, IsChainFrom}
+use Rattle.lst_sights.specs.Copies.{Version, IsVersionOf, IsChainFrom, IsCopy}
 use Rattle.lst_sights.specs.Seen.{sees, act_by, seen_acts, HasKey}
 use Rattle.lst_sights.specs.Loads.{ChainFound}
 use Rattle.lst_sights.specs.Watching.{Watched}
 use Rattle.lst_sights.specs.Laws.{FromNumber, KeptBy}
 use Rattle.lst_sights.proofs.Copying.{chains_are_walked, chain_stays}
 use Rattle.lst_sights.proofs.Seeing.{same_acts, same_sight}
+use Rattle.lst_sights.proofs.Keying.{one_record, recorded}
 use Rattle.lst_sights.proofs.Turns.{sights_fit}
 use Rattle.lst_sights.proofs.Watching.{watchers_keep}
-use Rattle.lst_walk.specs.Readers.{IsReader, IsAt, HasVersion}
-use Rattle.lst_walk.specs.Patches.{seen_after, cell_in}
-use Rattle.lst_walk.specs.Walks.{IsRowOf, IsCellOf, Visited, Acted, Tells, Told, RowWalk, CellWalk}
+use Rattle.lst_walk.specs.Readers.{IsReader, IsAt, HasVersion, Resolves, IsResolved}
+use Rattle.lst_walk.specs.Patches.{seen_after, cell_in, IsWide}
+use Rattle.lst_walk.specs.Walks.{IsSightOf, IsRowOf, IsCellOf, Passes, WalksRow, WalksCell, Visited, Acted, Tells, Told, RowWalk, CellWalk}
 use Rattle.lst_walk.specs.declared.rows.Visit.{Visit}
 use Rattle.lst_walk.specs.declared.rows.Visit.TheVariants.{Row, NoRow, Older}
 use Rattle.lst_walk.proofs.Reading.{watched_on, facts_on, sees_on}
+use Rattle.lst_walk.proofs.Resolving.{resolves_later, resolves_earlier, passes_next, row_passed, fit_passed}
 use Rattle.lst_walk.proofs.Lists.{set_unset, length-unset}
 use Rattle.lst_walk.proofs.Chains.{row_step, fit_step, wide_row}
 
@@ -79,12 +83,56 @@ unseen_tells v s c columns column unseen = λ older. ap (λ (b : Bool). cell_in 
 -- ---- walks
 
 -- the chain that the head's load found, and its sight
-module _ (store : Store) (v : View) (seat : Sitting) (s rec head : ℕ) (p : Possible v) (host : hosts v s ≡ true) (opened : (knows v s).is_open ≡ true) (reader : IsReader store seat s) (watched : Watched v seat.view s) (found : ChainFound store.layout.limits (knows seat.view s) s rec head) where
+module _ (store : Store) (v : View) (seat : Sitting) (s rec head : ℕ) (p : Possible v) (host : hosts v s ≡ true) (opened : (knows v s).is_open ≡ true) (reader : IsReader store seat s) (watched : Watched v seat.view s) (possible : Possible seat.view) (found : ChainFound store.layout.limits (knows seat.view s) s rec head) where
   kept : KeptBy (knows v s) (knows seat.view s)
   kept = watchers_keep v seat.view s p host opened watched
 
-  copy_sight : (key : ℕ) → HasKey (knows v s).facts rec key → sight (knows v s) key ≡ seen_acts (knows v s) s found.copy
-  copy_sight key has = sym (same_sight (knows v s) (knows seat.view s) key kept.alike) ∙ (sym (found.sight key reader.opened (has.0, kept.facts (IndexAt has.0 rec key) has.1)) ∙ same_acts (knows v s) (knows seat.view s) s found.copy kept.alike)
+  -- the acts of what is seen of it
+  copy_acts : seen_acts (knows v s) s found.copy ≡ seen_acts (knows seat.view s) s found.copy
+  copy_acts = sym (same_acts (knows v s) (knows seat.view s) s found.copy kept.alike)
+
+  has_still : (key : ℕ) → HasKey (knows v s).facts rec key → HasKey (knows seat.view s).facts rec key
+  has_still key has = (has.0, kept.facts (IndexAt has.0 rec key) has.1)
+
+  -- of a key that the record is known to have now
+  copy_sight : (key : ℕ) → HasKey (knows seat.view s).facts rec key → seen_acts (knows v s) s found.copy ≡ sight (knows v s) key
+  copy_sight key has = copy_acts ∙ (found.sight key reader.opened has ∙ same_sight (knows v s) (knows seat.view s) key kept.alike)
+
+  -- which it was known to have before, where anything is seen of it
+  known_before : (key : ℕ) → HasKey (knows seat.view s).facts rec key → (seen_acts (knows v s) s found.copy ≡ []) ⊎ ((key : ℕ) × HasKey (knows v s).facts rec key)
+  known_before key has = ⊎_elim
+      (λ (none : sight (knows v s) key ≡ []). inl (copy_sight key has ∙ none))
+      (λ (r : IsRecorded (knows v s).facts key). inr (
+        key,
+        (
+          r.0,
+          subst (λ (n : ℕ). Contains (knows v s).facts (IndexAt r.0 n key))
+              (one_record seat.view s possible reader.host r.1 rec key (r.0, kept.facts (IndexAt r.0 r.1 key) r.2) has) r.2,
+        ),
+      ))
+      (recorded v s p host opened key)
+
+  copy_seen : IsSightOf (knows v s) rec (seen_acts (knows v s) s found.copy)
+  copy_seen = record {
+    of_key = λ key has. copy_sight key (has_still key has);
+    keyed = ⊎_elim
+        (λ (none : seen_acts (knows seat.view s) s found.copy ≡ []). inl (copy_acts ∙ none))
+        (λ (has : (key : ℕ) × HasKey (knows seat.view s).facts rec key). known_before has.0 has.1)
+        (found.keyed reader.opened);
+  }
+
+  copy_fits : FitInTurn None (seen_acts (knows v s) s found.copy)
+  copy_fits = ⊎_elim
+      (λ (none : seen_acts (knows v s) s found.copy ≡ []). subst (λ (xs : List Act). FitInTurn None xs) (sym none) tt)
+      (λ (has : (key : ℕ) × HasKey (knows v s).facts rec key). subst (λ (xs : List Act). FitInTurn None xs) (sym (copy_sight has.0 (has_still has.0 has.1))) (sights_fit v s rec has.0 p host opened has.1))
+      copy_seen.keyed
+
+  passes_start : Passes v seat.view s rec [] found.copy
+  passes_start = record {
+    head = head;
+    copy = subst (λ (l : Limits). IsCopy l (knows seat.view s).facts rec head found.copy) (sym reader.seat_of.limits) found.is;
+    resolved = All-nil (IsResolved v seat.view s (range_of rec));
+  }
 
   pub row_start : (patch : List (Option ℕ)) → patch ≡ replicate store.layout.limits.columns None → RowWalk store v seat s rec head patch
   row_start patch is = record {
@@ -92,10 +140,15 @@ module _ (store : Store) (v : View) (seat : Sitting) (s rec head : ℕ) (p : Pos
     possible = p;
     watched = watched;
     wide = ap length is ∙ length-unset store.layout.limits.columns;
+    passed = [];
     versions = found.copy;
+    passes = passes_start;
+    made = λ older. sym (set_unset older store.layout.limits.columns) ∙ ap (λ (q : List (Option ℕ)). row_after older (Set q)) (sym is);
     chain = found.is.chain;
-    fits = λ key has. subst (λ (xs : List Act). FitInTurn None xs) (copy_sight key has) (sights_fit v s rec key p host opened has);
-    answers = λ key has. ap (row_from None) (copy_sight key has) ∙ (sym (set_unset (row_from None (seen_acts (knows v s) s found.copy)) store.layout.limits.columns) ∙ ap (λ (q : List (Option ℕ)). row_after (row_from None (seen_acts (knows v s) s found.copy)) (Set q)) (sym is));
+    fits = copy_fits;
+    acts = seen_acts (knows v s) s found.copy;
+    sees = copy_seen;
+    answers = sym (set_unset (row_from None (seen_acts (knows v s) s found.copy)) store.layout.limits.columns) ∙ ap (λ (q : List (Option ℕ)). row_after (row_from None (seen_acts (knows v s) s found.copy)) (Set q)) (sym is);
   }
 
   pub cell_start : (column : ℕ) → CellWalk store v seat s rec column head
@@ -103,10 +156,15 @@ module _ (store : Store) (v : View) (seat : Sitting) (s rec head : ℕ) (p : Pos
     reader = reader;
     possible = p;
     watched = watched;
+    passed = [];
     versions = found.copy;
+    passes = passes_start;
+    made = λ older. refl;
     chain = found.is.chain;
-    fits = λ key has. subst (λ (xs : List Act). FitInTurn None xs) (copy_sight key has) (sights_fit v s rec key p host opened has);
-    answers = λ key has. ap (λ (xs : List Act). cell_in column (row_from None xs)) (copy_sight key has);
+    fits = copy_fits;
+    acts = seen_acts (knows v s) s found.copy;
+    sees = copy_seen;
+    answers = refl;
   }
 
 -- one version, at the seat a; the loads of the visit led to b, and those of the back word to d
@@ -114,61 +172,148 @@ module _ (store : Store) (v : View) (a b d : Sitting) (s rec n range t m : ℕ) 
   seen_same : Possible v → Watched v a.view s → (c : Version) (older : Option (List Cell)) → seen_after (knows a.view s) s c older ≡ seen_after (knows v s) s c older
   seen_same p watched c older = ap (λ (e : Bool). cond e (row_after older (act_by c)) older) (sees_on v a.view s c.writer p host opened watched)
 
+  -- the version is resolved
+  resolved_here : (c : Version) → IsReader store a s → Watched v a.view s → IsAt a.view s t c → Resolves a.view b.view s range n → Watched b.view d.view s → IsResolved v d.view s (range_of rec) c
+  resolved_here c reader watched at resolves bd = (
+    n,
+    at.at ∙ (tail_is ∙ (ap (λ (k : ℕ). k * store.layout.limits.tails + n) range_is ∙ ap (λ (l : Limits). rec / 256 * l.tails + n) (sym reader.seat_of.limits ∙ watched.learns.limits))),
+    subst (λ (r : ℕ). Resolves v d.view s r n) range_is (resolves_later v b.view d.view s range n bd (resolves_earlier v a.view b.view s range n watched resolves)),
+  )
+
+  -- and passed
+  passed_here : (passed : List Version) (c : Version) (rest versions : List Version) → versions ≡ c ∷ rest → IsReader store a s → Watched v a.view s → Passes v a.view s rec passed versions → IsAt a.view s t c
+      → Watched a.view b.view s → Resolves a.view b.view s range n → Watched b.view d.view s → Passes v d.view s rec (passed ++ c ∷ []) rest
+  passed_here passed c rest versions is reader watched passes at ab resolves bd = passes_next v a.view d.view s rec passed (watched_on a.view b.view d.view s ab bd) c rest
+      (subst (λ (cs : List Version). Passes v a.view s rec passed cs) is passes) (resolved_here c reader watched at resolves bd)
+
+  -- what is seen of it, and of those that were passed, makes this of a row of older ones
+  made_here : (passed : List Version) (c : Version) (patch : List (Option ℕ)) → Possible v → Watched v a.view s → ((older : Option (List Cell)) → row_from older (seen_acts (knows v s) s passed) ≡ row_after older (Set patch)) → (older : Option (List Cell))
+      → row_from older (seen_acts (knows v s) s (passed ++ c ∷ [])) ≡ row_after (seen_after (knows a.view s) s c older) (Set patch)
+  made_here passed c patch p watched made older = row_passed (knows v s) s passed c older ∙ (made (seen_after (knows v s) s c older) ∙ ap (λ (r : Option (List Cell)). row_after r (Set patch)) (sym (seen_same p watched c older)))
+
+  cell_made_here : (column : ℕ) (passed : List Version) (c : Version) → Possible v → Watched v a.view s → ((older : Option (List Cell)) → cell_in column (row_from older (seen_acts (knows v s) s passed)) ≡ cell_in column older) → (older : Option (List Cell))
+      → cell_in column (row_from older (seen_acts (knows v s) s (passed ++ c ∷ []))) ≡ cell_in column (seen_after (knows a.view s) s c older)
+  cell_made_here column passed c p watched made older = ap (cell_in column) (row_passed (knows v s) s passed c older) ∙ (made (seen_after (knows v s) s c older) ∙ ap (cell_in column) (sym (seen_same p watched c older)))
+
+  -- it fits such a row, and that has as many columns
+  fits_here : (passed : List Version) (c : Version) (older : Option (List Cell)) → Possible v → Watched v a.view s → FitInTurn older (seen_acts (knows v s) s (passed ++ c ∷ [])) → sees (knows a.view s) s c.writer ≡ true → Fits older (act_by c)
+  fits_here passed c older p watched turn e = fit_passed (knows v s) s passed c older turn (sym (sees_on v a.view s c.writer p host opened watched) ∙ e)
+
+  wide_here : IsReader store a s → Watched v a.view s → (older : Option (List Cell)) → IsWide v.limits.columns older → IsWide store.layout.limits.columns older
+  wide_here reader watched older wide = subst (λ (l : Limits). IsWide l.columns older) (sym watched.learns.limits ∙ reader.seat_of.limits) wide
+
   -- the row, by its newest version and the patch
-  newest_after : (c : Version) (cs : List Version) (patch : List (Option ℕ)) (walk : RowWalk store v a s rec n patch) → walk.versions ≡ c ∷ cs → (key : ℕ) → HasKey (knows v s).facts rec key
-      → row_from None (sight (knows v s) key) ≡ row_after (seen_after (knows a.view s) s c (row_from None (seen_acts (knows v s) s cs))) (Set patch)
-  newest_after c cs patch walk is key has = walk.answers key has ∙ (ap (λ (ds : List Version). row_after (row_from None (seen_acts (knows v s) s ds)) (Set patch)) is
+  newest_after : (c : Version) (cs : List Version) (patch : List (Option ℕ)) (walk : RowWalk store v a s rec n patch) → walk.versions ≡ c ∷ cs
+      → row_from None walk.acts ≡ row_after (seen_after (knows a.view s) s c (row_from None (seen_acts (knows v s) s cs))) (Set patch)
+  newest_after c cs patch walk is = walk.answers ∙ (ap (λ (ds : List Version). row_after (row_from None (seen_acts (knows v s) s ds)) (Set patch)) is
       ∙ ap (λ (r : Option (List Cell)). row_after r (Set patch)) (row_step (knows v s) s c cs ∙ sym (seen_same walk.possible walk.watched c (row_from None (seen_acts (knows v s) s cs)))))
 
   pub row_next : (patch more : List (Option ℕ)) → RowWalk store v a s rec n patch → Watched a.view b.view s → length more ≡ store.layout.limits.columns → ((c : Version) → IsAt a.view s t c → Visited (knows a.view s) s c store.layout.limits.columns patch more Older)
-      → IsReader store d s → Watched b.view d.view s → ((c : Version) → IsAt a.view s t c → m ≡ c.back) → RowWalk store v d s rec m more
-  row_next patch more walk ab wide visited reader bd back = let q = at_number store a s rec n walk.reader walk.versions walk.chain some range t range_is tail_is in let ad = watched_on a.view b.view d.view s ab bd in record {
+      → Resolves a.view b.view s range n → IsReader store d s → Watched b.view d.view s → ((c : Version) → IsAt a.view s t c → m ≡ c.back) → RowWalk store v d s rec m more
+  row_next patch more walk ab wide visited resolves reader bd back = let q = at_number store a s rec n walk.reader walk.versions walk.chain some range t range_is tail_is in let ad = watched_on a.view b.view d.view s ab bd in record {
     reader = reader;
     possible = walk.possible;
     watched = watched_on v a.view d.view s walk.watched ad;
     wide = wide;
+    passed = walk.passed ++ q.0 ∷ [];
     versions = q.1;
+    passes = passed_here walk.passed q.0 q.1 walk.versions q.2 walk.reader walk.watched walk.passes q.3 ab resolves bd;
+    made = λ older. made_here walk.passed q.0 patch walk.possible walk.watched walk.made older ∙ visited q.0 q.3 older;
     chain = subst (λ (k : ℕ). IsChainFrom store.layout.limits (knows d.view s).facts rec k q.1) (sym (back q.0 q.3)) (chain_stays store.layout.limits (knows a.view s).facts (knows d.view s).facts rec q.0.back q.1 (facts_on a.view d.view s ad) q.5);
-    fits = λ key has. (fit_step (knows v s) s q.0 q.1 (subst (λ (cs : List Version). FitInTurn None (seen_acts (knows v s) s cs)) q.2 (walk.fits key has))).0;
-    answers = λ key has. newest_after q.0 q.1 patch walk q.2 key has ∙ visited q.0 q.3 (row_from None (seen_acts (knows v s) s q.1));
+    fits = (fit_step (knows v s) s q.0 q.1 (subst (λ (cs : List Version). FitInTurn None (seen_acts (knows v s) s cs)) q.2 walk.fits)).0;
+    acts = walk.acts;
+    sees = walk.sees;
+    answers = newest_after q.0 q.1 patch walk q.2 ∙ visited q.0 q.3 (row_from None (seen_acts (knows v s) s q.1));
   }
 
   pub row_done : (patch more : List (Option ℕ)) (row : List Cell) → RowWalk store v a s rec n patch → ((c : Version) → IsAt a.view s t c → Visited (knows a.view s) s c store.layout.limits.columns patch more Row)
       → ((c : Version) → IsAt a.view s t c → row ≡ overlaid c.values more) → IsRowOf v s rec (Some row)
-  row_done patch more row walk visited is key has = let q = at_number store a s rec n walk.reader walk.versions walk.chain some range t range_is tail_is in
-      let fits = (fit_step (knows v s) s q.0 q.1 (subst (λ (cs : List Version). FitInTurn None (seen_acts (knows v s) s cs)) q.2 (walk.fits key has))).1 in
-      ap (λ (r : List Cell). Some r) (is q.0 q.3) ∙ sym (newest_after q.0 q.1 patch walk q.2 key has
-      ∙ visited q.0 q.3 (row_from None (seen_acts (knows v s) s q.1)) (wide_row store.layout.limits rec (knows v s) s q.1 q.5.whole) (λ e. fits (sym (sees_on v a.view s q.0.writer walk.possible host opened walk.watched) ∙ e)))
+  row_done patch more row walk visited is = let q = at_number store a s rec n walk.reader walk.versions walk.chain some range t range_is tail_is in
+      let fits = (fit_step (knows v s) s q.0 q.1 (subst (λ (cs : List Version). FitInTurn None (seen_acts (knows v s) s cs)) q.2 walk.fits)).1 in (
+        walk.acts,
+        walk.sees,
+        ap (λ (r : List Cell). Some r) (is q.0 q.3) ∙ sym (newest_after q.0 q.1 patch walk q.2
+            ∙ visited q.0 q.3 (row_from None (seen_acts (knows v s) s q.1)) (wide_row store.layout.limits rec (knows v s) s q.1 q.5.whole) (λ e. fits (sym (sees_on v a.view s q.0.writer walk.possible host opened walk.watched) ∙ e))),
+      )
 
   pub row_gone : (patch more : List (Option ℕ)) → RowWalk store v a s rec n patch → ((c : Version) → IsAt a.view s t c → Visited (knows a.view s) s c store.layout.limits.columns patch more NoRow) → IsRowOf v s rec None
-  row_gone patch more walk visited key has = let q = at_number store a s rec n walk.reader walk.versions walk.chain some range t range_is tail_is in
-      sym (newest_after q.0 q.1 patch walk q.2 key has ∙ visited q.0 q.3 (row_from None (seen_acts (knows v s) s q.1)))
+  row_gone patch more walk visited = let q = at_number store a s rec n walk.reader walk.versions walk.chain some range t range_is tail_is in
+      (walk.acts, walk.sees, sym (newest_after q.0 q.1 patch walk q.2 ∙ visited q.0 q.3 (row_from None (seen_acts (knows v s) s q.1))))
+
+  -- the walk has come to the version that decides
+  pub row_walked : (patch more : List (Option ℕ)) (row : List Cell) → RowWalk store v a s rec n patch → Watched a.view b.view s → ((c : Version) → IsAt a.view s t c → Visited (knows a.view s) s c store.layout.limits.columns patch more Row) → Resolves a.view b.view s range n
+      → Watched b.view d.view s → ((c : Version) → IsAt a.view s t c → row ≡ overlaid c.values more) → WalksRow v d.view s rec (Some row)
+  row_walked patch more row walk ab visited resolves bd is = let q = at_number store a s rec n walk.reader walk.versions walk.chain some range t range_is tail_is in (
+    walk.passed ++ q.0 ∷ [],
+    q.1,
+    passed_here walk.passed q.0 q.1 walk.versions q.2 walk.reader walk.watched walk.passes q.3 ab resolves bd,
+    inr (λ older wide turn. made_here walk.passed q.0 patch walk.possible walk.watched walk.made older
+        ∙ (visited q.0 q.3 older (wide_here walk.reader walk.watched older wide) (fits_here walk.passed q.0 older walk.possible walk.watched turn) ∙ ap (λ (r : List Cell). Some r) (sym (is q.0 q.3)))),
+  )
+
+  pub gone_walked : (patch more : List (Option ℕ)) → RowWalk store v a s rec n patch → Watched a.view b.view s → ((c : Version) → IsAt a.view s t c → Visited (knows a.view s) s c store.layout.limits.columns patch more NoRow) → Resolves a.view b.view s range n
+      → Watched b.view d.view s → WalksRow v d.view s rec None
+  gone_walked patch more walk ab visited resolves bd = let q = at_number store a s rec n walk.reader walk.versions walk.chain some range t range_is tail_is in (
+    walk.passed ++ q.0 ∷ [],
+    q.1,
+    passed_here walk.passed q.0 q.1 walk.versions q.2 walk.reader walk.watched walk.passes q.3 ab resolves bd,
+    inr (λ older wide turn. made_here walk.passed q.0 patch walk.possible walk.watched walk.made older ∙ visited q.0 q.3 older),
+  )
+
+  pub cell_walked : (column : ℕ) (held : Option ℕ) → CellWalk store v a s rec column n → Watched a.view b.view s → ((c : Version) → IsAt a.view s t c → Tells (knows a.view s) s c store.layout.limits.columns column (Some held)) → Resolves a.view b.view s range n
+      → Watched b.view d.view s → WalksCell v d.view s rec column held
+  cell_walked column held walk ab tells resolves bd = let q = at_number store a s rec n walk.reader walk.versions walk.chain some range t range_is tail_is in (
+    walk.passed ++ q.0 ∷ [],
+    q.1,
+    passed_here walk.passed q.0 q.1 walk.versions q.2 walk.reader walk.watched walk.passes q.3 ab resolves bd,
+    inr (λ older wide turn. cell_made_here column walk.passed q.0 walk.possible walk.watched walk.made older
+        ∙ tells q.0 q.3 older (wide_here walk.reader walk.watched older wide) (fits_here walk.passed q.0 older walk.possible walk.watched turn)),
+  )
 
   pub cell_next : (column : ℕ) → CellWalk store v a s rec column n → Watched a.view b.view s → ((c : Version) → IsAt a.view s t c → Tells (knows a.view s) s c store.layout.limits.columns column None)
-      → IsReader store d s → Watched b.view d.view s → ((c : Version) → IsAt a.view s t c → m ≡ c.back) → CellWalk store v d s rec column m
-  cell_next column walk ab tells reader bd back = let q = at_number store a s rec n walk.reader walk.versions walk.chain some range t range_is tail_is in let ad = watched_on a.view b.view d.view s ab bd in record {
+      → Resolves a.view b.view s range n → IsReader store d s → Watched b.view d.view s → ((c : Version) → IsAt a.view s t c → m ≡ c.back) → CellWalk store v d s rec column m
+  cell_next column walk ab tells resolves reader bd back = let q = at_number store a s rec n walk.reader walk.versions walk.chain some range t range_is tail_is in let ad = watched_on a.view b.view d.view s ab bd in record {
     reader = reader;
     possible = walk.possible;
     watched = watched_on v a.view d.view s walk.watched ad;
+    passed = walk.passed ++ q.0 ∷ [];
     versions = q.1;
+    passes = passed_here walk.passed q.0 q.1 walk.versions q.2 walk.reader walk.watched walk.passes q.3 ab resolves bd;
+    made = λ older. cell_made_here column walk.passed q.0 walk.possible walk.watched walk.made older ∙ tells q.0 q.3 older;
     chain = subst (λ (k : ℕ). IsChainFrom store.layout.limits (knows d.view s).facts rec k q.1) (sym (back q.0 q.3)) (chain_stays store.layout.limits (knows a.view s).facts (knows d.view s).facts rec q.0.back q.1 (facts_on a.view d.view s ad) q.5);
-    fits = λ key has. (fit_step (knows v s) s q.0 q.1 (subst (λ (cs : List Version). FitInTurn None (seen_acts (knows v s) s cs)) q.2 (walk.fits key has))).0;
-    answers = λ key has. let older : Option (List Cell) = row_from None (seen_acts (knows v s) s q.1) in walk.answers key has ∙ (ap (λ (cs : List Version). cell_in column (row_from None (seen_acts (knows v s) s cs))) q.2
+    fits = (fit_step (knows v s) s q.0 q.1 (subst (λ (cs : List Version). FitInTurn None (seen_acts (knows v s) s cs)) q.2 walk.fits)).0;
+    acts = walk.acts;
+    sees = walk.sees;
+    answers = let older : Option (List Cell) = row_from None (seen_acts (knows v s) s q.1) in walk.answers ∙ (ap (λ (cs : List Version). cell_in column (row_from None (seen_acts (knows v s) s cs))) q.2
         ∙ (ap (cell_in column) (row_step (knows v s) s q.0 q.1 ∙ sym (seen_same walk.possible walk.watched q.0 older)) ∙ tells q.0 q.3 older));
   }
 
   pub cell_done : (column : ℕ) (held : Option ℕ) → CellWalk store v a s rec column n → ((c : Version) → IsAt a.view s t c → Tells (knows a.view s) s c store.layout.limits.columns column (Some held)) → IsCellOf v s rec column held
-  cell_done column held walk tells key has = let q = at_number store a s rec n walk.reader walk.versions walk.chain some range t range_is tail_is in let older : Option (List Cell) = row_from None (seen_acts (knows v s) s q.1) in
-      let fits = (fit_step (knows v s) s q.0 q.1 (subst (λ (cs : List Version). FitInTurn None (seen_acts (knows v s) s cs)) q.2 (walk.fits key has))).1 in
-      sym (walk.answers key has ∙ (ap (λ (cs : List Version). cell_in column (row_from None (seen_acts (knows v s) s cs))) q.2
-      ∙ (ap (cell_in column) (row_step (knows v s) s q.0 q.1 ∙ sym (seen_same walk.possible walk.watched q.0 older))
-      ∙ tells q.0 q.3 older (wide_row store.layout.limits rec (knows v s) s q.1 q.5.whole) (λ e. fits (sym (sees_on v a.view s q.0.writer walk.possible host opened walk.watched) ∙ e)))))
+  cell_done column held walk tells = let q = at_number store a s rec n walk.reader walk.versions walk.chain some range t range_is tail_is in let older : Option (List Cell) = row_from None (seen_acts (knows v s) s q.1) in
+      let fits = (fit_step (knows v s) s q.0 q.1 (subst (λ (cs : List Version). FitInTurn None (seen_acts (knows v s) s cs)) q.2 walk.fits)).1 in (
+        walk.acts,
+        walk.sees,
+        sym (walk.answers ∙ (ap (λ (cs : List Version). cell_in column (row_from None (seen_acts (knows v s) s cs))) q.2
+            ∙ (ap (cell_in column) (row_step (knows v s) s q.0 q.1 ∙ sym (seen_same walk.possible walk.watched q.0 older))
+            ∙ tells q.0 q.3 older (wide_row store.layout.limits rec (knows v s) s q.1 q.5.whole) (λ e. fits (sym (sees_on v a.view s q.0.writer walk.possible host opened walk.watched) ∙ e))))),
+      )
 
 -- the chain's end
 pub row_over : (store : Store) (v : View) (a : Sitting) (s rec n : ℕ) (patch : List (Option ℕ)) → n ≤ 0 → RowWalk store v a s rec n patch → IsRowOf v s rec None
-row_over store v a s rec n patch none walk key has = let empty = (chains_are_walked store.layout.limits (knows a.view s).facts rec n walk.versions walk.chain).none (omega arith) in
-    sym (walk.answers key has ∙ ap (λ (cs : List Version). row_after (row_from None (seen_acts (knows v s) s cs)) (Set patch)) empty)
+row_over store v a s rec n patch none walk = let empty = (chains_are_walked store.layout.limits (knows a.view s).facts rec n walk.versions walk.chain).none (omega arith) in
+    (walk.acts, walk.sees, sym (walk.answers ∙ ap (λ (cs : List Version). row_after (row_from None (seen_acts (knows v s) s cs)) (Set patch)) empty))
 
 pub cell_over : (store : Store) (v : View) (a : Sitting) (s rec column n : ℕ) → n ≤ 0 → CellWalk store v a s rec column n → IsCellOf v s rec column None
-cell_over store v a s rec column n none walk key has = let empty = (chains_are_walked store.layout.limits (knows a.view s).facts rec n walk.versions walk.chain).none (omega arith) in
-    sym (walk.answers key has ∙ ap (λ (cs : List Version). cell_in column (row_from None (seen_acts (knows v s) s cs))) empty)
+cell_over store v a s rec column n none walk = let empty = (chains_are_walked store.layout.limits (knows a.view s).facts rec n walk.versions walk.chain).none (omega arith) in
+    (walk.acts, walk.sees, sym (walk.answers ∙ ap (λ (cs : List Version). cell_in column (row_from None (seen_acts (knows v s) s cs))) empty))
+
+pub row_ended : (store : Store) (v : View) (a : Sitting) (s rec n : ℕ) (patch : List (Option ℕ)) → n ≤ 0 → RowWalk store v a s rec n patch → WalksRow v a.view s rec None
+row_ended store v a s rec n patch none walk = (walk.passed, walk.versions, walk.passes, inl ((chains_are_walked store.layout.limits (knows a.view s).facts rec n walk.versions walk.chain).none (omega arith)))
+
+pub cell_ended : (store : Store) (v : View) (a : Sitting) (s rec column n : ℕ) → n ≤ 0 → CellWalk store v a s rec column n → WalksCell v a.view s rec column None
+cell_ended store v a s rec column n none walk = (walk.passed, walk.versions, walk.passes, inl ((chains_are_walked store.layout.limits (knows a.view s).facts rec n walk.versions walk.chain).none (omega arith)))
+
+-- ---- where the record's key is known
+
+pub row_of_key : (v : View) (s rec : ℕ) (row : Option (List Cell)) → IsRowOf v s rec row → (key : ℕ) → HasKey (knows v s).facts rec key → row ≡ row_from None (sight (knows v s) key)
+row_of_key v s rec row is key has = is.2 ∙ ap (row_from None) (is.1.of_key key has)

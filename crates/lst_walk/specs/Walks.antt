@@ -1,9 +1,12 @@
 -- Walks along a record's chain.
-use Rattle.std.specs.Prelude.{◌≡◌, ℕ, ◌<◌, ◌≤◌, List, Option, Some, None, length, take, true, slice_index_or}
+use Rattle.std.specs.Prelude.{◌≡◌, ◌⊎◌, ℕ, ◌<◌, ◌≤◌, List, [], ◌++◌, Option, Some, None, length, take, true, slice_index_or}
+use Rattle.std.specs.List.{All}
+use Rattle.lst_model.specs.declared.acts.Act.{Act}
 use Rattle.lst_model.specs.declared.acts.Act.TheVariants.{Set}
 use Rattle.lst_model.specs.Cells.{Cell, overlaid}
 use Rattle.lst_model.specs.Histories.{row_after, row_from}
 use Rattle.lst_model.specs.Soundness.{Fits, FitInTurn}
+use Rattle.lst_core_state.specs.Cells.{range_of}
 use Rattle.lst_core_state.specs.State.{sight}
 use Rattle.lst_core_state.specs.declared.known.Known.{Known}
 use Rattle.lst_rule.specs.declared.view.View.{View}
@@ -11,21 +14,48 @@ use Rattle.lst_rule.specs.Rule.{knows}
 use Rattle.lst_rule.specs.Learned.{Possible}
 use Rattle.lst_rule.specs.declared.store.Store.{Store}
 use Rattle.lst_rule.specs.Seats.{Sitting}
-use Rattle.lst_sights.specs.Copies.{Version, IsChainFrom}
+use Rattle.lst_sights.specs.Copies.{Version, IsChainFrom, IsCopy}
 use Rattle.lst_sights.specs.Seen.{sees, act_by, seen_acts, HasKey}
 use Rattle.lst_sights.specs.Watching.{Watched}
-use Rattle.lst_walk.specs.Readers.{IsReader, IsAt}
+use Rattle.lst_walk.specs.Readers.{IsReader, IsAt, IsResolved}
 use Rattle.lst_walk.specs.Patches.{seen_after, cell_in, IsWide}
 use Rattle.lst_walk.specs.declared.rows.Visit.{Visit}
 use Rattle.lst_walk.specs.declared.rows.Visit.TheVariants.{Row, NoRow, Older}
 
--- the row of the record that the session's open transaction sees, where the facts have the record's key
+-- these acts are what the open transaction sees of the record: those of the key that the facts have on it, or none
+pub record IsSightOf (k : Known) (rec : ℕ) (acts : List Act) : Type 0 where
+  pub of_key : (key : ℕ) → HasKey k.facts rec key → acts ≡ sight k key
+  pub keyed : (acts ≡ []) ⊎ ((key : ℕ) × HasKey k.facts rec key)
+
+-- the row of the record that the session's open transaction sees
 abbrev pub IsRowOf : View → ℕ → ℕ → Option (List Cell) → Type 0
-IsRowOf v s rec row = (key : ℕ) → HasKey (knows v s).facts rec key → row ≡ row_from None (sight (knows v s) key)
+IsRowOf v s rec row = (acts : List Act) × IsSightOf (knows v s) rec acts × (row ≡ row_from None acts)
 
 -- and the cell of a column in it
 abbrev pub IsCellOf : View → ℕ → ℕ → ℕ → Option Cell → Type 0
-IsCellOf v s rec column cell = (key : ℕ) → HasKey (knows v s).facts rec key → cell ≡ cell_in column (row_from None (sight (knows v s) key))
+IsCellOf v s rec column cell = (acts : List Act) × IsSightOf (knows v s) rec acts × (cell ≡ cell_in column (row_from None acts))
+
+-- a walk along the record's chain between v and w resolved the versions that it passed, newest first, and left the older ones
+pub record Passes (v w : View) (s rec : ℕ) (passed rest : List Version) : Type 0 where
+  pub head : ℕ
+  pub copy : IsCopy w.limits (knows w s).facts rec head (passed ++ rest)
+  pub resolved : All (IsResolved v w s (range_of rec)) passed
+
+-- whatever row older versions make, with what is seen of these it is the row
+abbrev pub DecideRow : Known → ℕ → ℕ → List Version → Option (List Cell) → Type 0
+DecideRow k s columns passed row = (older : Option (List Cell)) → IsWide columns older → FitInTurn older (seen_acts k s passed) → row_from older (seen_acts k s passed) ≡ row
+
+-- and its cell of the column is this
+abbrev pub DecideCell : Known → ℕ → ℕ → ℕ → List Version → Option Cell → Type 0
+DecideCell k s columns column passed cell = (older : Option (List Cell)) → IsWide columns older → FitInTurn older (seen_acts k s passed) → cell_in column (row_from older (seen_acts k s passed)) ≡ cell
+
+-- the walk went on until the versions that it passed decided the row, or none was left
+abbrev pub WalksRow : View → View → ℕ → ℕ → Option (List Cell) → Type 0
+WalksRow v w s rec row = (passed : List Version) × (rest : List Version) × Passes v w s rec passed rest × ((rest ≡ []) ⊎ DecideRow (knows v s) s v.limits.columns passed row)
+
+-- or the cell of the column
+abbrev pub WalksCell : View → View → ℕ → ℕ → ℕ → Option Cell → Type 0
+WalksCell v w s rec column cell = (passed : List Version) × (rest : List Version) × Passes v w s rec passed rest × ((rest ≡ []) ⊎ DecideCell (knows v s) s v.limits.columns column passed cell)
 
 -- what a visit of the version c makes of the patch of the newer versions, whatever row the older ones leave that the version fits
 abbrev pub Visited : Known → ℕ → Version → ℕ → List (Option ℕ) → List (Option ℕ) → Visit → Type 0
@@ -55,20 +85,30 @@ pub record RowWalk (store : Store) (v : View) (seat : Sitting) (s rec n : ℕ) (
   pub possible : Possible v
   pub watched : Watched v seat.view s
   pub wide : length patch ≡ store.layout.limits.columns
+  pub passed : List Version
   pub versions : List Version
+  pub passes : Passes v seat.view s rec passed versions
   pub chain : IsChainFrom store.layout.limits (knows seat.view s).facts rec n versions
-  pub fits : (key : ℕ) → HasKey (knows v s).facts rec key → FitInTurn None (seen_acts (knows v s) s versions)
-  pub answers : (key : ℕ) → HasKey (knows v s).facts rec key → row_from None (sight (knows v s) key) ≡ row_after (row_from None (seen_acts (knows v s) s versions)) (Set patch)
+  pub fits : FitInTurn None (seen_acts (knows v s) s versions)
+  pub acts : List Act
+  pub sees : IsSightOf (knows v s) rec acts
+  pub answers : row_from None acts ≡ row_after (row_from None (seen_acts (knows v s) s versions)) (Set patch)
+  pub made : (older : Option (List Cell)) → row_from older (seen_acts (knows v s) s passed) ≡ row_after older (Set patch)
 
 -- the walk for a cell: the newer versions tell nothing of the column
 pub record CellWalk (store : Store) (v : View) (seat : Sitting) (s rec column n : ℕ) : Type 0 where
   pub reader : IsReader store seat s
   pub possible : Possible v
   pub watched : Watched v seat.view s
+  pub passed : List Version
   pub versions : List Version
+  pub passes : Passes v seat.view s rec passed versions
   pub chain : IsChainFrom store.layout.limits (knows seat.view s).facts rec n versions
-  pub fits : (key : ℕ) → HasKey (knows v s).facts rec key → FitInTurn None (seen_acts (knows v s) s versions)
-  pub answers : (key : ℕ) → HasKey (knows v s).facts rec key → cell_in column (row_from None (sight (knows v s) key)) ≡ cell_in column (row_from None (seen_acts (knows v s) s versions))
+  pub fits : FitInTurn None (seen_acts (knows v s) s versions)
+  pub acts : List Act
+  pub sees : IsSightOf (knows v s) rec acts
+  pub answers : cell_in column (row_from None acts) ≡ cell_in column (row_from None (seen_acts (knows v s) s versions))
+  pub made : (older : Option (List Cell)) → cell_in column (row_from older (seen_acts (knows v s) s passed)) ≡ cell_in column older
 
 -- k cells of those that the version at the tail makes
 pub record Fills {A : Type 0} (store : Store) (v : View) (seat : Sitting) (s tail k : ℕ) (items : List A) (target : Version → List A) : Type 0 where

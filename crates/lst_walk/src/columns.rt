@@ -5,8 +5,8 @@ ghost use Rattle.lst_rule.specs.Rule.{knows, hosts};
 ghost use Rattle.lst_rule.specs.Stores.{IsSeatOf};
 ghost use Rattle.lst_sights.specs.Copies.{Version};
 ghost use Rattle.lst_sights.specs.Watching.{Watched};
-ghost use Rattle.lst_walk.specs.Readers.{IsReader, IsAt, HasVersion};
-ghost use Rattle.lst_walk.specs.Walks.{IsCellOf, Tells, Told};
+ghost use Rattle.lst_walk.specs.Readers.{IsReader, IsAt, HasVersion, Resolves};
+ghost use Rattle.lst_walk.specs.Walks.{IsCellOf, WalksCell, Tells, Told};
 
 use crate::stamps::is_seen;
 use crate::words::{back, encoding, head, tail_of, value};
@@ -14,8 +14,9 @@ use lst_bits::{Kind, has_column};
 use lst_rule::{RecordId, Seat, Store};
 
 /// The number in a column of the row that the open transaction sees of a record: of the snapshot at its begin, with its own writes on
-/// it. None comes exactly where it sees no row. The walk goes along the chain from the newest version, to the first one that is seen and
-/// tells of the column.
+/// it. None comes exactly where it sees no row, of a record without a seen key too. The walk goes along the chain from the newest version, to
+/// the first one that is seen and tells of the column. It resolves each version that it passes, this one included: where it finds the
+/// transaction committed and the start word not stamped, it stores the commit time there.
 pub fn column(store: &Store, seat: &mut Seat, s: u32, rec: RecordId, c: u32) -> Option<u64>
     requires seat { IsSeatOf store.now seat.old }
     requires host { hosts seat.old.view s ≡ true }
@@ -26,6 +27,7 @@ pub fn column(store: &Store, seat: &mut Seat, s: u32, rec: RecordId, c: u32) -> 
     ensures seat { IsSeatOf store.now seat.new }
     ensures watched { Watched seat.old.view seat.new.view s }
     ensures cell { IsCellOf seat.old.view s rec.number c result }
+    ensures walk { WalksCell seat.old.view seat.new.view s rec.number c result }
 {
     seat.consider();
     let range = rec.number / 256;
@@ -57,6 +59,7 @@ fn held(
     ensures reader { IsReader store.now seat.new s }
     ensures watched { Watched seat.old.view seat.new.view s }
     ensures tells { (c : Version) → IsAt seat.old.view s (range * store.now.layout.limits.tails + number) c → Tells (knows seat.old.view s) s c store.now.layout.limits.columns column result }
+    ensures resolved { Resolves seat.old.view seat.new.view s range number }
 {
     if is_seen(store, seat, s, range, number) {
         told(store, seat, s, tail_of(store, range, number), column)

@@ -6,7 +6,6 @@
 mod columns;
 mod rows;
 mod stamps;
-mod statuses;
 #[cfg(test)]
 mod tests;
 mod words;

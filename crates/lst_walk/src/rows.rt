@@ -7,9 +7,9 @@ ghost use Rattle.lst_rule.specs.Rule.{knows, hosts};
 ghost use Rattle.lst_rule.specs.Stores.{IsSeatOf};
 ghost use Rattle.lst_sights.specs.Copies.{Version};
 ghost use Rattle.lst_sights.specs.Watching.{Watched};
-ghost use Rattle.lst_walk.specs.Readers.{IsReader, IsAt, HasVersion};
+ghost use Rattle.lst_walk.specs.Readers.{IsReader, IsAt, HasVersion, Resolves};
 ghost use Rattle.lst_walk.specs.Patches.{newest, merged};
-ghost use Rattle.lst_walk.specs.Walks.{IsRowOf, Visited, Acted};
+ghost use Rattle.lst_walk.specs.Walks.{IsRowOf, WalksRow, Visited, Acted};
 
 use crate::stamps::is_seen;
 use crate::words::{back, encoding, head, tail_of, value};
@@ -29,8 +29,9 @@ pub(crate) enum Visit {
 }
 
 /// The row of a record that the open transaction sees: that of the snapshot at its begin, with its own writes on it. None comes exactly where
-/// it sees no row. The walk goes along the chain from the newest version, to the first put or delete that is seen or until each column is set,
-/// and stamps each version that it finds committed.
+/// it sees no row, of a record without a seen key too. The walk goes along the chain from the newest version, to the first put or delete that is
+/// seen or until each column is set. It resolves each version that it passes, this last one included: where it finds the transaction committed
+/// and the start word not stamped, it stores the commit time there.
 pub fn row(store: &Store, seat: &mut Seat, s: u32, rec: RecordId) -> Option<Row>
     requires seat { IsSeatOf store.now seat.old }
     requires host { hosts seat.old.view s ≡ true }
@@ -40,6 +41,7 @@ pub fn row(store: &Store, seat: &mut Seat, s: u32, rec: RecordId) -> Option<Row>
     ensures seat { IsSeatOf store.now seat.new }
     ensures watched { Watched seat.old.view seat.new.view s }
     ensures row { IsRowOf seat.old.view s rec.number result }
+    ensures walk { WalksRow seat.old.view seat.new.view s rec.number result }
 {
     seat.consider();
     let range = rec.number / 256;
@@ -74,6 +76,7 @@ fn look(
     ensures reader { IsReader store.now seat.new s }
     ensures watched { Watched seat.old.view seat.new.view s }
     ensures visited { (c : Version) → IsAt seat.old.view s (range * store.now.layout.limits.tails + number) c → Visited (knows seat.old.view s) s c store.now.layout.limits.columns patch.old patch.new result }
+    ensures resolved { Resolves seat.old.view seat.new.view s range number }
 {
     if is_seen(store, seat, s, range, number) {
         acted(store, seat, s, tail_of(store, range, number), patch)

@@ -1,5 +1,5 @@
 //! Commit times in start words.
-ghost use Rattle.std.specs.Prelude.{◌≡◌, ◌⊎◌, ℕ, ◌+◌, ◌*◌, ◌<◌, ◌≤◌, ◌≢◌, IfSome, IfNone, eqb, length, true, false};
+ghost use Rattle.std.specs.Prelude.{◌≡◌, ℕ, ◌+◌, ◌*◌, ◌<◌, ◌≤◌, ◌≢◌, IfSome, IfNone, eqb, length, true, false};
 ghost use Rattle.std.specs.List.{Contains};
 ghost use Rattle.lst_layout.specs.declared.place.Place.TheVariants.{CellWord};
 ghost use Rattle.lst_core_state.specs.declared.events.Event.TheVariants.{Stamp};
@@ -10,13 +10,11 @@ ghost use Rattle.lst_rule.specs.Stores.{IsSeatOf};
 ghost use Rattle.lst_sights.specs.Copies.{Version};
 ghost use Rattle.lst_sights.specs.Seen.{sees};
 ghost use Rattle.lst_sights.specs.Watching.{Watched};
-ghost use Rattle.lst_walk.specs.Readers.{IsReader, IsAt, HasVersion, IsStatus, Timed, Untimed, Stamped};
-ghost use Rattle.lst_walk.specs.declared.statuses.Status.TheVariants.{Unfinished, Closed};
+ghost use Rattle.lst_walk.specs.Readers.{IsReader, IsAt, HasVersion, IsNotCommitted, Timed, Untimed, Stamped, Resolves, Concludes};
 
-use crate::statuses::{Status, status_of};
 use crate::words::tail_of;
 use lst_bits::{Start, unpack_start};
-use lst_rule::{Seat, Store, load_cell, step_stamp};
+use lst_rule::{Seat, Status, Store, load_cell, step_stamp, transaction_status};
 
 /// Whether this call found or stored a commit time in the start word of a range's tail record, which has this number from 1 on. It
 /// answers no where it found the start word empty, or its transaction closed or unfinished.
@@ -63,16 +61,17 @@ fn time_of(
     ensures watched { Watched seat.old.view seat.new.view s }
     ensures some { IfSome result (λ time. (0 < time) × Contains (knows seat.new.view s).facts (StateAt session number (time + 1))) }
     ensures stamped { IfSome result (λ time. Stamped seat.old.view seat.new.view s range tail time) }
-    ensures none { IfNone result (IsStatus (knows seat.old.view s) (knows seat.new.view s) session number Closed ⊎ IsStatus (knows seat.old.view s) (knows seat.new.view s) session number Unfinished) }
+    ensures none { IfNone result (IsNotCommitted seat.old.view seat.new.view s session number) }
 {
-    match status_of(store, seat, s, session, number) {
+    match transaction_status(store, seat, s, session, number) {
         Status::Committed { time } => {
             seat.consider();
             step_stamp(store, seat, s, range, tail, time);
             Some(time)
         }
         Status::Closed => None,
-        Status::Unfinished => None,
+        Status::Unfinished { .. } => None,
+        Status::Empty => None,
     }
 }
 
@@ -86,6 +85,7 @@ pub(crate) fn is_seen(store: &Store, seat: &mut Seat, s: u32, range: u32, tail: 
     ensures reader { IsReader store.now seat.new s }
     ensures watched { Watched seat.old.view seat.new.view s }
     ensures seen { (c : Version) → IsAt seat.old.view s (range * store.now.layout.limits.tails + tail) c → result ≡ sees (knows seat.old.view s) s c.writer }
+    ensures resolved { Resolves seat.old.view seat.new.view s range tail }
 {
     let start = load_cell(store, seat, s, tail_of(store, range, tail), 0);
     match unpack_start(start) {
@@ -130,6 +130,7 @@ fn is_committed(
     ensures reader { IsReader store.now seat.new s }
     ensures watched { Watched seat.old.view seat.new.view s }
     ensures seen { result ≡ sees (knows seat.old.view s) s (name_of session number) }
+    ensures told { Concludes seat.old.view seat.new.view s range tail session number }
 {
     seat.consider();
     match time_of(store, seat, s, range, tail, session, number) {

@@ -2,6 +2,7 @@
 ghost use Rattle.std.specs.Prelude.{◌≡◌, ℕ, ◌+◌, ◌*◌, ◌<◌, ◌≤◌, ◌^◌, slice_index};
 ghost use Rattle.lst_core_state.specs.Cells.{record_count};
 ghost use Rattle.lst_rule.specs.Rule.{knows};
+ghost use Rattle.lst_rule.specs.Learned.{Possible};
 ghost use Rattle.lst_sights.specs.Copies.{Version};
 ghost use Rattle.lst_sights.specs.Seen.{act_by};
 ghost use Rattle.lst_sights.specs.Loads.{ChainFound, WordFound};
@@ -27,6 +28,7 @@ pub(crate) fn head(store: &Store, seat: &mut Seat, s: u32, rec: RecordId) -> u32
     requires rec { rec.number < record_count store.now.layout.limits }
     ensures reader { IsReader store.now seat.new s }
     ensures watched { Watched seat.old.view seat.new.view s }
+    ensures possible { Possible seat.new.view }
     ensures chain { ChainFound store.now.layout.limits (knows seat.new.view s) s rec.number result }
 {
     unpack_head(load_head(store, seat, s, rec.number)).0

@@ -2,6 +2,7 @@ use Rattle.std.proofs.Common.{sym, ◌∙◌}
 use Rattle.lst_rule.specs.Rule.{knows}
 use Rattle.lst_walk.proofs.Reading.{at_on, version_on, watched_on}
 use Rattle.lst_walk.proofs.Stamping.{at_same, has_same}
+use Rattle.lst_walk.proofs.Resolving.{resolves_later}
 use Rattle.lst_walk.proofs.Walking.{seen_tells, unseen_tells}
 use Rattle.lst_walk.proofs.columns.held.Goals as goal
 
@@ -19,3 +20,6 @@ returns-then-is_seen-clause-tells c = λ d at. seen_tells (knows c.args.seat.now
 
 pub returns-else-is_seen-clause-tells : goal.returns-else-is_seen-clause-tells
 returns-else-is_seen-clause-tells c = λ d at. unseen_tells (knows c.args.seat.now.view c.args.s) c.args.s d c.args.store.now.layout.limits.columns c.args.column (sym (c.is_seen.ensures.seen d at) ∙ c.if-is_seen.false)
+
+pub returns-then-is_seen-clause-resolved : goal.returns-then-is_seen-clause-resolved
+returns-then-is_seen-clause-resolved c = resolves_later c.args.seat.now.view c.is_seen.new.seat.view c.told.new.seat.view c.args.s c.args.range c.args.number c.told.ensures.watched c.is_seen.ensures.resolved

@@ -2,6 +2,7 @@ use Rattle.std.proofs.Common.{sym, ◌∙◌}
 use Rattle.lst_rule.specs.Rule.{knows}
 use Rattle.lst_walk.proofs.Reading.{at_on, version_on, watched_on}
 use Rattle.lst_walk.proofs.Stamping.{at_same, has_same}
+use Rattle.lst_walk.proofs.Resolving.{resolves_later}
 use Rattle.lst_walk.proofs.Walking.{seen_visited, unseen_visited}
 use Rattle.lst_walk.proofs.rows.look.Goals as goal
 
@@ -19,3 +20,6 @@ returns-then-is_seen-clause-visited c = λ d at. seen_visited (knows c.args.seat
 
 pub returns-else-is_seen-clause-visited : goal.returns-else-is_seen-clause-visited
 returns-else-is_seen-clause-visited c = λ d at. unseen_visited (knows c.args.seat.now.view c.args.s) c.args.s d c.args.store.now.layout.limits.columns c.args.patch.now (sym (c.is_seen.ensures.seen d at) ∙ c.if-is_seen.false)
+
+pub returns-then-is_seen-clause-resolved : goal.returns-then-is_seen-clause-resolved
+returns-then-is_seen-clause-resolved c = resolves_later c.args.seat.now.view c.is_seen.new.seat.view c.acted.new.seat.view c.args.s c.args.range c.args.number c.acted.ensures.watched c.is_seen.ensures.resolved

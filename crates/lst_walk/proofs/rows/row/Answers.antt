@@ -1,10 +1,11 @@
 use Rattle.std.proofs.Common.{ℕ, ◌*◌, ◌+◌, ◌/◌, refl, sym, ap, ◌∙◌, arith}
 use Rattle.std.specs.Prelude.{replicate, None}
 use Rattle.lst_layout.specs.declared.layout.Layout.{Layout}
+use Rattle.lst_sights.proofs.Watching.{watched_same}
 use Rattle.lst_walk.proofs.Reading.{at_on, version_on, watched_on}
 use Rattle.lst_walk.proofs.Stamping.{at_same, has_same}
 use Rattle.lst_walk.proofs.Lists.{take_same}
-use Rattle.lst_walk.proofs.Walking.{number_few, at_number, version_number, range_low, row_start, row_next, row_done, row_gone, row_over}
+use Rattle.lst_walk.proofs.Walking.{number_few, at_number, version_number, range_low, row_start, row_next, row_done, row_gone, row_over, row_walked, gone_walked, row_ended}
 use Rattle.lst_walk.proofs.rows.row.Goals as goal
 
 pub head-number-requires-clause-reader : goal.head-number-requires-clause-reader
@@ -36,10 +37,10 @@ loop-number-smaller c = let q = at_number c.args.store.now c.loop-number.seat c.
 
 pub loop-number-init : goal.loop-number-init
 loop-number-init c = let l = ap (λ (y : Layout). y.limits.columns) c.layout.ensures in let few = c.args.store.now.layout.valid.columns.1 in
-    row_start c.args.store.now c.args.seat.now.view c.head-number.new.seat c.args.s c.args.rec.number c.head-number.result c.consider.ensures c.requires.host c.requires.opened c.head-number.ensures.reader c.head-number.ensures.watched c.head-number.ensures.chain _ (take_same c.layout.result.now.limits.columns 8 None (omega arith) ∙ ap (λ (n : ℕ). replicate n None) l)
+    row_start c.args.store.now c.args.seat.now.view c.head-number.new.seat c.args.s c.args.rec.number c.head-number.result c.consider.ensures c.requires.host c.requires.opened c.head-number.ensures.reader c.head-number.ensures.watched c.head-number.ensures.possible c.head-number.ensures.chain _ (take_same c.layout.result.now.limits.columns 8 None (omega arith) ∙ ap (λ (n : ℕ). replicate n None) l)
 
 pub loop-number-preserved : goal.loop-number-preserved
-loop-number-preserved c = row_next c.args.store.now c.args.seat.now.view c.loop-number.seat c.look.new.seat c.back-number.new.seat c.args.s c.args.rec.number c.loop-number.number (c.args.rec.number / 256) (c.args.rec.number / 256 * c.args.store.now.layout.limits.tails + c.loop-number.number) c.back-number.result c.requires.host c.requires.opened c.loop-number-test.true refl refl c.loop-number.patch c.look.new.patch c.loop-number.invariant c.look.ensures.watched (c.look.auto.patch ∙ c.loop-number.invariant.wide) c.in-Older.ensures.visited c.back-number.ensures.reader c.back-number.ensures.watched (λ d at. c.back-number.ensures.back d (at_same c.look.new.seat.view c.args.s (c.args.rec.number / 256 * c.args.store.now.layout.limits.tails + c.loop-number.number) c.tail_of-tail.result d (sym c.tail_of-tail.ensures) (at_on c.loop-number.seat.view c.look.new.seat.view c.args.s (c.args.rec.number / 256 * c.args.store.now.layout.limits.tails + c.loop-number.number) d c.look.ensures.watched at)))
+loop-number-preserved c = row_next c.args.store.now c.args.seat.now.view c.loop-number.seat c.look.new.seat c.back-number.new.seat c.args.s c.args.rec.number c.loop-number.number (c.args.rec.number / 256) (c.args.rec.number / 256 * c.args.store.now.layout.limits.tails + c.loop-number.number) c.back-number.result c.requires.host c.requires.opened c.loop-number-test.true refl refl c.loop-number.patch c.look.new.patch c.loop-number.invariant c.look.ensures.watched (c.look.auto.patch ∙ c.loop-number.invariant.wide) c.in-Older.ensures.visited c.look.ensures.resolved c.back-number.ensures.reader c.back-number.ensures.watched (λ d at. c.back-number.ensures.back d (at_same c.look.new.seat.view c.args.s (c.args.rec.number / 256 * c.args.store.now.layout.limits.tails + c.loop-number.number) c.tail_of-tail.result d (sym c.tail_of-tail.ensures) (at_on c.loop-number.seat.view c.look.new.seat.view c.args.s (c.args.rec.number / 256 * c.args.store.now.layout.limits.tails + c.loop-number.number) d c.look.ensures.watched at)))
 
 pub returns-clause-watched : goal.returns-clause-watched
 returns-clause-watched c = c.loop-number.invariant.watched
@@ -63,3 +64,13 @@ returns-in-NoRow-clause-watched c = watched_on c.args.seat.now.view c.loop-numbe
 
 pub returns-in-NoRow-clause-row : goal.returns-in-NoRow-clause-row
 returns-in-NoRow-clause-row c = row_gone c.args.store.now c.args.seat.now.view c.loop-number.seat c.look.new.seat c.look.new.seat c.args.s c.args.rec.number c.loop-number.number (c.args.rec.number / 256) (c.args.rec.number / 256 * c.args.store.now.layout.limits.tails + c.loop-number.number) 0 c.requires.host c.requires.opened c.loop-number-test.true refl refl c.loop-number.patch c.look.new.patch c.loop-number.invariant c.in-NoRow.ensures.visited
+
+pub returns-clause-walk : goal.returns-clause-walk
+returns-clause-walk c = row_ended c.args.store.now c.args.seat.now.view c.loop-number.seat c.args.s c.args.rec.number c.loop-number.number c.loop-number.patch c.loop-number-test.false c.loop-number.invariant
+
+pub returns-in-Row-clause-walk : goal.returns-in-Row-clause-walk
+returns-in-Row-clause-walk c = row_walked c.args.store.now c.args.seat.now.view c.loop-number.seat c.look.new.seat c.row_under.new.seat c.args.s c.args.rec.number c.loop-number.number (c.args.rec.number / 256) (c.args.rec.number / 256 * c.args.store.now.layout.limits.tails + c.loop-number.number) 0 c.requires.host c.requires.opened c.loop-number-test.true refl refl c.loop-number.patch c.look.new.patch c.row_under.result c.loop-number.invariant c.look.ensures.watched c.in-Row.ensures.visited c.look.ensures.resolved c.row_under.ensures.watched
+    (λ d at. c.row_under.ensures.row d (at_same c.look.new.seat.view c.args.s (c.args.rec.number / 256 * c.args.store.now.layout.limits.tails + c.loop-number.number) c.tail_of-tail.result d (sym c.tail_of-tail.ensures) (at_on c.loop-number.seat.view c.look.new.seat.view c.args.s (c.args.rec.number / 256 * c.args.store.now.layout.limits.tails + c.loop-number.number) d c.look.ensures.watched at)))
+
+pub returns-in-NoRow-clause-walk : goal.returns-in-NoRow-clause-walk
+returns-in-NoRow-clause-walk c = gone_walked c.args.store.now c.args.seat.now.view c.loop-number.seat c.look.new.seat c.look.new.seat c.args.s c.args.rec.number c.loop-number.number (c.args.rec.number / 256) (c.args.rec.number / 256 * c.args.store.now.layout.limits.tails + c.loop-number.number) 0 c.requires.host c.requires.opened c.loop-number-test.true refl refl c.loop-number.patch c.look.new.patch c.loop-number.invariant c.look.ensures.watched c.in-NoRow.ensures.visited c.look.ensures.resolved (watched_same c.look.new.seat.view c.args.s)

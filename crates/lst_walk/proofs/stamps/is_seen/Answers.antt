@@ -1,8 +1,8 @@
-use Rattle.std.proofs.Common.{ℕ, nat_le, sym, ap, ◌∙◌, arith}
+use Rattle.std.proofs.Common.{ℕ, nat_le, sym, ap, ◌∙◌, arith, inl, inr}
 use Rattle.lst_layout.specs.declared.place.Place.TheVariants.{CellWord}
 use Rattle.lst_core_state.specs.State.{name_of}
 use Rattle.lst_walk.proofs.Reading.{watched_on, reader_on, looked_watched, start_found}
-use Rattle.lst_walk.proofs.Stamping.{tail_place, start_is, named, named_session, named_number, version_at, at_same, stamp_seen, named_own_seen, named_other_seen, other_name, own_few}
+use Rattle.lst_walk.proofs.Stamping.{tail_place, start_is, named, named_session, named_number, version_at, at_same, stamp_seen, named_own_seen, named_other_seen, untimed_empty, timed_found, own_found, concluded, other_name, own_few}
 use Rattle.lst_walk.proofs.stamps.is_seen.Goals as goal
 
 pub load_cell-start-requires-clause-place : goal.load_cell-start-requires-clause-place
@@ -61,3 +61,15 @@ returns-else-is_own-clause-watched c = watched_on c.args.seat.now.view c.load_ce
 
 pub returns-else-is_own-clause-seen : goal.returns-else-is_own-clause-seen
 returns-else-is_own-clause-seen c = λ d at. named_other_seen c.args.seat.now.view c.load_cell-start.new.seat.view c.args.s c.tail_of.result c.load_cell-start.result c.in-By.session c.in-By.number c.is_committed.result c.requires.reader.host c.requires.reader.opened (looked_watched c.args.seat.now.view c.load_cell-start.new.seat.view c.args.s c.load_cell-start.result (CellWord c.tail_of.result 0) c.requires.reader.host (tail_place c.args.store.now.layout.limits c.args.seat.now.view c.args.range c.args.tail c.tail_of.result 0 c.requires.reader.seat_of.limits c.tail_of.ensures c.requires.range c.requires.tail (omega arith)) tt c.load_cell-start.ensures.looked) c.load_cell-start.ensures.looked c.in-By.ensures.word c.is_committed.ensures.seen d (at_same c.args.seat.now.view c.args.s _ c.tail_of.result d (sym c.tail_of.ensures) at)
+
+pub returns-in-Empty-clause-resolved : goal.returns-in-Empty-clause-resolved
+returns-in-Empty-clause-resolved c = inr (inl (untimed_empty c.args.store.now.layout.limits c.args.seat.now.view c.load_cell-start.new.seat.view c.load_cell-start.new.seat.view c.args.s c.args.range c.args.tail c.tail_of.result c.load_cell-start.result c.requires.reader.seat_of.limits c.tail_of.ensures c.load_cell-start.ensures.looked c.in-Empty.ensures.word))
+
+pub returns-in-At-clause-resolved : goal.returns-in-At-clause-resolved
+returns-in-At-clause-resolved c = inl (timed_found c.args.store.now.layout.limits c.args.seat.now.view c.load_cell-start.new.seat.view c.load_cell-start.new.seat.view c.args.s c.args.range c.args.tail c.tail_of.result c.load_cell-start.result c.requires.reader.seat_of.limits c.tail_of.ensures c.load_cell-start.ensures.looked c.in-At.time c.in-At.ensures.range.0 c.in-At.ensures.word)
+
+pub returns-then-is_own-clause-resolved : goal.returns-then-is_own-clause-resolved
+returns-then-is_own-clause-resolved c = inr (inr (own_found c.args.store.now.layout.limits c.args.seat.now.view c.load_cell-start.new.seat.view c.load_cell-start.new.seat.view c.args.s c.args.range c.args.tail c.tail_of.result c.load_cell-start.result c.requires.reader.seat_of.limits c.tail_of.ensures c.load_cell-start.ensures.looked c.in-By.session c.in-By.number c.in-By.ensures.word (sym c.is_own.ensures ∙ c.if-is_own.true) (looked_watched c.args.seat.now.view c.load_cell-start.new.seat.view c.args.s c.load_cell-start.result (CellWord c.tail_of.result 0) c.requires.reader.host (tail_place c.args.store.now.layout.limits c.args.seat.now.view c.args.range c.args.tail c.tail_of.result 0 c.requires.reader.seat_of.limits c.tail_of.ensures c.requires.range c.requires.tail (omega arith)) tt c.load_cell-start.ensures.looked)))
+
+pub returns-else-is_own-clause-resolved : goal.returns-else-is_own-clause-resolved
+returns-else-is_own-clause-resolved c = concluded c.args.store.now.layout.limits c.args.seat.now.view c.load_cell-start.new.seat.view c.is_committed.new.seat.view c.args.s c.args.range c.args.tail c.tail_of.result c.load_cell-start.result c.requires.reader.seat_of.limits c.tail_of.ensures c.load_cell-start.ensures.looked c.in-By.session c.in-By.number c.in-By.ensures.word c.in-By.ensures.range.0 (looked_watched c.args.seat.now.view c.load_cell-start.new.seat.view c.args.s c.load_cell-start.result (CellWord c.tail_of.result 0) c.requires.reader.host (tail_place c.args.store.now.layout.limits c.args.seat.now.view c.args.range c.args.tail c.tail_of.result 0 c.requires.reader.seat_of.limits c.tail_of.ensures c.requires.range c.requires.tail (omega arith)) tt c.load_cell-start.ensures.looked) c.is_committed.ensures.told

@@ -42,4 +42,4 @@ pub returns-in-By-clause-yes : goal.returns-in-By-clause-yes
 returns-in-By-clause-yes c = λ e. let q = some_both c.time_of.result (sym c.is_some.ensures ∙ e) c.time_of.ensures.some c.time_of.ensures.stamped in timed_stored c.args.store.now.layout.limits c.args.seat.now.view c.load_cell-start.new.seat.view c.time_of.new.seat.view c.args.s c.args.range c.args.tail c.tail_of.result c.load_cell-start.result c.requires.seat.limits c.tail_of.ensures c.load_cell-start.ensures.looked q.0 q.1.0 (looked_watched c.args.seat.now.view c.load_cell-start.new.seat.view c.args.s c.load_cell-start.result (CellWord c.tail_of.result 0) c.requires.host (tail_place c.args.store.now.layout.limits c.args.seat.now.view c.args.range c.args.tail c.tail_of.result 0 c.requires.seat.limits c.tail_of.ensures c.requires.range c.requires.tail (omega arith)) tt c.load_cell-start.ensures.looked) q.2
 
 pub returns-in-By-clause-no : goal.returns-in-By-clause-no
-returns-in-By-clause-no c = λ e. untimed_named c.args.store.now.layout.limits c.args.seat.now.view c.load_cell-start.new.seat.view c.time_of.new.seat.view c.args.s c.args.range c.args.tail c.tail_of.result c.load_cell-start.result c.requires.seat.limits c.tail_of.ensures c.load_cell-start.ensures.looked c.in-By.session c.in-By.number c.in-By.ensures.word c.in-By.ensures.range.0 c.time_of.ensures.watched (none_then c.time_of.result (sym c.is_some.ensures ∙ e) c.time_of.ensures.none)
+returns-in-By-clause-no c = λ e. untimed_named c.args.store.now.layout.limits c.args.seat.now.view c.load_cell-start.new.seat.view c.time_of.new.seat.view c.args.s c.args.range c.args.tail c.tail_of.result c.load_cell-start.result c.requires.seat.limits c.tail_of.ensures c.load_cell-start.ensures.looked c.in-By.session c.in-By.number c.in-By.ensures.word c.in-By.ensures.range.0 (none_then c.time_of.result (sym c.is_some.ensures ∙ e) c.time_of.ensures.none)

@@ -4,7 +4,7 @@ use Rattle.lst_layout.specs.declared.place.Place.TheVariants.{HeadWord}
 use Rattle.lst_core_state.specs.Cells.{record_count}
 use Rattle.lst_rule.specs.Rule.{knows}
 use Rattle.lst_sights.specs.Loads.{ChainFound}
-use Rattle.lst_walk.proofs.Reading.{looked_watched}
+use Rattle.lst_walk.proofs.Reading.{looked_watched, looked_possible}
 use Rattle.lst_walk.proofs.Meanings.{head_found, head_word}
 use Rattle.lst_walk.proofs.words.head.Goals as goal
 
@@ -15,6 +15,9 @@ unpack_head-requires c = head_word c.args.seat.now.view c.load_head.new.seat.vie
 pub returns-clause-watched : goal.returns-clause-watched
 returns-clause-watched c = looked_watched c.args.seat.now.view c.load_head.new.seat.view c.args.s c.load_head.result (HeadWord c.args.rec.number) c.requires.reader.host
     (subst (λ (l : Limits). c.args.rec.number < record_count l) (sym c.requires.reader.seat_of.limits) c.requires.rec) tt c.load_head.ensures.looked
+
+pub returns-clause-possible : goal.returns-clause-possible
+returns-clause-possible c = looked_possible c.args.seat.now.view c.load_head.new.seat.view c.args.s c.load_head.result (HeadWord c.args.rec.number) c.load_head.ensures.looked
 
 pub returns-clause-chain : goal.returns-clause-chain
 returns-clause-chain c = subst (λ (n : ℕ). ChainFound c.args.store.now.layout.limits (knows c.load_head.new.seat.view c.args.s) c.args.s c.args.rec.number n) (sym c.unpack_head.ensures.head)
