@@ -9,6 +9,7 @@ use Rattle.lst_model.specs.declared.lines.Call.TheVariants.{Get}
 use Rattle.lst_machine.specs.State.{Opened}
 use Rattle.lst_machine.specs.Writes.{sight_of}
 use Rattle.lst_machine.specs.Calls.{in_open, row_reply}
+use Rattle.lst_walk.proofs.Walking.{row_of_key}
 use Rattle.lst_core_state.specs.declared.known.Known.{Known}
 use Rattle.lst_core_state.specs.declared.known.Placing.{Placing}
 use Rattle.lst_core_state.specs.State.{sight}
@@ -71,6 +72,6 @@ module _ (v w : View) (s key : ℕ) (row : Option (List Cell)) (crew : IsCrewVie
   get_answers (inr r) = let f = r.found in let between = found_crew v r.between s f.works f.kept f.keeps crew low in (
     watched_crew r.between w s r.watched between (found_low v r.between s f.works f.kept f.keeps crew low),
     answers_row
-        (r.is key f.placed ∙ ap (row_from None) (found_sight v r.between s f.works f.kept f.keeps crew low key))
+        (row_of_key r.between s r.rec row r.is key f.placed ∙ ap (row_from None) (found_sight v r.between s f.works f.kept f.keeps crew low key))
         (watched_told r.between w s r.watched between.whole ∙ found_told v r.between s f.works f.kept f.keeps crew low) (r.watched.learns.limits ∙ f.works.view.limits),
   )
