@@ -6,11 +6,11 @@ ghost use Rattle.lst_session.specs.Crews.{IsCrewOf};
 ghost use Rattle.lst_session.specs.Replies.{IsCrewCall};
 
 use arrayvec::ArrayVec;
-use lst_session::{Crew, open_crew};
 use lst_layout::Limits;
 use lst_model::{Call, Line, Patch, Reply, Row};
 use lst_plain::Plain;
 use lst_rule::Store;
+use lst_session::{Crew, open_crew};
 use std::process::Abort;
 use std::test::Fail;
 

@@ -6,11 +6,11 @@ ghost use Rattle.lst_session.specs.Crews.{IsCrewOf, TellsState};
 ghost use Rattle.lst_shell.specs.Runs.{IsTaken, HasRun, LeftBy};
 ghost use Rattle.lst_shell.specs.Answers.{run_text, store_limits};
 
-use lst_session::{Crew, open_crew};
 use lst_layout::{Layout, Limits};
 use lst_model::{Line, OutOfMemory, Text};
 use lst_report::push_line;
 use lst_rule::Store;
+use lst_session::{Crew, open_crew};
 use std::alloc::Global;
 
 /// What a run comes to: the text of what each line is answered, and the store with the crew that made the run.

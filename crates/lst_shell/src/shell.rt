@@ -8,11 +8,11 @@ ghost use Rattle.lst_shell.specs.Answers.{IsRun, Says, IsDue, IsComplete, Report
 use crate::execution::{Ran, execute};
 use crate::messages::report;
 use crate::status::Status;
-use lst_session::Crew;
 use lst_io::{Failed, ReadAllFault, Sink, Source, read_all, write_all};
 use lst_layout::Limits;
-use lst_script::{ScriptFault, parse};
 use lst_rule::Store;
+use lst_script::{ScriptFault, parse};
+use lst_session::Crew;
 use std::alloc::Global;
 
 /// How many bytes an input may have.
