@@ -27,6 +27,7 @@ use Rattle.lst_write.specs.Judgements.{HasJudged}
 use Rattle.lst_write.specs.Appending.{FitsSight}
 use Rattle.lst_write.proofs.Latching.{record_low}
 use Rattle.lst_walk.specs.Walks.{IsRowOf}
+use Rattle.lst_walk.proofs.Walking.{row_of_key}
 use Rattle.lst_calls.specs.declared.kinds.WriteRefusal.{WriteRefusal}
 use Rattle.lst_calls.specs.Traces.{is_put, misfit_of, AgreesWith, Agrees, Judges}
 
@@ -54,10 +55,10 @@ module _ (v w : View) (s rec key : ℕ) (act : Act) (row : Option (List Cell)) (
   the_row = row_from None (sight (knows v s) key)
 
   pub misfits : (refusal : WriteRefusal) → refusal ≡ misfit_of act → is_some row ≡ is_put act → Agrees v w s key act (Err refusal)
-  misfits refusal same e = record { watched = watched; agrees = (both_misfit act (row_from None (sight (knows v s) key)) (ap is_some (sym (is key has)) ∙ e), same) }
+  misfits refusal same e = record { watched = watched; agrees = (both_misfit act (row_from None (sight (knows v s) key)) (ap is_some (sym (row_of_key v s rec row is key has)) ∙ e), same) }
 
   pub fits : ¬ (is_some row ≡ is_put act) → Agrees v w s key act (Ok tt)
-  fits ne = record { watched = watched; agrees = other_fits act (row_from None (sight (knows v s) key)) (λ e. ne (ap is_some (is key has) ∙ e)) }
+  fits ne = record { watched = watched; agrees = other_fits act (row_from None (sight (knows v s) key)) (λ e. ne (ap is_some (row_of_key v s rec row is key has) ∙ e)) }
 
 -- ---- a judged chain
 

@@ -9,3 +9,4 @@ pub mod Ended
 pub mod DrawnTails
 pub mod PlacedKeys
 pub mod Written
+pub mod Others

@@ -22,6 +22,7 @@ use Rattle.lst_crew_state.specs.Effects.{IsWritten}
 use Rattle.lst_crew_state.specs.Laws.{WritesAreTold}
 use Rattle.lst_crew_state.proofs.Openings.{store_same, below_is, put_is}
 use Rattle.lst_crew_state.proofs.Stamped.{some_same, accepted_first_same}
+use Rattle.lst_crew_state.proofs.Others.{other_areas_tell_nothing}
 use Rattle.lst_crew_state.proofs.DrawnTails.{others_apart, next_blank}
 use Rattle.lst_crew_state.proofs.PlacedKeys.{key_place}
 
@@ -34,7 +35,7 @@ module _ (c : Core) (crew : IsCrew c) (s rec n : ℕ) (act : Act) (b : Words) (l
   w = c.words
 
   abbrev after : Words
-  after = record w { counts = put w.counts (range_of rec) n; heads = put w.heads rec (2 * n); cells = b.cells }
+  after = record w { counts = put w.counts (range_of rec) n; cells = b.cells }
 
   abbrev number : ℕ
   number = (c.known s).number
@@ -53,7 +54,7 @@ module _ (c : Core) (crew : IsCrew c) (s rec n : ℕ) (act : Act) (b : Words) (l
   session_low = let h = crew.sound.sized.sessions.1 in omega arith
 
   writer_is : (t : ℕ) → writer_at after t ≡ writer_at b t
-  writer_is t = ap (λ (log : ℕ → ℕ). writer log (b.cells t 0)) (sym (ap (λ (x : Words). x.log) written.rest))
+  writer_is t = ap (λ (log : ℕ → ℕ). writer log (b.cells t 0)) (sym written.rest.log)
 
   -- ---- the other tails
 
@@ -133,4 +134,5 @@ module _ (c : Core) (crew : IsCrew c) (s rec n : ℕ) (act : Act) (b : Words) (l
   written_store = store_same (told_store L after c.known) (with_accepted (told c) s (w.keys rec) act) history_stays refl accepted_next (λ _. refl) (λ _. refl) (λ _ _. refl)
 
 pub writes_are_told : WritesAreTold
-writes_are_told c crew s rec n act b low is_on inside is few written = ap (λ (x : Words). told_store c.limits x c.known) written.rest ∙ written_store c crew s rec n act b low is_on inside is few written
+writes_are_told c crew s rec n act b low is_on inside is few written = other_areas_tell_nothing c.limits (record c.words { counts = put c.words.counts (range_of rec) n; cells = b.cells }) b c.known written.rest
+    ∙ written_store c crew s rec n act b low is_on inside is few written

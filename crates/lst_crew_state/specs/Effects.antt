@@ -30,6 +30,18 @@ pub record HasEnded (u k : Known) : Type 0 where
   pub number : k.number ≡ u.number
   pub is_open : k.is_open ≡ false
 
+-- the areas of which the machine's state is told are the same. The commit word, the epoch, the index, the indirection words, the directory, the
+-- frames, the pins and the postings may differ
+pub record TellAlike (a b : Words) : Type 0 where
+  pub clock : b.clock ≡ a.clock
+  pub counter : b.counter ≡ a.counter
+  pub log : b.log ≡ a.log
+  pub begins : b.begins ≡ a.begins
+  pub states : b.states ≡ a.states
+  pub keys : b.keys ≡ a.keys
+  pub counts : b.counts ≡ a.counts
+  pub cells : b.cells ≡ a.cells
+
 -- the words once the transaction n of the session s has begun, with the begin b
 abbrev pub begun_words : Words → ℕ → ℕ → ℕ → Words
 begun_words w s n b = record w { begins = put_in w.begins s n (b + 1) }
@@ -46,10 +58,10 @@ committed_words w s n = record w { clock = w.clock + 1; turn = 0; log = put w.lo
 abbrev pub placed_words : Words → ℕ → ℕ → Words
 placed_words w key q = record w { counter = w.counter + 1; keys = put w.keys w.counter key; index = put w.index q (w.counter + 1) }
 
--- an act by the transaction x on the record, in the tail with the number n in the record's range, is on the record's chain; of the other tails
--- stamps alone differ
+-- an act by the transaction x on the record is in the tail with the number n in the record's range; of the other tails stamps alone differ, and
+-- of the other areas those alone of which nothing is told
 pub record IsWritten (l : Limits) (a b : Words) (rec n x : ℕ) (act : Act) : Type 0 where
-  pub rest : b ≡ record a { counts = put a.counts (range_of rec) n; heads = put a.heads rec (2 * n); cells = b.cells }
+  pub rest : TellAlike (record a { counts = put a.counts (range_of rec) n; cells = b.cells }) b
   pub next : n ≡ a.counts (range_of rec) + 1
   pub others : (t p : ℕ) → t ≢ range_of rec * l.tails + n → 0 < p → b.cells t p ≡ a.cells t p
   pub stored : (t : ℕ) → t ≢ range_of rec * l.tails + n → eqb (b.cells t 0) 0 ≡ eqb (a.cells t 0) 0

@@ -1,6 +1,6 @@
 -- What the machine of one thread says of the state that a crew's store tells: its answers are those of the chains, and each call of the crew
 -- moves it to its next state.
-use Rattle.std.specs.Prelude.{◌≡◌, ◌≢◌, ℕ, ◌+◌, ◌-◌, ◌/◌, ◌%◌, ◌<◌, ◌≤◌, List, [], ◌∷◌, ◌++◌, Bool, true, false, Option, Some, None, length}
+use Rattle.std.specs.Prelude.{◌≡◌, ◌≢◌, ℕ, ◌+◌, ◌/◌, ◌%◌, ◌<◌, ◌≤◌, List, [], ◌∷◌, ◌++◌, Bool, true, false, Option, Some, None, length}
 use Rattle.lst_layout.specs.declared.limits.Limits.{Limits}
 use Rattle.lst_layout.specs.Limits.{IsValid}
 use Rattle.lst_layout.specs.Words as layout
@@ -10,8 +10,8 @@ use Rattle.lst_model.specs.declared.replies.Cause.TheVariants.{Newer, Unfinished
 use Rattle.lst_model.specs.Tables.{row_of}
 use Rattle.lst_model.specs.Histories.{row_from}
 use Rattle.lst_core_state.specs.Lists.{Has}
-use Rattle.lst_machine.specs.State.{Store, opening_store}
-use Rattle.lst_machine.specs.Writes.{place_of, range_of, own_writes, sight_of, conflict_of}
+use Rattle.lst_machine.specs.State.{opening_store}
+use Rattle.lst_machine.specs.Writes.{place_of, own_writes, sight_of, conflict_of}
 use Rattle.lst_machine.specs.Calls.{with_opened, with_closed, with_commit, with_placed, with_accepted}
 use Rattle.lst_core_state.specs.declared.known.Known.{Known}
 use Rattle.lst_core_state.specs.Cells.{record_count}
@@ -20,7 +20,7 @@ use Rattle.lst_core_state.specs.State.{Words, Core, newcomer, writer_at, state_a
 use Rattle.lst_sights.specs.Watching.{IsStamped}
 use Rattle.lst_crew_state.specs.Crews.{IsCrew}
 use Rattle.lst_crew_state.specs.Telling.{told_store, told}
-use Rattle.lst_crew_state.specs.Effects.{SameTransactions, SameBut, HasBegun, HasEnded, begun_words, closed_words, committed_words, placed_words, IsWritten}
+use Rattle.lst_crew_state.specs.Effects.{SameTransactions, SameBut, TellAlike, HasBegun, HasEnded, begun_words, closed_words, committed_words, placed_words, IsWritten}
 
 -- ---- what the state says
 
@@ -77,6 +77,10 @@ StampsTellNothing = (l : Limits) (a b : Words) (known : ℕ → Known) → IsSta
 
 abbrev pub TransactionsAreTold : Type 0
 TransactionsAreTold = (l : Limits) (w : Words) (u k : ℕ → Known) → ((s : ℕ) → s < l.sessions → SameTransactions (u s) (k s)) → told_store l w k ≡ told_store l w u
+
+-- whatever the areas are of which nothing is told
+abbrev pub OtherAreasTellNothing : Type 0
+OtherAreasTellNothing = (l : Limits) (a b : Words) (known : ℕ → Known) → TellAlike a b → told_store l b known ≡ told_store l a known
 
 -- a transaction begins, is closed, is committed
 abbrev pub BeginsAreTold : Type 0

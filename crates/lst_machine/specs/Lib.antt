@@ -4,3 +4,4 @@ pub mod Calls
 pub mod Merges
 pub mod Machine
 pub mod Others
+pub mod Orders

@@ -2,11 +2,11 @@
 use Rattle.std.specs.Prelude.{ℕ, zero, suc, ◌+◌, Bool, cond, ◌&&◌, ◌||◌, Option, Some, None, is_some, take_while, length, nat_le, ◌==◌}
 use Rattle.lst_layout.specs.declared.limits.Limits.{Limits}
 use Rattle.lst_model.specs.declared.lines.Call.{Call}
-use Rattle.lst_model.specs.declared.lines.Call.TheVariants.{Begin, AsOf}
+use Rattle.lst_model.specs.declared.lines.Call.TheVariants.{Begin, AsOf, Commit, Abort}
 use Rattle.lst_model.specs.declared.replies.Reply.{Reply}
 use Rattle.lst_model.specs.declared.replies.Reply.TheVariants.{Merged, NothingNew, NoFrame}
 use Rattle.lst_model.specs.declared.replies.Cause.{Cause}
-use Rattle.lst_machine.specs.State.{Accepted, Store, Pages}
+use Rattle.lst_machine.specs.State.{Accepted, Opened, Store, Pages}
 use Rattle.lst_machine.specs.Writes.{put, put_in, time_of}
 use Rattle.lst_machine.specs.Calls.{begin_refusal, as_of_refusal}
 
@@ -49,8 +49,14 @@ abbrev pub begun_unless : Option Cause → Pages → ℕ → Pages
 begun_unless None pages session = record pages { swaps_at_begin = put pages.swaps_at_begin session pages.swaps }
 begun_unless (Some cause) pages session = pages
 
--- a begin that succeeds keeps the number of swaps
+abbrev pub ended_where : Option Opened → Pages → ℕ → Pages
+ended_where None pages session = pages
+ended_where (Some transaction) pages session = record pages { swaps_at_begin = put pages.swaps_at_begin session 0 }
+
+-- a begin that succeeds keeps the number of swaps, until its transaction ends
 abbrev pub pages_after_call : Limits → Store → Pages → ℕ → Call → Pages
 pages_after_call limits store pages session Begin = begun_unless (begin_refusal limits store session) pages session
 pages_after_call limits store pages session (AsOf time) = begun_unless (as_of_refusal limits store session time) pages session
+pages_after_call limits store pages session Commit = ended_where (store.opened session) pages session
+pages_after_call limits store pages session Abort = ended_where (store.opened session) pages session
 pages_after_call limits store pages session call = pages

@@ -35,7 +35,7 @@ pub record Pages : Type 0 where
   pub tps : ℕ → ℕ → ℕ
   -- how many pages were swapped
   pub swaps : ℕ
-  -- by session: the number of swaps when its open transaction began
+  -- by session: the number of swaps when its open transaction began, and 0 where it has none
   pub swaps_at_begin : ℕ → ℕ
 
 pub record State : Type 0 where

@@ -11,10 +11,18 @@ ghost use Rattle.lst_model.specs.declared.lines.Line.{Line};
 ghost use Rattle.lst_machine.specs.State.{State};
 ghost use Rattle.lst_machine.specs.Machine.{replies};
 ghost use Rattle.lst_machine.specs.Others.{without_merges, other_replies};
+ghost use Rattle.lst_machine.specs.Orders.{OrderIsForgotten};
 
 /// With the merge lines taken out of a script, exactly the replies to those lines are lost: two states with one store part
 /// answer all other lines alike, whatever their page parts are. The contract is a law; the body does nothing.
 pub fn merges_change_no_other_reply()
     ensures { (limits : Limits) (one other : State) (lines : List Line) → one.store ≡ other.store
         → other_replies lines (replies limits one lines) ≡ replies limits other (without_merges lines) }
+{}
+
+/// A transaction that has ended leaves nothing of when it began: after any script that leaves a session without an open one, the machine comes
+/// to one state whether a merge comes before the session's next transaction, aborted at once, or after it. The contract is a law; the body does
+/// nothing.
+pub fn an_ended_begin_is_forgotten()
+    ensures { OrderIsForgotten }
 {}

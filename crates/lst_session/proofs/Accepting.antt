@@ -26,11 +26,11 @@ use Rattle.lst_crew_state.specs.Crews.{IsIdle}
 use Rattle.lst_crew_state.specs.Effects.{SameTransactions, IsWritten}
 use Rattle.lst_crew_state.proofs.Openings.{transactions_are_told}
 use Rattle.lst_crew_state.proofs.Written.{writes_are_told}
-use Rattle.lst_session.specs.Crews.{words_of, IsCrewView, store_told}
-use Rattle.lst_session.proofs.Crewed.{core_of, known_is, is_crew, told_is, told_on, transactions_on}
+use Rattle.lst_session.specs.Crews.{words_of, store_told}
+use Rattle.lst_session.proofs.Crewed.{IsCrewView, core_of, known_is, is_crew, told_is, told_on, transactions_on}
 use Rattle.lst_session.proofs.CrewJudging.{with_head, IsHeld}
 use Rattle.lst_session.proofs.Holding.{SameWriter, writer_on, writer_as, held_on, held_learns, held_writer}
-use Rattle.lst_session.proofs.CrewWriting.{written, tail_here, tail_by, tail_made, tail_on, installed_words}
+use Rattle.lst_session.proofs.CrewWriting.{written_rest, written, tail_here, tail_by, tail_made, tail_on, installed_words}
 use Rattle.lst_session.proofs.Trying.{IsTried, full_is, fit_late}
 
 module _ (u : View) (p : Possible u) (crew : IsCrewView u) (s rec key : ℕ) (low : s < u.limits.sessions) (is_on : (knows u s).is_open ≡ true) (inside : rec < record_count u.limits) (placed : is_placed u.limits (words_of u).index rec ≡ true) (key_is : (words_of u).keys rec ≡ key) (act : Act) (w : View) (h : Installs u w s rec key act) where
@@ -112,9 +112,11 @@ module _ (u : View) (p : Possible u) (crew : IsCrewView u) (s rec key : ℕ) (lo
   few : n ≤ u.limits.tails
   few = subst (λ (l : Limits). n ≤ l.tails) held.limits ready.appends.few
 
+  changes : ChangesTail (with_count (words_of m) (range_of rec) n) (words_of e) (range_of rec * u.limits.tails + n)
+  changes = subst (λ (l : Limits). ChangesTail (with_count (words_of m) (range_of rec) n) (words_of e) (range_of rec * l.tails + n)) held.limits (ready.appends.words held.whole).1
+
   is_written : IsWritten u.limits a after rec n own act
-  is_written = written u.limits a (words_of m) (words_of e) rec n own act held.stamped next
-      (subst (λ (l : Limits). ChangesTail (with_count (words_of m) (range_of rec) n) (words_of e) (range_of rec * l.tails + n)) held.limits (ready.appends.words held.whole).1)
+  is_written = written u.limits a (words_of m) (words_of e) rec n own act held.stamped next changes
       (subst (λ (l : Limits). 0 < (words_of e).cells (range_of rec * l.tails + n) 0) learns_whole.limits (tail_here e s rec head n act h.word.told.known h.word.told.merger sure hosted low_here ready.appends.whole))
       (subst (λ (l : Limits). writer_at (words_of e) (range_of rec * l.tails + n) ≡ own) learns_whole.limits (tail_by e s rec head n act h.word.told.known h.word.told.merger sure hosted low_here ready.appends.whole ∙ ap (name_of s) number_is))
       (subst (λ (l : Limits). record_in l (words_of e).cells (range_of rec * l.tails + n) ≡ rec) learns_whole.limits (tail_on e s rec head n act h.word.told.known h.word.told.merger sure hosted low_here ready.appends.whole))
@@ -128,7 +130,7 @@ module _ (u : View) (p : Possible u) (crew : IsCrewView u) (s rec key : ℕ) (lo
       ∙ (λ i. with_accepted (sym (told_is u crew p) i) s (key_is i) act)))
 
   words_are : words_of w ≡ record a { counts = put a.counts (range_of rec) n; heads = put a.heads rec (2 * n); cells = after.cells }
-  words_are = after_is ∙ is_written.rest
+  words_are = after_is ∙ written_rest u.limits a (words_of m) (words_of e) rec n own act held.stamped next changes
 
   crew_again : IsCrewView w
   crew_again = record {

@@ -25,6 +25,7 @@ use Rattle.lst_crew_state.specs.Crews.{IsIdle}
 use Rattle.lst_calls.specs.declared.kinds.WriteRefusal.{WriteRefusal}
 use Rattle.lst_calls.specs.declared.kinds.WriteRefusal.TheVariants.{Idle, ReadOnly, Missing, Exists, TableFull, Latched, Newer, Unfinished, TailFull}
 use Rattle.lst_calls.specs.Traces.{is_put, misfit_of, FindsNone, FindsFullTable, Reads, TriesPlaced, TriesFound, MayWrite, Inserts, Changes}
+use Rattle.lst_walk.proofs.Walking.{row_of_key}
 use Rattle.lst_session.specs.declared.session.Session.{Session}
 use Rattle.lst_session.specs.Calls.{FindsOneFull, SameLists, Begins, Gets, Accepts, Refuses, Cause, row_seen}
 use Rattle.lst_session.specs.Passes.{IsReady}
@@ -92,7 +93,7 @@ module _ (v w : View) (s key : ℕ) (row : Option (List Cell)) (own : s < v.limi
           latched = hands.latched ∙ come.latched;
           done = st.stays.done;
         };
-        is = r.is key r.found.placed ∙ (ap (row_from None) (sight_stays s (knows v s) (knows r.between s) key early come.steps.stays ∙ sym (sight_stays s (knows v s) (knows w s) key early st.stays)) ∙ sym (seen_row (knows w s) key));
+        is = row_of_key r.between s r.rec row r.is key r.found.placed ∙ (ap (row_from None) (sight_stays s (knows v s) (knows r.between s) key early come.steps.stays ∙ sym (sight_stays s (knows v s) (knows w s) key early st.stays)) ∙ sym (seen_row (knows w s) key));
         room = none_full_on v r.between w s come.room (watched_room r.between w s r.watched);
       }
 

@@ -33,9 +33,9 @@ use Rattle.lst_crew_state.specs.Effects.{HasEnded, committed_words}
 use Rattle.lst_crew_state.proofs.Counts.{counts_are_told}
 use Rattle.lst_crew_state.proofs.Owns.{own_writes_are_told}
 use Rattle.lst_crew_state.proofs.Ended.{commits_are_told}
-use Rattle.lst_session.specs.Crews.{words_of, IsCrewView, store_told, Answers}
+use Rattle.lst_session.specs.Crews.{words_of, store_told, Answers}
 use Rattle.lst_session.specs.Replies.{commit_reply}
-use Rattle.lst_session.proofs.Crewed.{allowed_whole, core_of, hosted_all, known_is, is_crew, told_is, others_on, opened_some, same_draws, crew_after, told_on}
+use Rattle.lst_session.proofs.Crewed.{IsCrewView, allowed_whole, core_of, hosted_all, known_is, is_crew, told_is, others_on, opened_some, same_draws, crew_after, told_on}
 use Rattle.lst_session.proofs.Ending.{closed_crew, closed_told}
 
 -- ---- the words
@@ -166,7 +166,3 @@ module _ (v w : View) (s : ℕ) (crew : IsCrewView v) (p : Possible v) (low : s 
     answers_end (EndedReply t) (ap EndedReply e.1 ∙ sym (end_none (store_told v) opening (knows v s).own e.0))
         (closed_told v w s crew p low opened c.view c.words ∙ sym (with_none (store_told v) s opening (knows v s).own e.0)) c.view.limits,
   )
-
-  -- the commit word is never found held
-  pub never_held : Holds v w s → ⊥
-  never_held held = held.other (λ t in_range. (hosted_all v crew p t (omega arith), (crew.idle t in_range).turn))

@@ -25,9 +25,9 @@ use Rattle.lst_index.proofs.Placed.{placed_in}
 use Rattle.lst_calls.specs.declared.kinds.WriteRefusal.{WriteRefusal}
 use Rattle.lst_calls.specs.declared.kinds.WriteRefusal.TheVariants as refusal
 use Rattle.lst_calls.specs.Traces.{FindsNone, FindsFullTable, Releases, Tries, TriesPlaced, TriesFound, MayWrite, Inserts, Changes}
-use Rattle.lst_session.specs.Crews.{words_of, IsCrewView, store_told}
+use Rattle.lst_session.specs.Crews.{words_of, store_told}
 use Rattle.lst_session.specs.Replies.{write_reply}
-use Rattle.lst_session.proofs.Crewed.{allowed_whole, hosted_all, opened_by, opened_some, opened_none}
+use Rattle.lst_session.proofs.Crewed.{IsCrewView, allowed_whole, hosted_all, opened_by, opened_some, opened_none}
 use Rattle.lst_session.proofs.Placing.{IsOn, found_on, full_on, none_on, absent_told, placed_on, present_told, early_present, early_full, placed_same, anew_told, anew_early, anew_on}
 use Rattle.lst_session.proofs.Trying.{late_refusal, cause_of, IsTried}
 use Rattle.lst_session.proofs.Refusing.{refused_tried}

@@ -36,8 +36,8 @@ use Rattle.lst_crew_state.specs.Telling.{told}
 use Rattle.lst_crew_state.specs.Laws.{AllClosed, Conflicts}
 use Rattle.lst_crew_state.proofs.Rivals.{conflicts_are_told}
 use Rattle.lst_crew_state.proofs.Owns.{sights_are_told}
-use Rattle.lst_session.specs.Crews.{words_of, IsCrewView}
-use Rattle.lst_session.proofs.Crewed.{core_of, allowed_whole, known_is, is_crew}
+use Rattle.lst_session.specs.Crews.{words_of}
+use Rattle.lst_session.proofs.Crewed.{IsCrewView, core_of, allowed_whole, known_is, is_crew}
 
 -- the words with another indirection word of the record
 abbrev pub with_head : Words → ℕ → ℕ → Words

@@ -21,9 +21,22 @@ use Rattle.lst_rule.proofs.Knowing.{is_fact, knows_own}
 use Rattle.lst_sights.specs.Watching.{IsStamped}
 use Rattle.lst_sights.proofs.Stamps.{made_words}
 use Rattle.lst_write.specs.Appending.{tail_of, HasWhole, ChangesTail, with_count}
-use Rattle.lst_crew_state.specs.Effects.{IsWritten}
+use Rattle.lst_crew_state.specs.Effects.{TellAlike, IsWritten}
 use Rattle.lst_session.specs.Crews.{words_of}
 use Rattle.lst_session.proofs.CrewJudging.{with_head, with_latch}
+
+-- indirection words tell nothing
+alike : (a b : Words) (heads : ℕ → ℕ) → b ≡ record a { heads = heads } → TellAlike a b
+alike a b heads is = record {
+  clock = ap (λ (w : Words). w.clock) is;
+  counter = ap (λ (w : Words). w.counter) is;
+  log = ap (λ (w : Words). w.log) is;
+  begins = ap (λ (w : Words). w.begins) is;
+  states = ap (λ (w : Words). w.states) is;
+  keys = ap (λ (w : Words). w.keys) is;
+  counts = ap (λ (w : Words). w.counts) is;
+  cells = ap (λ (w : Words). w.cells) is;
+}
 
 -- a: before the latch; b: as the act was judged; e: once the tail is whole
 module _ (l : Limits) (a b e : Words) (rec n x : ℕ) (act : Act) (stamped : IsStamped (with_latch a rec) b) (next : n ≡ b.counts (range_of rec) + 1) (changes : ChangesTail (with_count b (range_of rec) n) e (range_of rec * l.tails + n)) where
@@ -36,7 +49,7 @@ module _ (l : Limits) (a b e : Words) (rec n x : ℕ) (act : Act) (stamped : IsS
       (λ ne. put_else e.heads rec (2 * n) r ne ∙ (ap (λ (w : Words). w.heads r) changes.rest ∙ (ap (λ (w : Words). w.heads r) stamped.rest
       ∙ (put_else a.heads rec (2 * (a.heads rec / 2) + 1) r ne ∙ sym (put_else a.heads rec (2 * n) r ne)))))
 
-  written_rest : with_head e rec (2 * n) ≡ record a { counts = put a.counts (range_of rec) n; heads = put a.heads rec (2 * n); cells = e.cells }
+  pub written_rest : with_head e rec (2 * n) ≡ record a { counts = put a.counts (range_of rec) n; heads = put a.heads rec (2 * n); cells = e.cells }
   written_rest = (λ i. record (changes.rest i) { heads = λ r. heads_set r i }) ∙ (λ i. record (stamped.rest i) { counts = put (stamped.rest i).counts (range_of rec) n; heads = put a.heads rec (2 * n); cells = e.cells })
 
   log_same : e.log ≡ b.log
@@ -45,7 +58,7 @@ module _ (l : Limits) (a b e : Words) (rec n x : ℕ) (act : Act) (stamped : IsS
   pub written : 0 < e.cells (range_of rec * l.tails + n) 0 → writer_at e (range_of rec * l.tails + n) ≡ x → record_in l e.cells (range_of rec * l.tails + n) ≡ rec → act_in l e.cells (range_of rec * l.tails + n) ≡ act
       → IsWritten l a (with_head e rec (2 * n)) rec n x act
   written here by on made = record {
-    rest = written_rest;
+    rest = alike (record a { counts = put a.counts (range_of rec) n; cells = e.cells }) (with_head e rec (2 * n)) (put a.heads rec (2 * n)) written_rest;
     next = next ∙ ap (λ (w : Words). w.counts (range_of rec) + 1) stamped.rest;
     others = λ t p other some. changes.others t p other ∙ stamped.others t p some;
     stored = λ t other. ap (λ (y : ℕ). eqb y 0) (changes.others t 0 other) ∙ stamped.stored t;

@@ -29,7 +29,26 @@ use Rattle.lst_crew_state.specs.Telling.{opened_of, told_store, told}
 use Rattle.lst_crew_state.specs.Effects.{SameTransactions, SameBut}
 use Rattle.lst_crew_state.proofs.Openings.{below_is, transactions_are_told}
 use Rattle.lst_crew_state.proofs.Stamped.{stamps_tell_nothing}
-use Rattle.lst_session.specs.Crews.{words_of, IsCrewView, store_told}
+use Rattle.lst_rule.specs.declared.store.Store.{Store}
+use Rattle.lst_session.specs.declared.crew.Crew.{Crew}
+use Rattle.lst_session.specs.Crews.{words_of, IsCrewOf, TellsState, store_told}
+
+-- ---- a crew that tells the machine's state
+
+-- nobody has anything in hand, and the view tells a state of the machine
+pub record IsCrewView (v : View) : Type 0 where
+  pub whole : v.whole ≡ true
+  pub idle : (s : ℕ) → s < v.limits.sessions → IsIdle (knows v s)
+  pub records : (words_of v).counter ≤ record_count v.limits
+  pub placed : (r : ℕ) → r < (words_of v).counter → is_placed v.limits (words_of v).index r ≡ true
+  pub tails : (range : ℕ) → range < v.limits.ranges → (words_of v).counts range ≤ v.limits.tails
+
+pub crew_view : (store : Store) (crew : Crew) → IsCrewOf store crew → TellsState crew.seat.view → IsCrewView crew.seat.view
+crew_view store crew of tells = record { whole = tells.whole; idle = of.idle; records = tells.records; placed = tells.placed; tails = tells.tails }
+
+-- what a call answers as the machine does, and the state that the view tells then
+pub told_by : {P : Type 0} (w : View) → IsCrewView w × P → TellsState w × P
+told_by w both = let c = both.0 in (record { whole = c.whole; records = c.records; placed = c.placed; tails = c.tails }, both.1)
 
 -- ---- the state of the core that the view is
 

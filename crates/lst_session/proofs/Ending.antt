@@ -19,9 +19,9 @@ use Rattle.lst_txn.specs.Transactions.{IsFree}
 use Rattle.lst_crew_state.specs.Crews.{IsIdle}
 use Rattle.lst_crew_state.specs.Effects.{HasEnded, closed_words}
 use Rattle.lst_crew_state.proofs.Ended.{closes_are_told}
-use Rattle.lst_session.specs.Crews.{words_of, IsCrewView, store_told, Answers}
+use Rattle.lst_session.specs.Crews.{words_of, store_told, Answers}
 use Rattle.lst_session.specs.Replies.{abort_reply}
-use Rattle.lst_session.proofs.Crewed.{allowed_whole, core_of, known_is, is_crew, told_is, others_on, opened_some, opened_none, set_words, same_draws, crew_after, told_on}
+use Rattle.lst_session.proofs.Crewed.{IsCrewView, allowed_whole, core_of, known_is, is_crew, told_is, others_on, opened_some, opened_none, set_words, same_draws, crew_after, told_on}
 
 module _ (v w : View) (s : ℕ) (crew : IsCrewView v) (p : Possible v) (low : s < v.limits.sessions) (opened : (knows v s).is_open ≡ true) (learns : Learns v w s (record (knows v s) { is_open = false; own = [] }))
     (is : w.words ≡ slice_set v.words (address v.limits (StateWord s (knows v s).number)) 1) where

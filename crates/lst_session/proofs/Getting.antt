@@ -9,6 +9,7 @@ use Rattle.lst_model.specs.declared.lines.Call.TheVariants.{Get}
 use Rattle.lst_machine.specs.State.{Opened}
 use Rattle.lst_machine.specs.Writes.{sight_of}
 use Rattle.lst_machine.specs.Calls.{in_open, row_reply}
+use Rattle.lst_walk.proofs.Walking.{row_of_key}
 use Rattle.lst_core_state.specs.declared.known.Known.{Known}
 use Rattle.lst_core_state.specs.declared.known.Placing.{Placing}
 use Rattle.lst_core_state.specs.State.{sight}
@@ -18,8 +19,8 @@ use Rattle.lst_rule.specs.Learned.{Possible, Kept}
 use Rattle.lst_index.specs.Searches.{Works, Keeps}
 use Rattle.lst_calls.specs.Traces.{Reads}
 use Rattle.lst_crew_state.proofs.Owns.{sights_are_told}
-use Rattle.lst_session.specs.Crews.{words_of, IsCrewView, store_told, Answers}
-use Rattle.lst_session.proofs.Crewed.{core_of, known_is, is_crew, told_is, opened_some, kept_words, stamped_is, same_draws, crew_after, told_stays, watched_crew, watched_told}
+use Rattle.lst_session.specs.Crews.{words_of, store_told, Answers}
+use Rattle.lst_session.proofs.Crewed.{IsCrewView, core_of, known_is, is_crew, told_is, opened_some, kept_words, stamped_is, same_draws, crew_after, told_stays, watched_crew, watched_told}
 
 -- what the machine's transaction sees of a key is its session's sight
 pub sight_is : (v : View) → IsCrewView v → Possible v → (s : ℕ) → s < v.limits.sessions → (knows v s).is_open ≡ true → (key : ℕ) → row_of (sight_of v.limits (store_told v) s (knows v s).begin) key ≡ row_from None (sight (knows v s) key)
@@ -71,6 +72,6 @@ module _ (v w : View) (s key : ℕ) (row : Option (List Cell)) (crew : IsCrewVie
   get_answers (inr r) = let f = r.found in let between = found_crew v r.between s f.works f.kept f.keeps crew low in (
     watched_crew r.between w s r.watched between (found_low v r.between s f.works f.kept f.keeps crew low),
     answers_row
-        (r.is key f.placed ∙ ap (row_from None) (found_sight v r.between s f.works f.kept f.keeps crew low key))
+        (row_of_key r.between s r.rec row r.is key f.placed ∙ ap (row_from None) (found_sight v r.between s f.works f.kept f.keeps crew low key))
         (watched_told r.between w s r.watched between.whole ∙ found_told v r.between s f.works f.kept f.keeps crew low) (r.watched.learns.limits ∙ f.works.view.limits),
   )

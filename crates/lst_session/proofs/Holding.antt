@@ -24,8 +24,8 @@ use Rattle.lst_sights.proofs.Stamps.{made_words}
 use Rattle.lst_write.specs.Holding.{Latches, latch_of}
 use Rattle.lst_crew_state.specs.Crews.{IsIdle}
 use Rattle.lst_crew_state.specs.Effects.{SameTransactions}
-use Rattle.lst_session.specs.Crews.{words_of, IsCrewView}
-use Rattle.lst_session.proofs.Crewed.{is_crew, hosted_all, away_still}
+use Rattle.lst_session.specs.Crews.{words_of}
+use Rattle.lst_session.proofs.Crewed.{IsCrewView, is_crew, hosted_all, away_still}
 use Rattle.lst_session.proofs.CrewJudging.{with_head, with_latch, IsHeld}
 
 -- ---- what the session knows

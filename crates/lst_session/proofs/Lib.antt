@@ -22,3 +22,4 @@ pub mod Placing
 pub mod CrewAnswering
 pub mod Peeking
 pub mod Promising
+pub mod Keeping

@@ -39,8 +39,8 @@ use Rattle.lst_crew_state.proofs.Counts.{counts_are_told}
 use Rattle.lst_crew_state.proofs.Keys.{keys_are_placed, others_are_unplaced}
 use Rattle.lst_crew_state.proofs.Openings.{transactions_are_told}
 use Rattle.lst_crew_state.proofs.PlacedKeys.{places_are_told}
-use Rattle.lst_session.specs.Crews.{words_of, IsCrewView, store_told}
-use Rattle.lst_session.proofs.Crewed.{core_of, allowed_whole, known_is, is_crew, told_is, crew_after, told_stays, told_on, transactions_on, stamped_is, same_draws}
+use Rattle.lst_session.specs.Crews.{words_of, store_told}
+use Rattle.lst_session.proofs.Crewed.{IsCrewView, core_of, allowed_whole, known_is, is_crew, told_is, crew_after, told_stays, told_on, transactions_on, stamped_is, same_draws}
 
 -- ---- what a search leaves
 

@@ -13,12 +13,11 @@ use Rattle.lst_calls.specs.declared.kinds.Outcome.{Outcome}
 use Rattle.lst_calls.specs.declared.kinds.Outcome.TheVariants.{Committed, Ended}
 use Rattle.lst_calls.specs.Traces as traces
 use Rattle.lst_calls.specs.Traces.{is_put, Reads, Inserts, Changes}
+use Rattle.lst_crew_state.specs.Crews.{IsIdle}
 use Rattle.lst_session.specs.Calls.{Gets, Accepts, Refuses, Cause, Commits, Ends}
 use Rattle.lst_session.proofs.Growing.{begun_early}
 use Rattle.lst_session.proofs.Answering as answering
 use Rattle.lst_session.proofs.Turning as turning
-use Rattle.lst_session.specs.Crews.{IsCrewView}
-use Rattle.lst_session.proofs.Crewed.{hosted_all}
 use Rattle.lst_session.proofs.Ending.{not_true}
 
 -- ---- ends
@@ -45,12 +44,12 @@ module _ (m n : Sitting) (s : ℕ) where
 
 -- ---- reads and writes
 
-module _ (v w : View) (s key : ℕ) (crew : IsCrewView v) (p : Possible v) (low : s < v.limits.sessions) where
-  host : hosts v s ≡ true
-  host = hosted_all v crew p s (omega arith)
-
+module _ (v w : View) (s key : ℕ) (host : hosts v s ≡ true) (p : Possible v) (low : s < v.limits.sessions) where
   pub gets : (row : Option (List Cell)) → (knows v s).is_open ≡ true → Reads v w s key row → Gets v w s key row
   gets row is_open reads = answering.gets v w s key row low (begun_early v s p host is_open) is_open reads
+
+  pub still_idle : (row : Option (List Cell)) → (knows v s).is_open ≡ true → Reads v w s key row → IsIdle (knows v s) → IsIdle (knows w s)
+  still_idle row is_open reads = answering.gets_idle v w s key row low (begun_early v s p host is_open) is_open reads
 
   module _ (act : Act) (result : Result (Unit {0}) WriteRefusal) where
     pub inserted : Inserts v w s key act result → OnOk result (Accepts v w s key 1 act)
@@ -64,3 +63,9 @@ module _ (v w : View) (s key : ℕ) (crew : IsCrewView v) (p : Possible v) (low 
 
     pub not_changed : is_put act ≡ false → Changes v w s key act result → IfErr result (λ refusal. Refuses v w s key 0 × Cause v w s key act refusal)
     not_changed put is = answering.not_changed v w s key act p host low put result is
+
+    pub inserted_idle : Inserts v w s key act result → IsIdle (knows v s) → IsIdle (knows w s)
+    inserted_idle is = answering.inserted_idle v w s key act p host low result is
+
+    pub changed_idle : Changes v w s key act result → IsIdle (knows v s) → IsIdle (knows w s)
+    changed_idle is = answering.changed_idle v w s key act p host low result is

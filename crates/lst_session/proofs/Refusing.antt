@@ -17,7 +17,8 @@ use Rattle.lst_sights.specs.Watching.{Watched}
 use Rattle.lst_calls.specs.declared.kinds.WriteRefusal.{WriteRefusal}
 use Rattle.lst_calls.specs.declared.kinds.WriteRefusal.TheVariants as refusal
 use Rattle.lst_calls.specs.Traces.{Judges, FoundTailsFull, Releases, Tries}
-use Rattle.lst_session.specs.Crews.{words_of, IsCrewView, store_told}
+use Rattle.lst_session.specs.Crews.{words_of, store_told}
+use Rattle.lst_session.proofs.Crewed.{IsCrewView}
 use Rattle.lst_session.specs.Replies.{write_cause}
 use Rattle.lst_session.proofs.CrewJudging.{IsHeld}
 use Rattle.lst_session.proofs.Holding.{writer_on, writer_as, held_on, held_learns, held_writer}

@@ -34,9 +34,9 @@ use Rattle.lst_crew_state.specs.Telling.{told}
 use Rattle.lst_crew_state.specs.Effects.{SameTransactions}
 use Rattle.lst_crew_state.proofs.Keys.{keys_are_placed}
 use Rattle.lst_crew_state.proofs.Counts.{counts_are_told}
-use Rattle.lst_session.specs.Crews.{words_of, IsCrewView, store_told}
+use Rattle.lst_session.specs.Crews.{words_of, store_told}
 use Rattle.lst_session.specs.Replies.{write_cause}
-use Rattle.lst_session.proofs.Crewed.{core_of, known_is, is_crew, told_is, hosted_all, crew_after, told_stays, stamped_draws, kept_words}
+use Rattle.lst_session.proofs.Crewed.{IsCrewView, core_of, known_is, is_crew, told_is, hosted_all, crew_after, told_stays, stamped_draws, kept_words}
 use Rattle.lst_session.proofs.CrewJudging.{with_head, with_latch, IsHeld, judged_none, newer_is, unfinished_is, row_is}
 use Rattle.lst_session.proofs.Holding.{SameWriter, writer_idle, even_head, held_head, released_words}
 

@@ -64,6 +64,12 @@ pub record SameLists (u k : Known) : Type 0 where
   pub latched : k.latched ≡ u.latched
   pub done : k.done ≡ u.done
 
+-- nothing but looks was made: the transaction, its own writes, the session's commits and these lists stay
+pub record OnlyLooks (v w : View) (s : ℕ) : Type 0 where
+  pub called : Called v w s
+  pub same : SameWork s (knows v s) (knows w s)
+  pub lists : SameLists (knows v s) (knows w s)
+
 -- what the open transaction sees of a key: the row in the snapshot at its begin, of what the session has seen, with its own writes on it
 abbrev pub row_seen : Known → ℕ → Option (List Cell)
 row_seen k key = row_of (snapshot k.seen k.begin k.own) key

@@ -1,5 +1,5 @@
--- A crew: its seat hosts every session and knows each word, and between two calls nobody has anything in hand. It tells the state of the
--- machine of one thread.
+-- A crew: its seat hosts every session, and between two calls nobody has anything in hand. Where it knows each word, and nothing was drawn
+-- in vain, it tells the state of the machine of one thread.
 use Rattle.std.specs.Prelude.{◌≡◌, ℕ, ◌<◌, ◌≤◌, true}
 use Rattle.lst_layout.specs.Words.{Words, shown}
 use Rattle.lst_model.specs.declared.lines.Call.{Call}
@@ -11,31 +11,31 @@ use Rattle.lst_machine.specs.Machine.{reply, next}
 use Rattle.lst_core_state.specs.Cells.{record_count}
 use Rattle.lst_core_state.specs.Index.{is_placed}
 use Rattle.lst_rule.specs.declared.view.View.{View}
-use Rattle.lst_rule.specs.Rule.{knows}
+use Rattle.lst_rule.specs.Rule.{knows, hosts}
 use Rattle.lst_rule.specs.declared.store.Store.{Store as Table}
-use Rattle.lst_rule.specs.Seats.{Sitting}
 use Rattle.lst_rule.specs.Stores.{IsSeatOf}
 use Rattle.lst_crew_state.specs.Crews.{IsIdle}
 use Rattle.lst_crew_state.specs.Telling.{told_store}
+use Rattle.lst_session.specs.declared.crew.Crew.{Crew}
 
 -- the words that the view knows
 abbrev pub words_of : View → Words
 words_of v = shown v.limits v.words
 
--- the view knows each word, no session has anything in hand, each record that was drawn is in the index, and no counter passed its limit
-pub record IsCrewView (v : View) : Type 0 where
+-- between two calls of the crew of a store: its seat hosts every session, and none has a record, latch, tail or turn in hand
+pub record IsCrewOf (store : Table) (crew : Crew) : Type 0 where
+  pub seat_of : IsSeatOf store crew.seat
+  pub hosted : (s : ℕ) → s < crew.seat.view.limits.sessions → hosts crew.seat.view s ≡ true
+  pub idle : (s : ℕ) → s < crew.seat.view.limits.sessions → IsIdle (knows crew.seat.view s)
+
+-- the view tells a state of the machine: it knows each word, each record that was drawn is in the index, and no counter passed its limit
+pub record TellsState (v : View) : Type 0 where
   pub whole : v.whole ≡ true
-  pub idle : (s : ℕ) → s < v.limits.sessions → IsIdle (knows v s)
   pub records : (words_of v).counter ≤ record_count v.limits
   pub placed : (r : ℕ) → r < (words_of v).counter → is_placed v.limits (words_of v).index r ≡ true
   pub tails : (range : ℕ) → range < v.limits.ranges → (words_of v).counts range ≤ v.limits.tails
 
--- between two calls of the crew of a store
-pub record IsCrewOf (store : Table) (seat : Sitting) : Type 0 where
-  pub seat_of : IsSeatOf store seat
-  pub view : IsCrewView seat.view
-
--- the state of the machine that the view tells: a function of the words that it knows, and of what it knows of each session's transactions
+-- that state: a function of the words that it knows, and of what it knows of each session's transactions
 abbrev pub store_told : View → Store
 store_told v = told_store v.limits (words_of v) (knows v)
 

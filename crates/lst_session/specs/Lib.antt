@@ -3,3 +3,4 @@ pub mod Laws
 pub mod Passes
 pub mod Crews
 pub mod Replies
+pub mod Lines

@@ -1,13 +1,13 @@
 //! Worked scripts on a store and its crew: each call with its reply.
 ghost use Rattle.std.specs.Prelude.{◌<◌, IsTrue};
 ghost use Rattle.lst_model.specs.Lines.{CallFits};
-ghost use Rattle.lst_session.specs.Crews.{IsCrewOf};
+ghost use Rattle.lst_session.specs.Crews.{IsCrewOf, TellsState};
 ghost use Rattle.lst_session.specs.Replies.{IsCrewCall};
 
 use crate::{Crew, open_crew};
 use arrayvec::ArrayVec;
 use lst_layout::Limits;
-use lst_model::{Call, Cause, Key, Line, Patch, Reply, Row};
+use lst_model::{Act, Call, Cause, History, Key, Line, OutOfMemory, Patch, Reply, Row};
 use lst_rule::Store;
 use std::alloc::Global;
 use std::process::Abort;
@@ -29,7 +29,7 @@ const SMALL: Limits = Limits {
 struct Pair {
     store: Store,
     crew: Crew,
-    ghost own: { IsCrewOf store crew.seat },
+    ghost own: { IsCrewOf store crew × TellsState crew.seat.view },
 }
 
 fn row(first: u64, second: u64) -> Row {
@@ -124,6 +124,10 @@ fn answers(
     let reply = pair.crew.line(&pair.store, &Line::Call { session, call })?;
     assert_eq!(rt; reply, wanted);
     Ok(())
+}
+
+fn history(alloc: Global, pair: &mut Pair) -> Result<History, OutOfMemory> {
+    pair.crew.history(alloc, &pair.store)
 }
 
 /// The calls of sessions on a new store, each with its reply.
@@ -327,4 +331,23 @@ fn a_table_of_one_range_has_256_keys(rt: HostRuntime) -> Result<(), Fail> {
         insert(257, 1, 1),
         refused(Cause::TableFull),
     )
+}
+
+#[test]
+fn a_history_has_the_one_commit(rt: HostRuntime) -> Result<(), Fail> {
+    let mut pair = opened(rt.alloc(), SMALL)?;
+    answers(&rt, &mut pair, 0, Call::Begin, begun(0))?;
+    answers(&rt, &mut pair, 0, insert(7, 10, 20), Reply::Done)?;
+    answers(&rt, &mut pair, 0, Call::Commit, committed(1))?;
+    let all = history(rt.alloc(), &mut pair)?;
+    let [only] = all.items() else {
+        return Err(Fail::from("the history has one commit"));
+    };
+    assert_eq!(rt; (only.session, only.number, only.begin), (0, 1, 0));
+    let [write] = only.writes.items() else {
+        return Err(Fail::from("the commit has one write"));
+    };
+    assert_eq!(rt; write.key, 7);
+    assert_eq!(rt; &write.act, &Act::Put(row(10, 20)));
+    Ok(())
 }

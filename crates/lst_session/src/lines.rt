@@ -7,18 +7,20 @@ use lst_rule::Store;
 impl Crew {
     ghost use Rattle.std.specs.Prelude.{◌≡◌, ◌<◌, IfOk, OnErr};
     ghost use Rattle.lst_model.specs.Lines.{LineFits, CallFits};
-    ghost use Rattle.lst_session.specs.Crews.{IsCrewOf, Answers, AnswersLine, state_told};
+    ghost use Rattle.lst_session.specs.Crews.{IsCrewOf, TellsState, Answers, AnswersLine};
+    ghost use Rattle.lst_session.specs.Lines.{CallLeaves, LineLeaves};
     ghost use Rattle.lst_session.specs.Replies.{IsCrewLine, IsCrewCall};
 
-    /// The answer to a line, which is the machine's for the state that the crew tells; the crew then tells the next one. It takes no scans and no
-    /// merges.
+    /// The answer to a line. It promises of the session that calls what the call itself promises; and where the crew tells a state of the machine,
+    /// the answer is the machine's, and the crew then tells the next one. It takes no scans and no merges.
     pub fn line(&mut self, store: &Store, line: &Line) -> Result<Reply, OutOfMemory>
-        requires crew { IsCrewOf store.now self.old.seat }
+        requires crew { IsCrewOf store.now self.old }
         requires fits { LineFits self.old.seat.view.limits.sessions self.old.seat.view.limits.ranges self.old.seat.view.limits.columns line.now }
         requires taken { IsCrewLine line.now }
-        ensures crew { IsCrewOf store.now self.new.seat }
-        ensures machine { IfOk result (λ reply. AnswersLine self.old.seat.view self.new.seat.view line.now reply) }
-        ensures err { OnErr result (state_told self.new.seat.view ≡ state_told self.old.seat.view) }
+        ensures crew { IsCrewOf store.now self.new }
+        ensures machine { TellsState self.old.seat.view → IfOk result (λ reply. TellsState self.new.seat.view × AnswersLine self.old.seat.view self.new.seat.view line.now reply) }
+        ensures session { IfOk result (λ reply. LineLeaves self.old.seat.view self.new.seat.view line.now reply) }
+        ensures err { OnErr result (self.new ≡ self.old) }
     {
         match line {
             Line::Phase => Ok(Reply::Silent),
@@ -29,12 +31,13 @@ impl Crew {
 
     /// The answer to a session's call.
     fn call(&mut self, store: &Store, s: u32, call: &Call) -> Reply
-        requires crew { IsCrewOf store.now self.old.seat }
+        requires crew { IsCrewOf store.now self.old }
         requires session { s < self.old.seat.view.limits.sessions }
         requires fits { CallFits self.old.seat.view.limits.columns call.now }
         requires taken { IsCrewCall call.now }
-        ensures crew { IsCrewOf store.now self.new.seat }
-        ensures machine { Answers self.old.seat.view self.new.seat.view s call.now result }
+        ensures crew { IsCrewOf store.now self.new }
+        ensures machine { TellsState self.old.seat.view → TellsState self.new.seat.view × Answers self.old.seat.view self.new.seat.view s call.now result }
+        ensures session { CallLeaves self.old.seat.view self.new.seat.view s call.now result }
     {
         match call {
             Call::Begin => begin_reply(self.begin(store, s)),

@@ -10,7 +10,7 @@ use Rattle.lst_replies.specs.Texts.{line_text, script_text}
 use Rattle.lst_rule.specs.declared.view.View.{View}
 use Rattle.lst_rule.specs.declared.store.Store.{Store}
 use Rattle.lst_session.specs.declared.crew.Crew.{Crew}
-use Rattle.lst_session.specs.Crews.{IsCrewOf, AnswersLine, state_told}
+use Rattle.lst_session.specs.Crews.{IsCrewOf, TellsState, AnswersLine, state_told}
 use Rattle.lst_shell.specs.Answers.{store_limits, run_text}
 use Rattle.lst_shell.specs.Runs.{HasRun, LeftBy}
 
@@ -40,5 +40,5 @@ drop-line script index line within same =
 pub all_run : (v : View) (text whole : List ℕ) (last : State) → HasRun v text [] whole last → text ≡ whole
 all_run v text whole last so_far = sym (append-nil text) ∙ so_far.written
 
-pub all_left : (store : Store) (crew : Crew) (text : List ℕ) (script : List Line) → IsCrewOf store crew.seat → HasRun crew.seat.view text [] (run_text script) (state_after store_limits opening script) → LeftBy script (store, crew)
-all_left store crew text script of so_far = record { crew_of = of; tells = so_far.ends }
+pub all_left : (store : Store) (crew : Crew) (text : List ℕ) (script : List Line) → IsCrewOf store crew → TellsState crew.seat.view → HasRun crew.seat.view text [] (run_text script) (state_after store_limits opening script) → LeftBy script (store, crew)
+all_left store crew text script of tells so_far = record { crew_of = of; tells = tells; last = so_far.ends }

@@ -8,7 +8,7 @@ use Rattle.lst_replies.specs.Texts.{script_text}
 use Rattle.lst_rule.specs.declared.view.View.{View}
 use Rattle.lst_rule.specs.declared.store.Store.{Store}
 use Rattle.lst_session.specs.declared.crew.Crew.{Crew}
-use Rattle.lst_session.specs.Crews.{IsCrewOf, state_told}
+use Rattle.lst_session.specs.Crews.{IsCrewOf, TellsState, state_told}
 use Rattle.lst_session.specs.Replies.{IsCrewLine}
 use Rattle.lst_shell.specs.Answers.{store_limits}
 
@@ -23,5 +23,6 @@ pub record HasRun (v : View) (text : List ℕ) (rest : List Line) (whole : List 
 
 -- a store and its crew, which tells the machine's state after the last line of the script
 pub record LeftBy (script : List Line) (left : Store × Crew) : Type 0 where
-  pub crew_of : IsCrewOf left.0 left.1.seat
-  pub tells : state_told left.1.seat.view ≡ state_after store_limits opening script
+  pub crew_of : IsCrewOf left.0 left.1
+  pub tells : TellsState left.1.seat.view
+  pub last : state_told left.1.seat.view ≡ state_after store_limits opening script

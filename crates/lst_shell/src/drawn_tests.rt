@@ -6,11 +6,11 @@ ghost use Rattle.lst_session.specs.Crews.{IsCrewOf};
 ghost use Rattle.lst_session.specs.Replies.{IsCrewCall};
 
 use arrayvec::ArrayVec;
-use lst_session::{Crew, open_crew};
 use lst_layout::Limits;
 use lst_model::{Call, Line, Patch, Reply, Row};
 use lst_plain::Plain;
 use lst_rule::Store;
+use lst_session::{Crew, open_crew};
 use std::process::Abort;
 use std::test::Fail;
 
@@ -140,10 +140,10 @@ fn answers(
     plain: &mut Plain,
     drawer: &mut Drawer,
 ) -> Result<(Reply, Reply), Fail>
-    requires crew { IsCrewOf store.now crew.old.seat }
+    requires crew { IsCrewOf store.now crew.old }
     requires sessions { (crew.old.seat.view.limits.sessions ≡ 3) × (crew.old.seat.view.limits.columns ≡ 2) }
     requires plain { ((limits_of plain.old).sessions ≡ 3) × ((limits_of plain.old).columns ≡ 2) }
-    ensures crew { IsCrewOf store.now crew.new.seat }
+    ensures crew { IsCrewOf store.now crew.new }
     ensures sessions { IfOk result (λ _. (crew.new.seat.view.limits.sessions ≡ 3) × (crew.new.seat.view.limits.columns ≡ 2)) }
     ensures plain { ((limits_of plain.new).sessions ≡ 3) × ((limits_of plain.new).columns ≡ 2) }
 {

@@ -2,15 +2,15 @@
 ghost use Rattle.std.specs.Prelude.{◌≡◌, ℕ, List, ◌∷◌, All, IfOk, OnOk};
 ghost use Rattle.lst_model.specs.declared.lines.Line.{Line as ScriptLine};
 ghost use Rattle.lst_machine.specs.State.{State};
-ghost use Rattle.lst_session.specs.Crews.{IsCrewOf};
+ghost use Rattle.lst_session.specs.Crews.{IsCrewOf, TellsState};
 ghost use Rattle.lst_shell.specs.Runs.{IsTaken, HasRun, LeftBy};
 ghost use Rattle.lst_shell.specs.Answers.{run_text, store_limits};
 
-use lst_session::{Crew, open_crew};
 use lst_layout::{Layout, Limits};
 use lst_model::{Line, OutOfMemory, Text};
 use lst_report::push_line;
 use lst_rule::Store;
+use lst_session::{Crew, open_crew};
 use std::alloc::Global;
 
 /// What a run comes to: the text of what each line is answered, and the store with the crew that made the run.
@@ -39,10 +39,12 @@ pub(crate) fn execute(alloc: Global, script: &[Line]) -> Result<Ran, OutOfMemory
 
 /// Runs a line, and adds the text of what it is answered.
 fn answer(store: &Store, crew: &mut Crew, text: &mut Text, line: &Line) -> Result<(), OutOfMemory>
-    requires crew { IsCrewOf store.now crew.old.seat }
+    requires crew { IsCrewOf store.now crew.old }
+    requires tells { TellsState crew.old.seat.view }
     requires limits { crew.old.seat.view.limits ≡ store_limits }
     requires taken { IsTaken line.now }
-    ensures crew { IsCrewOf store.now crew.new.seat }
+    ensures crew { IsCrewOf store.now crew.new }
+    ensures tells { OnOk result (TellsState crew.new.seat.view) }
     ensures limits { OnOk result (crew.new.seat.view.limits ≡ store_limits) }
     ensures run { OnOk result ((rest : List ScriptLine) (whole : List ℕ) (last : State) → HasRun crew.old.seat.view text.old (line.now ∷ rest) whole last → HasRun crew.new.seat.view text.new rest whole last) }
 {

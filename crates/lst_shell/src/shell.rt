@@ -8,11 +8,11 @@ ghost use Rattle.lst_shell.specs.Answers.{IsRun, Says, IsDue, IsComplete, Report
 use crate::execution::{Ran, execute};
 use crate::messages::report;
 use crate::status::Status;
-use lst_session::Crew;
 use lst_io::{Failed, ReadAllFault, Sink, Source, read_all, write_all};
 use lst_layout::Limits;
-use lst_script::{ScriptFault, parse};
 use lst_rule::Store;
+use lst_script::{ScriptFault, parse};
+use lst_session::Crew;
 use std::alloc::Global;
 
 /// How many bytes an input may have.
@@ -26,8 +26,8 @@ const MOST_BYTES: u64 = 16_777_216;
 /// are, then they are run, and then the output is written at once. Want of memory may come at any of these but the first
 /// and the last.
 ///
-/// With `Done` and with `WriteFault`, `left` receives the store on which the script was run, and the crew that hosts all of it: it tells
-/// the machine's state after the last line. With any other status `left` stays as it is.
+/// With `Done` and with `WriteFault`, `left` receives a store and the crew that hosts all of it, which tells the machine's state after the
+/// last line. They are those of the run, which is read in the body and said in no clause. With any other status `left` stays as it is.
 pub fn lstore<S: Source, K: Sink, E: Sink>(
     alloc: Global,
     words: &[String],

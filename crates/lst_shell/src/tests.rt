@@ -2,7 +2,8 @@
 
 use crate::{Status, lstore};
 use lst_io::{MemSink, MemSource};
-use lst_model::{KeyList, Text};
+use lst_model::{Call, KeyList, Line, Reply, Text};
+use lst_report::print_line;
 use lst_script::FaultKind;
 use std::alloc::Global;
 use std::process::Abort;
@@ -441,4 +442,15 @@ fn a_sink_of_errors_that_fails_changes_nothing_else(rt: HostRuntime) -> Result<(
         report: 2,
     };
     shows(&rt, rt.alloc(), "", b"", fails, Status::Usage, "", "lstor")
+}
+
+#[test]
+fn a_reply_is_printed_by_itself(rt: HostRuntime) -> Result<(), Fail> {
+    let line = Line::Call {
+        session: 2,
+        call: Call::Commit,
+    };
+    let text = print_line(rt.alloc(), &line, &Reply::Committed { time: 3 })?;
+    assert_eq!(rt; text.as_bytes(), b"2 committed 3\n".as_slice());
+    Ok(())
 }

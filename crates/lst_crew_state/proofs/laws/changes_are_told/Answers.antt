@@ -4,6 +4,7 @@ use Rattle.lst_crew_state.proofs.Began.{begins_are_told}
 use Rattle.lst_crew_state.proofs.Ended.{closes_are_told, commits_are_told}
 use Rattle.lst_crew_state.proofs.PlacedKeys.{places_are_told}
 use Rattle.lst_crew_state.proofs.Written.{writes_are_told}
+use Rattle.lst_crew_state.proofs.Others.{other_areas_tell_nothing}
 use Rattle.lst_crew_state.proofs.laws.changes_are_told.Goals as goal
 
 pub returns-clause-opening : goal.returns-clause-opening
@@ -29,3 +30,6 @@ returns-clause-places c = places_are_told
 
 pub returns-clause-writes : goal.returns-clause-writes
 returns-clause-writes c = writes_are_told
+
+pub returns-clause-others : goal.returns-clause-others
+returns-clause-others c = other_areas_tell_nothing

@@ -13,6 +13,7 @@ answer-requires-clause-taken c = subst IsTaken (sym c.line-item.is) (c.requires 
 pub loop-line-preserved : goal.loop-line-preserved
 loop-line-preserved c = record {
   crew = c.answer.ensures.crew;
+  tells = c.in_ok-answer.ensures.tells;
   limits = c.in_ok-answer.ensures.limits;
   run = c.in_ok-answer.ensures.run (drop (c.loop-line.line-index + 1) c.args.script.now) (run_text c.args.script.now) (state_after store_limits opening c.args.script.now)
       (subst (λ (lines : List Line). HasRun c.loop-line.crew.seat.view c.loop-line.text lines (run_text c.args.script.now) (state_after store_limits opening c.args.script.now))

@@ -1,21 +1,25 @@
-use Rattle.std.proofs.Common.{arith}
-use Rattle.lst_session.proofs.Crewed.{hosted_all}
+use Rattle.std.proofs.Common.{ap}
+use Rattle.lst_rule.specs.Seats.{Sitting}
+use Rattle.lst_session.proofs.Crewed.{crew_view, told_by}
 use Rattle.lst_session.proofs.Beginning.{as_of_answers}
-use Rattle.lst_session.proofs.Answering.{opened}
+use Rattle.lst_session.proofs.Answering.{opened, opened_idle}
+use Rattle.lst_session.proofs.Keeping.{crew_on, as_of_called}
 use Rattle.lst_session.proofs.Turning.{is_ahead}
 use Rattle.lst_session.proofs.crew.Crew.as_of.Goals as goal
 
 pub as_of-requires-clause-host : goal.as_of-requires-clause-host
-as_of-requires-clause-host c = hosted_all c.args.self.now.seat.view c.requires.crew.view c.consider.ensures c.args.s (let h = c.requires.session in omega arith)
+as_of-requires-clause-host c = c.requires.crew.hosted c.args.s c.requires.session
 
 pub returns-clause-crew : goal.returns-clause-crew
-returns-clause-crew c = let e = c.as_of.ensures in record {
-  seat_of = e.seat;
-  view = (as_of_answers c.args.self.now.seat c.as_of.new.seat c.args.s c.requires.crew.view c.consider.ensures c.requires.session c.args.time c.as_of.result e.ok e.active e.spent e.future e.still).0;
-}
+returns-clause-crew c = let e = c.as_of.ensures in crew_on c.args.store.now c.args.self.now c.as_of.new.seat c.args.s c.requires.crew e.seat
+    (as_of_called c.args.self.now.seat.view c.as_of.new.seat.view c.args.s c.args.time c.as_of.result
+    (opened c.args.self.now.seat.view c.as_of.new.seat.view c.args.s c.args.time c.as_of.result e.ok)
+    (λ clock is. is_ahead c.args.self.now.seat.view c.as_of.new.seat.view c.args.s clock c.args.time (e.future clock is).0 (e.future clock is).1)
+    (λ h. ap (λ (seat : Sitting). seat.view) (e.still h)))
+    (opened_idle c.args.self.now.seat.view c.as_of.new.seat.view c.args.s c.args.time c.as_of.result e.ok e.future (λ h. ap (λ (seat : Sitting). seat.view) (e.still h)) (c.requires.crew.idle c.args.s c.requires.session))
 
 pub returns-clause-machine : goal.returns-clause-machine
-returns-clause-machine c = let e = c.as_of.ensures in (as_of_answers c.args.self.now.seat c.as_of.new.seat c.args.s c.requires.crew.view c.consider.ensures c.requires.session c.args.time c.as_of.result e.ok e.active e.spent e.future e.still).1
+returns-clause-machine c tells = let e = c.as_of.ensures in told_by c.as_of.new.seat.view (as_of_answers c.args.self.now.seat c.as_of.new.seat c.args.s (crew_view c.args.store.now c.args.self.now c.requires.crew tells) c.consider.ensures c.requires.session c.args.time c.as_of.result e.ok e.active e.spent e.future e.still)
 
 pub returns-clause-ok : goal.returns-clause-ok
 returns-clause-ok c = opened c.args.self.now.seat.view c.as_of.new.seat.view c.args.s c.args.time c.as_of.result c.as_of.ensures.ok

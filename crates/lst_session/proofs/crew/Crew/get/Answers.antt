@@ -1,23 +1,25 @@
-use Rattle.std.proofs.Common.{arith, sym, ◌∙◌}
-use Rattle.lst_session.proofs.Crewed.{hosted_all}
+use Rattle.std.proofs.Common.{sym, ◌∙◌}
+use Rattle.lst_session.proofs.Crewed.{crew_view, told_by}
 use Rattle.lst_session.proofs.Getting.{get_answers}
-use Rattle.lst_session.proofs.Promising.{gets}
+use Rattle.lst_session.proofs.Keeping.{crew_on}
+use Rattle.lst_session.proofs.Promising.{gets, still_idle}
 use Rattle.lst_session.proofs.crew.Crew.get.Goals as goal
 
 pub is_open-requires : goal.is_open-requires
-is_open-requires c = hosted_all c.args.self.now.seat.view c.requires.crew.view c.consider.ensures c.args.s (let h = c.requires.session in omega arith)
+is_open-requires c = c.requires.crew.hosted c.args.s c.requires.session
 
 pub read-requires-clause-host : goal.read-requires-clause-host
-read-requires-clause-host c = hosted_all c.args.self.now.seat.view c.requires.crew.view c.consider.ensures c.args.s (let h = c.requires.session in omega arith)
+read-requires-clause-host c = c.requires.crew.hosted c.args.s c.requires.session
 
 pub returns-clause-crew : goal.returns-clause-crew
-returns-clause-crew c = record {
-  seat_of = c.read.ensures.seat;
-  view = (get_answers c.args.self.now.seat.view c.read.new.seat.view c.args.s c.args.key c.read.result c.requires.crew.view c.consider.ensures c.requires.session (sym c.is_open.ensures ∙ c.if-not-is_open.false) c.read.ensures.reads).0;
-}
+returns-clause-crew c = let hosted = c.requires.crew.hosted c.args.s c.requires.session in let is_open = sym c.is_open.ensures ∙ c.if-not-is_open.false in
+    crew_on c.args.store.now c.args.self.now c.read.new.seat c.args.s c.requires.crew c.read.ensures.seat
+    (gets c.args.self.now.seat.view c.read.new.seat.view c.args.s c.args.key hosted c.consider.ensures c.requires.session c.read.result is_open c.read.ensures.reads).called
+    (still_idle c.args.self.now.seat.view c.read.new.seat.view c.args.s c.args.key hosted c.consider.ensures c.requires.session c.read.result is_open c.read.ensures.reads (c.requires.crew.idle c.args.s c.requires.session))
 
 pub returns-clause-machine : goal.returns-clause-machine
-returns-clause-machine c = (get_answers c.args.self.now.seat.view c.read.new.seat.view c.args.s c.args.key c.read.result c.requires.crew.view c.consider.ensures c.requires.session (sym c.is_open.ensures ∙ c.if-not-is_open.false) c.read.ensures.reads).1
+returns-clause-machine c tells = told_by c.read.new.seat.view (get_answers c.args.self.now.seat.view c.read.new.seat.view c.args.s c.args.key c.read.result (crew_view c.args.store.now c.args.self.now c.requires.crew tells) c.consider.ensures c.requires.session (sym c.is_open.ensures ∙ c.if-not-is_open.false) c.read.ensures.reads)
 
 pub returns-clause-ok : goal.returns-clause-ok
-returns-clause-ok c = (sym c.is_open.ensures ∙ c.if-not-is_open.false, gets c.args.self.now.seat.view c.read.new.seat.view c.args.s c.args.key c.requires.crew.view c.consider.ensures c.requires.session c.read.result (sym c.is_open.ensures ∙ c.if-not-is_open.false) c.read.ensures.reads)
+returns-clause-ok c = let is_open = sym c.is_open.ensures ∙ c.if-not-is_open.false in
+    (is_open, gets c.args.self.now.seat.view c.read.new.seat.view c.args.s c.args.key (c.requires.crew.hosted c.args.s c.requires.session) c.consider.ensures c.requires.session c.read.result is_open c.read.ensures.reads)

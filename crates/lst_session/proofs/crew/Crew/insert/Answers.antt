@@ -1,25 +1,40 @@
-use Rattle.std.proofs.Common.{List, refl, subst}
+use Rattle.std.proofs.Common.{List, OnOk, IfErr, refl, subst}
 use Rattle.lst_model.specs.Cells.{Cell}
 use Rattle.lst_model.specs.declared.acts.Act.TheVariants.{Put}
 use Rattle.lst_calls.specs.Traces.{Inserts}
+use Rattle.lst_session.specs.Calls.{Accepts, Refuses, Cause}
+use Rattle.lst_session.specs.Crews.{TellsState}
+use Rattle.lst_session.proofs.Crewed.{crew_view, told_by}
 use Rattle.lst_session.proofs.CrewAnswering.{InsertIs, insert_is}
-use Rattle.lst_session.proofs.Promising.{inserted, not_inserted}
+use Rattle.lst_session.proofs.Keeping.{crew_on, write_called, never_latched}
+use Rattle.lst_session.proofs.Promising.{inserted, not_inserted, inserted_idle}
 use Rattle.lst_session.proofs.crew.Crew.insert.Goals as goal
 
 traced : (c : goal.After-insert) → Inserts c.args.self.now.seat.view c.insert.new.seat.view c.args.s c.args.key (Put c.args.row.now) c.insert.result
 traced c = subst (λ (row : List Cell). Inserts c.args.self.now.seat.view c.insert.new.seat.view c.args.s c.args.key (Put row) c.insert.result) c.copied.ensures c.insert.ensures.inserts
 
-answered : (c : goal.After-insert) → InsertIs c.args.self.now.seat.view c.insert.new.seat.view c.args.s c.args.key (Put c.args.row.now) c.insert.result
-answered c = insert_is c.args.self.now.seat.view c.requires.crew.view c.args.s c.args.key c.requires.session (Put c.args.row.now) c.consider.ensures c.insert.new.seat.view (λ l store s t key. refl) c.insert.result (traced c)
+done : (c : goal.After-insert) → OnOk c.insert.result (Accepts c.args.self.now.seat.view c.insert.new.seat.view c.args.s c.args.key 1 (Put c.args.row.now))
+done c = inserted c.args.self.now.seat.view c.insert.new.seat.view c.args.s c.args.key (c.requires.crew.hosted c.args.s c.requires.session) c.consider.ensures c.requires.session (Put c.args.row.now) c.insert.result (traced c)
+
+refused : (c : goal.After-insert) → IfErr c.insert.result (λ refusal. Refuses c.args.self.now.seat.view c.insert.new.seat.view c.args.s c.args.key 1 × Cause c.args.self.now.seat.view c.insert.new.seat.view c.args.s c.args.key (Put c.args.row.now) refusal)
+refused c = not_inserted c.args.self.now.seat.view c.insert.new.seat.view c.args.s c.args.key (c.requires.crew.hosted c.args.s c.requires.session) c.consider.ensures c.requires.session (Put c.args.row.now) c.insert.result refl (traced c)
+
+answered : (c : goal.After-insert) → TellsState c.args.self.now.seat.view → InsertIs c.args.self.now.seat.view c.insert.new.seat.view c.args.s c.args.key (Put c.args.row.now) c.insert.result
+answered c tells = insert_is c.args.self.now.seat.view (crew_view c.args.store.now c.args.self.now c.requires.crew tells) c.args.s c.args.key c.requires.session (Put c.args.row.now) c.consider.ensures c.insert.new.seat.view (λ l store s t key. refl) c.insert.result (traced c)
 
 pub returns-clause-crew : goal.returns-clause-crew
-returns-clause-crew c = record { seat_of = c.insert.ensures.seat; view = (answered c).crew }
+returns-clause-crew c = crew_on c.args.store.now c.args.self.now c.insert.new.seat c.args.s c.requires.crew c.insert.ensures.seat
+    (write_called c.args.self.now.seat.view c.insert.new.seat.view c.args.s c.args.key 1 (Put c.args.row.now) c.insert.result (done c) (refused c))
+    (inserted_idle c.args.self.now.seat.view c.insert.new.seat.view c.args.s c.args.key (c.requires.crew.hosted c.args.s c.requires.session) c.consider.ensures c.requires.session (Put c.args.row.now) c.insert.result (traced c) (c.requires.crew.idle c.args.s c.requires.session))
 
 pub returns-clause-machine : goal.returns-clause-machine
-returns-clause-machine c = record { reply = (answered c).reply; next = (answered c).next; limits = (answered c).limits }
+returns-clause-machine c tells = let is = answered c tells in told_by c.insert.new.seat.view (is.crew, record { reply = is.reply; next = is.next; limits = is.limits })
 
 pub returns-clause-ok : goal.returns-clause-ok
-returns-clause-ok c = inserted c.args.self.now.seat.view c.insert.new.seat.view c.args.s c.args.key c.requires.crew.view c.consider.ensures c.requires.session (Put c.args.row.now) c.insert.result (traced c)
+returns-clause-ok c = done c
 
 pub returns-clause-err : goal.returns-clause-err
-returns-clause-err c = not_inserted c.args.self.now.seat.view c.insert.new.seat.view c.args.s c.args.key c.requires.crew.view c.consider.ensures c.requires.session (Put c.args.row.now) c.insert.result refl (traced c)
+returns-clause-err c = refused c
+
+pub returns-clause-never : goal.returns-clause-never
+returns-clause-never c = never_latched c.args.store.now c.args.self.now c.insert.new.seat.view c.args.s c.args.key 1 (Put c.args.row.now) c.insert.result c.requires.crew (refused c)
