@@ -8,7 +8,7 @@ use Rattle.lst_shell.specs.declared.status.Status.TheVariants.{Done, WriteFault}
 use Rattle.lst_shell.specs.Answers.{Change, RunsScript, RunsInPart}
 use Rattle.lst_shell.specs.Runs.{LeftBy}
 
--- the store and the crew that ran the script
+-- a store, and a crew of it that tells the state after the script
 abbrev pub IsLeft : List Line → Option (Store × Crew) → Type 0
 IsLeft script left = (both : Store × Crew) × (left ≡ Some both) × LeftBy script both
 
