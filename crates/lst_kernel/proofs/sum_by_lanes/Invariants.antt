@@ -1,6 +1,5 @@
-use Rattle.std.proofs.Common.{◌≡◌, ◌+◌, ◌-◌, ◌*◌, ◌%◌, ◌/◌, ◌^◌, ◌≤◌, ℕ, length, take, map}
-use lib.Lanes.{zip2, sum_l}
-use Rattle.lst_kernel.specs.Entries.{lane_of}
+use Rattle.std.proofs.Common.{◌≡◌, ◌+◌, ◌-◌, ◌*◌, ◌%◌, ◌^◌, ◌≤◌, ℕ, length, map}
+use lib.Lanes.{sum_l}
 use Rattle.lst_kernel.proofs.Sums.{seen_up_to, high_half}
 use Rattle.lst_kernel.proofs.sum_by_lanes.Given as goal
 

@@ -1,4 +1,4 @@
-use Rattle.std.proofs.Common.{ℕ, ◌+◌, ◌*◌, cond, get_or, ap, ap₂, ◌∙◌, sym, add-zero, arith}
+use Rattle.std.proofs.Common.{ℕ, ◌+◌, cond, get_or, ap, ap₂, ◌∙◌, sym, add-zero, arith}
 use lib.Lanes.{sum_l}
 use Rattle.lst_kernel.proofs.Sums.{seen_up_to, sum_low, one_more, at_end}
 use Rattle.lst_kernel.proofs.sum_one_by_one.Goals.{then-is_word_seen, else-is_word_seen}

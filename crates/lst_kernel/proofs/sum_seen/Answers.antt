@@ -1,4 +1,4 @@
-use Rattle.std.proofs.Common.{◌+◌, ◌*◌, ◌/◌, length, take, drop, arith}
+use Rattle.std.proofs.Common.{◌*◌, ◌/◌, length, arith}
 use Rattle.std.proofs.lemmas.List.{length-take}
 use Rattle.lst_kernel.proofs.Sums.{split_sum, all_low}
 use Rattle.lst_kernel.proofs.sum_seen.Goals as goal
