@@ -71,11 +71,11 @@ fn sum_by_lanes(values: &[u64], times: &[u64], begin: u64) -> u128
         high_halves = high_halves.strict_add(seen >> u64x8::splat(32));
         at += LANES;
     }
-    joined(sums.reduce_sum(), high_halves.strict_reduce_sum())
+    sum_from(sums.reduce_sum(), high_halves.strict_reduce_sum())
 }
 
 /// The number that is `high` times 2^32 and a rest below 2^64, where `low` is what is left of it in 64 bits.
-fn joined(low: u64, high: u64) -> u128
+fn sum_from(low: u64, high: u64) -> u128
     ensures { (rest : ℕ) → rest < 2 ^ 64 → low ≡ (high * 2 ^ 32 + rest) % 2 ^ 64 → result ≡ high * 2 ^ 32 + rest }
 {
     let rest = low.wrapping_sub(high.wrapping_mul(1 << 32));

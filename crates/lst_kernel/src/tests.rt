@@ -1,3 +1,5 @@
+ghost use Rattle.std.specs.Prelude.{◌<◌, ◌≤◌, ◌^◌};
+
 use super::*;
 
 /// The time word of an entry that is present.
@@ -60,28 +62,45 @@ fn drawn(seed: &mut u64) -> u64 {
     *seed >> 33 ^ *seed << 20
 }
 
+/// The words of a page, of some number of bits.
+fn drawn_words(seed: &mut u64, bits: u32) -> [u64; 256]
+    requires { (0 < bits) × (bits ≤ 64) }
+{
+    let mut words = [0; 256];
+    for word in words.iter_mut() {
+        *word = drawn(seed) >> (64 - bits);
+    }
+    words
+}
+
+/// What a plain loop adds and counts.
+fn added_plainly(values: &[u64], times: &[u64], begin: u64) -> (u128, u32) {
+    let mut total = 0u128;
+    let mut count = 0u32;
+    for (value, word) in values.iter().zip(times) {
+        if *word & 1 == 1 && *word >> 1 <= begin {
+            total = total.wrapping_add(u128::from(*value));
+            count = count.wrapping_add(1);
+        }
+    }
+    (total, count)
+}
+
 #[test]
 fn drawn_pages_come_to_what_a_plain_loop_adds(rt: HostRuntime) {
     let mut seed = 1;
-    for round in 0..200 {
-        let mut values = [0; 256];
-        let mut times = [0; 256];
-        let shift = round % 64;
-        for at in 0..256 {
-            values[at] = drawn(&mut seed);
-            times[at] = drawn(&mut seed) >> shift;
+    for bits in 1..65 {
+        let values = drawn_words(&mut seed, 64);
+        let times = drawn_words(&mut seed, bits);
+        for begin in [0, drawn(&mut seed) >> (64 - bits) >> 1, u64::MAX] {
+            let (total, count) = added_plainly(&values, &times, begin);
+            assert_eq!(rt;
+                sum_where(&values, &times, begin),
+                total,
+                "{bits} bits at {begin}"
+            );
+            assert_eq!(rt; count_where(&times, begin), count, "{bits} bits at {begin}");
         }
-        let begin = drawn(&mut seed) >> shift >> 1;
-        let mut total = 0u128;
-        let mut count = 0u32;
-        for at in 0..256 {
-            if times[at] & 1 == 1 && times[at] >> 1 <= begin {
-                total = total.wrapping_add(values[at] as u128);
-                count = count.wrapping_add(1);
-            }
-        }
-        assert_eq!(rt; sum_where(&values, &times, begin), total, "round {round}");
-        assert_eq!(rt; count_where(&times, begin), count, "round {round}");
     }
 }
 
@@ -96,5 +115,48 @@ fn a_rest_of_up_to_seven_entries_is_counted(rt: HostRuntime) {
             "{long}"
         );
         assert_eq!(rt; count_seen(&times[..long], 3), long as u32, "{long}");
+    }
+}
+
+/// The value words and the time words of a page whose entries were written at the times 0 to 255. Each is present but
+/// the first of each sixteen.
+fn page() -> ([u64; 256], [u64; 256]) {
+    let mut values = [0; 256];
+    let mut times = [0; 256];
+    let mut word = 0u64;
+    for value in values.iter_mut() {
+        word = word.wrapping_add(0x9e37_79b9_7f4a_7c15);
+        *value = word;
+    }
+    let mut time = 0u64;
+    for stamp in times.iter_mut() {
+        *stamp = time.wrapping_mul(2) | (time % 16 != 0) as u64;
+        time = time.wrapping_add(1);
+    }
+    (values, times)
+}
+
+// The instructions of these two are counted.
+#[inline(never)]
+fn sum_of_page(values: &[u64; 256], times: &[u64; 256], begin: u64) -> u128 {
+    sum_where(values, times, begin)
+}
+
+#[inline(never)]
+fn count_of_page(times: &[u64; 256], begin: u64) -> u32 {
+    count_where(times, begin)
+}
+
+#[test]
+fn a_page_written_over_256_times_comes_to_more_with_each_begin(rt: HostRuntime) {
+    let (values, times) = page();
+    for (begin, sum, count) in [
+        (0, 0, 0),
+        (1, 4_354_685_564_936_845_354, 1),
+        (100, 876_357_179_779_209_390_696, 94),
+        (255, 2_219_738_988_732_810_668_976, 240),
+    ] {
+        assert_eq!(rt; sum_of_page(&values, &times, begin), sum, "{begin}");
+        assert_eq!(rt; count_of_page(&times, begin), count, "{begin}");
     }
 }

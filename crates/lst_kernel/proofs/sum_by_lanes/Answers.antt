@@ -21,5 +21,5 @@ overflow_add-high_halves-2 c = high_folds c.args.begin c.args.values.now c.args.
 
 pub returns : goal.returns
 returns c =
-    total_is c.args.begin c.args.values.now c.args.times.now c.requires.long (omega arith) c.type_inv.values c.loop-at.at c.joined.result c.loop-at.sums c.loop-at.high_halves (omega arith)
-    c.loop-at.invariant.low c.loop-at.invariant.high c.joined.ensures
+    total_is c.args.begin c.args.values.now c.args.times.now c.requires.long (omega arith) c.type_inv.values c.loop-at.at c.sum_from.result c.loop-at.sums c.loop-at.high_halves (omega arith)
+    c.loop-at.invariant.low c.loop-at.invariant.high c.sum_from.ensures
