@@ -1,0 +1,25 @@
+-- Laws of packed words.
+use Rattle.std.specs.Prelude.{◌≡◌, ℕ, ◌^◌, ◌<◌, ◌≤◌, List, length, slice_index}
+use Rattle.std.specs.List.{All}
+use Rattle.lst_pack.specs.declared.forms.Form.{Form}
+use Rattle.lst_pack.specs.Forms.{form_words, PacksAs, Packs}
+use Rattle.lst_pack.specs.Chosen.{IsChosen}
+
+-- words stand for one list of values at most
+abbrev pub StandsForOne : Type 0
+StandsForOne = (words one other : List ℕ) → Packs words one → Packs words other → one ≡ other
+
+-- words past the form don't matter
+abbrev pub RestIsFree : Type 0
+RestIsFree = (form : Form) (words others values : List ℕ) → PacksAs form words values → form_words form ≤ length others
+    → ((place : ℕ) → place < form_words form → slice_index others place ≡ slice_index words place) → PacksAs form others values
+
+-- 257 words or more that begin with 257 zeros stand for 256 zeros
+abbrev pub ZerosAreZeros : Type 0
+ZerosAreZeros = (words values : List ℕ) → 257 ≤ length words → ((place : ℕ) → place < 257 → slice_index words place ≡ 0)
+    → length values ≡ 256 → All (λ value. value ≡ 0) values → Packs words values
+
+-- the words of the chosen form are determined by the values
+abbrev pub ChosenIsOne : Type 0
+ChosenIsOne = (words others values : List ℕ) (count more : ℕ) → All (λ word. word < 2 ^ 64) words → All (λ word. word < 2 ^ 64) others → IsChosen words values count → IsChosen others values more
+    → (count ≡ more) × ((place : ℕ) → place < count → slice_index words place ≡ slice_index others place)
