@@ -2,5 +2,15 @@
 #![tactic(auto)]
 
 mod forms;
+mod packing;
+mod single;
+mod survey;
+mod whole;
 
 pub use forms::Form;
+pub use packing::pack;
+pub use single::{Words, get, get_from};
+pub use whole::unpack;
+
+#[cfg(test)]
+mod tests;
