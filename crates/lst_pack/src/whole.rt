@@ -45,7 +45,7 @@ fn unpack_dictionary(words: &[u64], size: usize, out: &mut [u64; 256])
     for turn in 0..16 {
         let word = words[1 + size + turn];
         for k in 0..16 {
-            out[16 * turn + k] = words[1 + (word >> (4 * k) & 15) as usize];
+            out[turn * 16 + k] = words[1 + ((word >> (k * 4)) % 16) as usize];
         }
     }
 }
