@@ -1,3 +1,5 @@
 pub mod Numbers
 pub mod Runs
 pub mod Reading
+pub mod Counting
+pub mod Inserting

@@ -1,13 +1,12 @@
 -- What a look at the values finds: how many runs they have, and their distinct values.
-use Rattle.std.specs.Prelude.{◌≡◌, ℕ, zero, suc, ◌+◌, ◌<◌, ◌≤◌, ◌⊎◌, List, slice_index, nat_eq, if◌then◌else◌}
+use Rattle.std.specs.Prelude.{◌≡◌, ℕ, zero, suc, ◌+◌, ◌-◌, ◌<◌, ◌≤◌, ◌⊎◌, List, slice_index, nat_eq, if◌then◌else◌}
 
 -- 1 where a run begins at the place: it is the first, or the value before it is another
-abbrev pub begins : List ℕ → ℕ → ℕ
-begins values zero = 1
-begins values (suc before) = if nat_eq (slice_index values (suc before)) (slice_index values before) then 0 else 1
+unfoldable pub begins : List ℕ → ℕ → ℕ
+begins values place = if nat_eq place 0 then 1 else (if nat_eq (slice_index values place) (slice_index values (place - 1)) then 0 else 1)
 
 -- how many runs begin below the place
-abbrev pub runs_below : List ℕ → ℕ → ℕ
+unfoldable pub runs_below : List ℕ → ℕ → ℕ
 runs_below values zero = 0
 runs_below values (suc place) = runs_below values place + begins values place
 

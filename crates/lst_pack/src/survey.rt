@@ -1,6 +1,6 @@
 //! What the values of a page have in common, and the form that follows from it.
 ghost use Rattle.std.specs.Prelude.{◌≡◌, ℕ, ◌+◌, ◌-◌, ◌<◌, ◌≤◌, ◌^◌, length, slice_index};
-ghost use Rattle.lst_pack.specs.Counts.{runs_below, IsKnown, IsNew, Rises, AreKnown, IsLeast, IsGreatest};
+ghost use Rattle.lst_pack.specs.Counts.{begins, runs_below, IsKnown, IsNew, Rises, AreKnown, IsLeast, IsGreatest};
 ghost use Rattle.lst_pack.specs.Choices.{IsLeastWidth, IsChoice};
 
 use crate::forms::Form;
@@ -23,19 +23,16 @@ pub(crate) fn survey_of(values: &[u64; 256]) -> Survey
     ensures least { IsLeast values.now 256 result.least }
     ensures greatest { IsGreatest values.now 256 result.greatest }
 {
-    let mut runs = 0;
-    let mut known = [0; 17];
-    let mut distinct = 0;
-    let mut least = values[0];
-    let mut greatest = values[0];
-    for place in 0..256 {
+    let first = values[0];
+    let mut runs = 1;
+    let mut known = [first; 17];
+    let mut distinct = 1;
+    let mut least = first;
+    let mut greatest = first;
+    for place in 1..256 {
         let value = values[place];
-        if place == 0 || value != values[place - 1] {
-            runs += 1;
-            if distinct <= 16 {
-                distinct = learn(&mut known, distinct, value);
-            }
-        }
+        runs += begins_at(values, place);
+        distinct = note(values, place, &mut known, distinct);
         least = least.min(value);
         greatest = greatest.max(value);
     }
@@ -46,6 +43,33 @@ pub(crate) fn survey_of(values: &[u64; 256]) -> Survey
         least,
         greatest,
     }
+}
+
+// 1 where another value stands before this place, which isn't the first, and else 0.
+fn begins_at(values: &[u64; 256], place: usize) -> u32
+    requires place { place < 256 }
+    requires later { 0 < place }
+    ensures { result ≡ begins values.now place }
+{
+    if values[place] == values[place - 1] {
+        0
+    } else {
+        1
+    }
+}
+
+// Learns the value at `place`, which isn't the first, unless it stands before it too or more than 16 values are known.
+fn note(values: &[u64; 256], place: usize, known: &mut [u64; 17], count: usize) -> usize
+    requires place { place < 256 }
+    requires later { 0 < place }
+    requires known { AreKnown values.now place known.old count }
+    ensures { AreKnown values.now (place + 1) known.new result }
+{
+    let value = values[place];
+    if value == values[place - 1] || count > 16 {
+        return count;
+    }
+    learn(known, count, value)
 }
 
 // How many of the first `count` known values are below this one.
