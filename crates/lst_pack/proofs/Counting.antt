@@ -1,7 +1,7 @@
 -- How the counts grow from one place to the next.
 use Rattle.std.proofs.Common.{◌≡◌, ◌≢◌, ℕ, zero, suc, ◌+◌, ◌-◌, ◌*◌, ◌<◌, ◌≤◌, ◌⊎◌, ⊎_elim, inl, inr, List, slice_index, refl, ap, arith, subst, sym, ◌∙◌, add-one, eq-eqb, ne_eqb, cond, nat_eq, true, false}
 use mathlib.Core.Logic.{dite}
-use native.Mathlib.Decide.{dec_lt}
+use native.Mathlib.Decide.{dec_lt, ℕ_discrete}
 use Rattle.lst_pack.specs.Counts.{begins, runs_below, IsKnown, IsNew, StandsBelow, Rises, AreKnown, IsLeast, IsGreatest}
 
 pub runs_next : (values : List ℕ) (place : ℕ) → runs_below values (place + 1) ≡ runs_below values place + begins values place
@@ -94,3 +94,52 @@ greatest_first values = record {
   stands = (0, omega arith, refl);
   bound = λ before low. let z : before ≡ 0 = omega arith in let e = ap (λ n. slice_index values n) z in omega arith;
 }
+
+-- ---- runs
+
+pub runs_mono : (values : List ℕ) (place more : ℕ) → runs_below values place ≤ runs_below values (place + more)
+runs_mono values place zero = let e : runs_below values (place + 0) ≡ runs_below values place = ap (λ n. runs_below values n) (omega arith) in omega arith
+runs_mono values place (suc more) =
+    let before = runs_mono values place more in
+    let next = runs_next values (place + more) in
+    let e : runs_below values (place + more + 1) ≡ runs_below values (place + suc more) = ap (λ n. runs_below values n) (omega arith) in
+    omega arith
+
+pub runs_upto : (values : List ℕ) (place last : ℕ) → place ≤ last → runs_below values place ≤ runs_below values last
+runs_upto values place last low = let h = runs_mono values place (last - place) in let e : runs_below values (place + (last - place)) ≡ runs_below values last = ap (λ n. runs_below values n) (omega arith) in omega arith
+
+-- one run alone: no value differs from the one before it
+one_goes_on : (values : List ℕ) → runs_below values 256 ≡ 1 → (place : ℕ) → 0 < place → place < 256 → slice_index values place ≡ slice_index values (place - 1)
+one_goes_on values one place later low = dite (ℕ_discrete (slice_index values place) (slice_index values (place - 1))) (λ e. e)
+    (λ ne. let b = begins_other values place later ne in let n = runs_next values place in let f = runs_first values in
+        let u = runs_upto values 1 place later in let t = runs_upto values (place + 1) 256 (omega arith) in absurd (omega arith))
+
+pub one_run_is_equal : (values : List ℕ) → runs_below values 256 ≡ 1 → (place : ℕ) → place < 256 → slice_index values place ≡ slice_index values 0
+one_run_is_equal values one zero low = refl
+one_run_is_equal values one (suc place) low =
+    let before = one_run_is_equal values one place (omega arith) in
+    let step = one_goes_on values one (suc place) (omega arith) low in
+    let e : slice_index values (suc place - 1) ≡ slice_index values place = ap (λ n. slice_index values n) (omega arith) in
+    step ∙ e ∙ before
+
+pub runs_few : (values : List ℕ) (place : ℕ) → runs_below values place ≤ place
+unfolding runs_below
+runs_few values zero = omega arith
+runs_few values (suc place) = let before = runs_few values place in let one = begins_few values place in omega arith
+
+-- from one place on no run begins but maybe there
+runs_flat : (values : List ℕ) (from more : ℕ) → ((place : ℕ) → from < place → place < from + suc more → slice_index values place ≡ slice_index values (place - 1)) → runs_below values (from + suc more) ≤ runs_below values from + 1
+runs_flat values from zero same =
+    let n = runs_next values from in let b = begins_few values from in
+    let e : runs_below values (from + 1) ≡ runs_below values (from + suc zero) = ap (λ n. runs_below values n) (omega arith) in omega arith
+runs_flat values from (suc more) same =
+    let before = runs_flat values from more (λ place h k. same place h (omega arith)) in
+    let n = runs_next values (from + suc more) in
+    let b = begins_same values (from + suc more) (omega arith) (same (from + suc more) (omega arith) (omega arith)) in
+    let e : runs_below values (from + suc more + 1) ≡ runs_below values (from + suc (suc more)) = ap (λ n. runs_below values n) (omega arith) in omega arith
+
+pub runs_at_once : (values : List ℕ) (from last : ℕ) → from < last → ((place : ℕ) → from < place → place < last → slice_index values place ≡ slice_index values (place - 1)) → runs_below values last ≤ runs_below values from + 1
+runs_at_once values from last low same =
+    let e : from + suc (last - from - 1) ≡ last = omega arith in
+    let h = runs_flat values from (last - from - 1) (λ place a b. same place a (omega arith)) in
+    let f = ap (λ n. runs_below values n) e in omega arith

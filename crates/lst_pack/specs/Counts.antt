@@ -1,5 +1,6 @@
 -- What a look at the values finds: how many runs they have, and their distinct values.
-use Rattle.std.specs.Prelude.{◌≡◌, ℕ, zero, suc, ◌+◌, ◌-◌, ◌<◌, ◌≤◌, ◌⊎◌, List, slice_index, nat_eq, if◌then◌else◌}
+use Rattle.std.specs.Prelude.{◌≡◌, ℕ, zero, suc, ◌+◌, ◌-◌, ◌*◌, ◌<◌, ◌≤◌, ◌⊎◌, List, slice_index, nat_eq, if◌then◌else◌}
+use Rattle.lst_pack.specs.Forms.{run_value, run_end}
 
 -- 1 where a run begins at the place: it is the first, or the value before it is another
 unfoldable pub begins : List ℕ → ℕ → ℕ
@@ -41,3 +42,9 @@ pub record IsGreatest (values : List ℕ) (place greatest : ℕ) : Type 0 where
 -- the value is this one, or among the first `count` known ones
 abbrev pub IsNew : List ℕ → ℕ → ℕ → ℕ → Type 0
 IsNew known count value other = (other ≡ value) ⊎ IsKnown known count other
+
+-- `later` is `words` with one more run, of the value before this place, up to the place
+pub record AddsRun (values words later : List ℕ) (runs place : ℕ) : Type 0 where
+  pub same : (word : ℕ) → word ≤ 2 * runs → slice_index later word ≡ slice_index words word
+  pub value : run_value later runs ≡ slice_index values (place - 1)
+  pub end : run_end later runs ≡ place

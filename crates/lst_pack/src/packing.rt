@@ -2,7 +2,7 @@
 ghost use Rattle.std.specs.Prelude.{◌≡◌, ℕ, ◌+◌, ◌-◌, ◌*◌, ◌/◌, ◌%◌, ◌^◌, ◌<◌, ◌≤◌, ◌⊎◌, length, slice_index};
 ghost use Rattle.lst_pack.specs.Forms.{IsWidth, PacksAs};
 ghost use Rattle.lst_pack.specs.Chosen.{IsSorted, IsTight, AreMaximal, IsChosen};
-ghost use Rattle.lst_pack.specs.Counts.{runs_below, AreKnown, IsLeast};
+ghost use Rattle.lst_pack.specs.Counts.{runs_below, AreKnown, IsLeast, AddsRun};
 ghost use Rattle.lst_pack.specs.declared.forms.Form.TheVariants.{Constant, Dictionary, Runs, Reference, Plain};
 
 use crate::forms::Form;
@@ -95,14 +95,23 @@ fn write_runs(values: &[u64; 256], runs: usize, out: &mut [u64; 257]) -> usize
     let mut run = 0;
     for place in 1..256 {
         if values[place] != values[place - 1] {
-            out[1 + 2 * run] = values[place - 1];
-            out[2 + 2 * run] = place as u64;
+            close_run(values, place, run, out);
             run += 1;
         }
     }
-    out[1 + 2 * run] = values[255];
-    out[2 + 2 * run] = 256;
+    close_run(values, 256, run, out);
     1 + 2 * runs
+}
+
+// Writes a run, with as many before it as `run`, of the value before this place.
+fn close_run(values: &[u64; 256], place: usize, run: usize, out: &mut [u64; 257])
+    requires place { place ≤ 256 }
+    requires some { 0 < place }
+    requires few { run < 128 }
+    ensures { AddsRun values.now out.old out.new run place }
+{
+    out[1 + 2 * run] = values[place - 1];
+    out[2 + 2 * run] = place as u64;
 }
 
 fn write_reference(values: &[u64; 256], least: u64, width: usize, out: &mut [u64; 257]) -> usize
