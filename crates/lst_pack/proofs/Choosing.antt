@@ -8,10 +8,12 @@ use Rattle.lst_pack.specs.declared.forms.Form.TheVariants.{Constant, Dictionary,
 use Rattle.lst_pack.specs.Forms.{code_at, difference_at, number_at, run_value, run_end, AreRuns, IsInRun, PacksAs}
 use Rattle.lst_pack.specs.Counts.{runs_below, AreKnown, IsLeast, IsGreatest}
 use Rattle.lst_pack.specs.Choices.{IsLeastWidth, MayStand}
+use Rattle.lst_pack.specs.Chosen.{IsAtMost}
 use Rattle.lst_pack.proofs.Counting.{runs_first, runs_next, runs_upto, runs_at_once}
 use Rattle.lst_pack.proofs.Numbers.{number_low}
+use Rattle.lst_pack.proofs.Runs.{ends_within}
 
-some_run : (values : List ℕ) → 1 ≤ runs_below values 256
+pub some_run : (values : List ℕ) → 1 ≤ runs_below values 256
 some_run values = let f = runs_first values in let u = runs_upto values 1 256 (omega arith) in omega arith
 
 no_run : (values : List ℕ) → runs_below values 0 ≡ 0
@@ -69,11 +71,18 @@ difference_within others values least greatest width is_least is_greatest stands
     omega (arith, a.2, b.2)
 
 -- whatever list of words stands for the values, its form is one that may stand
-pub may_stand : (values known : List ℕ) (distinct least greatest width : ℕ) → AreKnown values 256 known distinct → IsLeast values 256 least → IsGreatest values 256 greatest
-    → IsLeastWidth (greatest - least) width → ((others : List ℕ) (runs : ℕ) → AreRuns others runs → (run : ℕ) → run < runs → run_end others run ≤ 256)
+may_stand : (values known : List ℕ) (distinct least greatest width : ℕ) → AreKnown values 256 known distinct → IsLeast values 256 least → IsGreatest values 256 greatest
+    → IsLeastWidth (greatest - least) width
     → (other : Form) (others : List ℕ) → PacksAs other others values → MayStand (runs_below values 256) distinct width other
-may_stand values known distinct least greatest width are is_least is_greatest is_width within Constant others p = equal_is_one values (slice_index others 1) p.stands
-may_stand values known distinct least greatest width are is_least is_greatest is_width within (Dictionary size) others p = (distinct_at_most others values known size distinct are p.has.named p.stands, p.has.few)
-may_stand values known distinct least greatest width are is_least is_greatest is_width within (Runs runs) others p = (runs_at_most others values runs p.has (λ place run low is. p.stands place low run is) (within others runs p.has), p.has.few)
-may_stand values known distinct least greatest width are is_least is_greatest is_width within (Reference other) others p = (is_width.least other p.has.whole (difference_within others values least greatest other is_least is_greatest p.stands), p.has.whole)
-may_stand values known distinct least greatest width are is_least is_greatest is_width within Plain others p = tt
+may_stand values known distinct least greatest width are is_least is_greatest is_width Constant others p = equal_is_one values (slice_index others 1) p.stands
+may_stand values known distinct least greatest width are is_least is_greatest is_width (Dictionary size) others p = (distinct_at_most others values known size distinct are p.has.named p.stands, p.has.few)
+may_stand values known distinct least greatest width are is_least is_greatest is_width (Runs runs) others p = (runs_at_most others values runs p.has (λ place run low is. p.stands place low run is) (ends_within others runs p.has), p.has.few)
+may_stand values known distinct least greatest width are is_least is_greatest is_width (Reference other) others p = (is_width.least other p.has.whole (difference_within others values least greatest other is_least is_greatest p.stands), p.has.whole)
+may_stand values known distinct least greatest width are is_least is_greatest is_width Plain others p = tt
+
+-- so one that is at most each that may stand takes the fewest words
+pub fewest : (values known : List ℕ) (distinct least greatest width runs : ℕ) (form : Form) → runs ≡ runs_below values 256 → AreKnown values 256 known distinct → IsLeast values 256 least → IsGreatest values 256 greatest
+    → IsLeastWidth (greatest - least) width → ((other : Form) → MayStand runs distinct width other → IsAtMost form other)
+    → (other : Form) (others : List ℕ) → PacksAs other others values → IsAtMost form other
+fewest values known distinct least greatest width runs form counted are is_least is_greatest is_width each other others p =
+    each other (subst (λ (n : ℕ). MayStand n distinct width other) (sym counted) (may_stand values known distinct least greatest width are is_least is_greatest is_width other others p))
