@@ -1,9 +1,8 @@
 -- Laws of packed words.
-use Rattle.std.specs.Prelude.{◌≡◌, ℕ, ◌^◌, ◌<◌, ◌≤◌, List, length, slice_index}
+use Rattle.std.specs.Prelude.{◌≡◌, ℕ, ◌<◌, ◌≤◌, List, length, slice_index}
 use Rattle.std.specs.List.{All}
 use Rattle.lst_pack.specs.declared.forms.Form.{Form}
 use Rattle.lst_pack.specs.Forms.{form_words, PacksAs, Packs}
-use Rattle.lst_pack.specs.Chosen.{IsChosen}
 
 -- words stand for one list of values at most
 abbrev pub StandsForOne : Type 0
@@ -18,8 +17,3 @@ RestIsFree = (form : Form) (words others values : List ℕ) → PacksAs form wor
 abbrev pub ZerosAreZeros : Type 0
 ZerosAreZeros = (words values : List ℕ) → 257 ≤ length words → ((place : ℕ) → place < 257 → slice_index words place ≡ 0)
     → length values ≡ 256 → All (λ value. value ≡ 0) values → Packs words values
-
--- the words of the chosen form are determined by the values
-abbrev pub ChosenIsOne : Type 0
-ChosenIsOne = (words others values : List ℕ) (count more : ℕ) → All (λ word. word < 2 ^ 64) words → All (λ word. word < 2 ^ 64) others → IsChosen words values count → IsChosen others values more
-    → (count ≡ more) × ((place : ℕ) → place < count → slice_index words place ≡ slice_index others place)

@@ -2,12 +2,14 @@
 #![tactic(auto)]
 
 mod forms;
+mod laws;
 mod packing;
 mod single;
 mod survey;
 mod whole;
 
 pub use forms::Form;
+pub use laws::packed_words;
 pub use packing::pack;
 pub use single::{Words, get, get_from};
 pub use whole::unpack;

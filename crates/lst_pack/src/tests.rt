@@ -1,9 +1,11 @@
-ghost use Rattle.std.specs.Prelude.{◌<◌, ◌^◌};
+ghost use Rattle.std.specs.Prelude.{◌<◌};
+ghost use Rattle.lst_pack.specs.Forms.{IsPacked};
 
 use super::*;
 use std::process::Abort;
 
 // Words of a page that are loaded one by one.
+#[derive(Drop)]
 struct Loaded {
     page: [u64; 257],
 }
@@ -24,6 +26,13 @@ impl Words for Loaded {
     ghost later_on = { λ one other third a b. Prim.cc };
 }
 
+fn loaded_value(page: [u64; 257], place: u32) -> u64
+    requires place { place < 256 }
+    requires packed { IsPacked page }
+{
+    get_from(&mut Loaded { page }, place)
+}
+
 // Packs the values into words of which all bits are set, and reads them back by each of the three readers. Tells how many words
 // they take, and the first three.
 fn packed(rt: &impl Abort, values: &[u64; 256]) -> (usize, [u64; 3]) {
@@ -31,38 +40,35 @@ fn packed(rt: &impl Abort, values: &[u64; 256]) -> (usize, [u64; 3]) {
     let count = pack(values, &mut words);
     let mut read = [0; 256];
     unpack(&words, &mut read);
-    let mut loaded = Loaded { page: words };
     for place in 0..256 {
         assert_eq!(rt; get(&words, place), values[place]);
-        assert_eq!(rt; get_from(&mut loaded, place as u32), values[place]);
+        assert_eq!(rt; loaded_value(words, place as u32), values[place]);
         assert_eq!(rt; read[place], values[place]);
     }
-    let Loaded { page: _ } = loaded;
     (count, [words[0], words[1], words[2]])
 }
 
-// Base + i times `step` modulo `top`.
-fn counted(base: u64, step: u64, runs: u64) -> [u64; 256]
-    requires { 0 < runs }
+// At each place `base` and `step` times the place modulo `count`.
+fn counted(base: u64, step: u64, count: u64) -> [u64; 256]
+    requires { 0 < count }
 {
     let mut values = [0; 256];
     for place in 0..256 {
-        values[place] = (place as u64 % runs).wrapping_mul(step).wrapping_add(base);
+        values[place] = (place as u64 % count).wrapping_mul(step).wrapping_add(base);
     }
     values
 }
 
 // The value at each place is drawn from `base` to `base + top`; the first is `base` and the second `base + top`.
-fn drawn(base: u64, top: u64) -> [u64; 256]
-    requires { top < 2 ^ 63 }
-{
+fn drawn(base: u64, top: u64) -> [u64; 256] {
+    let span = if top < u64::MAX { top + 1 } else { top };
     let mut values = [base; 256];
     let mut state: u64 = 7;
     for place in 2..256 {
         state = state
             .wrapping_mul(6364136223846793005)
             .wrapping_add(1442695040888963407);
-        values[place] = base.wrapping_add((state >> 31) % (top + 1));
+        values[place] = base.wrapping_add((state >> 31) % span);
     }
     values[1] = base.wrapping_add(top);
     values
@@ -130,4 +136,9 @@ fn differences_take_the_least_width_that_holds_them(rt: HostRuntime) {
         let (words, [word, ..]) = packed(&rt, &drawn(base, top));
         assert_eq!(rt; (words, word), (count, first), "differences up to {top}");
     }
+}
+
+#[test]
+fn laws_hold() {
+    packed_words();
 }
