@@ -1,15 +1,15 @@
 -- No page in any form takes fewer words than what was found of its values leaves.
-use Rattle.std.proofs.Common.{◌≡◌, ◌≢◌, ℕ, zero, suc, ◌+◌, ◌-◌, ◌*◌, ◌^◌, ◌<◌, ◌≤◌, ◌⊎◌, ⊎_elim, inl, inr, List, length, slice_index, refl, ap, arith, subst, sym, ◌∙◌}
+use Rattle.std.proofs.Common.{◌≡◌, ℕ, zero, suc, ◌+◌, ◌-◌, ◌*◌, ◌^◌, ◌<◌, ◌≤◌, List, slice_index, refl, ap, arith, subst, sym, ◌∙◌}
 use mathlib.Core.Logic.{dite}
-use native.Mathlib.Decide.{dec_lt, ℕ_discrete}
+use native.Mathlib.Decide.{dec_lt}
 use Rattle.lst_probe.proofs.Counting.{pigeonhole_by}
 use Rattle.lst_pack.specs.declared.forms.Form.{Form}
 use Rattle.lst_pack.specs.declared.forms.Form.TheVariants.{Constant, Dictionary, Runs, Reference, Plain}
-use Rattle.lst_pack.specs.Forms.{code_at, difference_at, number_at, run_value, run_end, AreRuns, IsInRun, PacksAs}
+use Rattle.lst_pack.specs.Forms.{code_at, difference_at, run_value, run_end, AreRuns, IsInRun, PacksAs}
 use Rattle.lst_pack.specs.Counts.{runs_below, AreKnown, IsLeast, IsGreatest}
 use Rattle.lst_pack.specs.Choices.{IsLeastWidth, MayStand}
 use Rattle.lst_pack.specs.Chosen.{IsAtMost}
-use Rattle.lst_pack.proofs.Counting.{runs_first, runs_next, runs_upto, runs_at_once}
+use Rattle.lst_pack.proofs.Counting.{runs_first, runs_upto, runs_at_once}
 use Rattle.lst_pack.proofs.Numbers.{number_low}
 use Rattle.lst_pack.proofs.Runs.{ends_within}
 
@@ -31,8 +31,8 @@ begun : (others values : List ℕ) (runs : ℕ) → AreRuns others runs → ((pl
 begun others values runs are stands within zero low =
     let w = within 0 low in
     let h = runs_at_once values 0 (run_end others 0) are.begins (λ place a b.
-        stands place 0 (omega arith) (record { one = low; from = λ h. absurd (omega arith); below = b })
-        ∙ sym (stands (place - 1) 0 (omega arith) (record { one = low; from = λ h. absurd (omega arith); below = omega arith }))) in
+    stands place 0 (omega arith) (record { one = low; from = λ h. absurd (omega arith); below = b })
+    ∙ sym (stands (place - 1) 0 (omega arith) (record { one = low; from = λ h. absurd (omega arith); below = omega arith }))) in
     let z = no_run values in omega arith
 begun others values runs are stands within (suc run) low =
     let w = within (suc run) low in
@@ -42,8 +42,8 @@ begun others values runs are stands within (suc run) low =
     let r = are.rising run (omega arith) in
     let start : slice_index others (2 * suc run) ≡ run_end others run = ap (λ n. slice_index others n) (omega arith) in
     let h = runs_at_once values (run_end others run) (run_end others (suc run)) (omega arith) (λ place a b.
-        stands place (suc run) (omega arith) (record { one = low; from = λ h. omega arith; below = b })
-        ∙ sym (stands (place - 1) (suc run) (omega arith) (record { one = low; from = λ h. omega arith; below = omega arith }))) in
+    stands place (suc run) (omega arith) (record { one = low; from = λ h. omega arith; below = b })
+    ∙ sym (stands (place - 1) (suc run) (omega arith) (record { one = low; from = λ h. omega arith; below = omega arith }))) in
     omega arith
 
 runs_at_most : (others values : List ℕ) (runs : ℕ) → AreRuns others runs → ((place run : ℕ) → place < 256 → IsInRun others runs place run → slice_index values place ≡ run_value others run)
@@ -58,9 +58,9 @@ distinct_at_most : (others values known : List ℕ) (size distinct : ℕ) → Ar
     → ((place : ℕ) → place < 256 → slice_index values place ≡ slice_index others (1 + code_at others size place)) → distinct ≤ size
 distinct_at_most others values known size distinct are named stands =
     pigeonhole_by distinct size (λ i j. slice_index known i ≡ slice_index others (1 + j))
-        (λ i low. let s = are.standing i low in (code_at others size s.0, named s.0 s.1, sym s.2 ∙ stands s.0 s.1))
-        (λ i k j low other a b. dite (dec_lt i k) (λ (h : i < k). let r = are.rising i k h other in absurd (omega arith))
-            (λ no. dite (dec_lt k i) (λ (h : k < i). let r = are.rising k i h low in absurd (omega arith)) (λ neither. omega (arith, no, neither))))
+    (λ i low. let s = are.standing i low in (code_at others size s.0, named s.0 s.1, sym s.2 ∙ stands s.0 s.1))
+    (λ i k j low other a b. dite (dec_lt i k) (λ (h : i < k). let r = are.rising i k h other in absurd (omega arith))
+    (λ no. dite (dec_lt k i) (λ (h : k < i). let r = are.rising k i h low in absurd (omega arith)) (λ neither. omega (arith, no, neither))))
 
 difference_within : (others values : List ℕ) (least greatest width : ℕ) → IsLeast values 256 least → IsGreatest values 256 greatest
     → ((place : ℕ) → place < 256 → slice_index values place ≡ slice_index others 1 + difference_at others width place) → greatest - least < 2 ^ width

@@ -1,9 +1,9 @@
 -- Runs that are written one after another.
-use Rattle.std.proofs.Common.{◌≡◌, ◌≢◌, ℕ, ◌+◌, ◌-◌, ◌*◌, ◌<◌, ◌≤◌, ◌⊎◌, ⊎_elim, inl, inr, List, length, slice_index, refl, ap, arith, subst, sym, ◌∙◌}
+use Rattle.std.proofs.Common.{◌≡◌, ◌≢◌, ℕ, ◌+◌, ◌-◌, ◌*◌, ◌<◌, ◌≤◌, List, length, slice_index, ap, arith, sym, ◌∙◌}
 use mathlib.Core.Logic.{dite}
-use native.Mathlib.Decide.{dec_lt, ℕ_discrete}
-use Rattle.lst_pack.specs.declared.forms.Form.TheVariants.{Constant, Dictionary, Runs, Reference, Plain}
-use Rattle.lst_pack.specs.Forms.{run_value, run_end, AreRuns, IsInRun, PacksAs}
+use native.Mathlib.Decide.{dec_lt}
+use Rattle.lst_pack.specs.declared.forms.Form.TheVariants.{Runs}
+use Rattle.lst_pack.specs.Forms.{run_value, run_end, IsInRun, PacksAs}
 use Rattle.lst_pack.specs.Chosen.{AreMaximal}
 use Rattle.lst_pack.specs.Counts.{AddsRun}
 
@@ -32,27 +32,28 @@ none_open values out = record {
 pub run_closed : (values out later : List ℕ) (runs place : ℕ) → 0 < place → IsOpen values out runs place → AddsRun values out later runs place → AreClosed values later (runs + 1)
 run_closed values out later runs place some is adds = record {
   begins = λ _. dite (dec_lt 0 runs) (λ (h : 0 < runs). let b = is.closed.begins h in let e = same_end 0 h in omega arith)
-    (λ no. let e : run_end later runs ≡ run_end later 0 = ap (λ n. run_end later n) (let z : runs ≡ 0 = omega (arith, no) in z) in omega (arith, adds.end));
+      (λ no. let e : run_end later runs ≡ run_end later 0 = ap (λ n. run_end later n) (let z : runs ≡ 0 = omega (arith, no) in z) in omega (arith, adds.end));
   rising = λ run h. dite (dec_lt (run + 1) runs) (λ (low : run + 1 < runs). let r = is.closed.rising run low in let a = same_end run (omega arith) in let b = same_end (run + 1) low in omega arith)
-    (λ no. let z : run + 1 ≡ runs = omega (arith, no) in let a = same_end run (omega arith) in let p = is.past (omega arith) in
-        let f : run_end out run ≡ slice_index out (2 * runs) = ap (λ n. slice_index out n) (omega arith) in
-        let g = ap (λ n. run_end later n) z in omega (arith, adds.end));
+      (λ no. let z : run + 1 ≡ runs = omega (arith, no) in let a = same_end run (omega arith) in let p = is.past (omega arith) in
+      let f : run_end out run ≡ slice_index out (2 * runs) = ap (λ n. slice_index out n) (omega arith) in
+      let g = ap (λ n. run_end later n) z in omega (arith, adds.end));
   stands = λ p run in_run. dite (dec_lt run runs)
-    (λ (low : run < runs). is.closed.stands p run (record {
+      (λ (low : run < runs). is.closed.stands p run (record {
         one = low;
         from = λ h. let f = in_run.from h in let e = adds.same (2 * run) (omega arith) in omega arith;
-        below = let b = in_run.below in let e = same_end run low in omega arith })
+        below = let b = in_run.below in let e = same_end run low in omega arith;
+      })
       ∙ sym (same_value run low))
-    (λ no. let z : run ≡ runs = omega (arith, no, in_run.one) in
-        let e = ap (λ n. run_end later n) z in
-        let b = in_run.below in
-        is.goes_on p (λ h. let f = in_run.from (omega arith) in let g = ap (λ n. slice_index later (2 * n)) z in let s = adds.same (2 * runs) (omega arith) in omega arith) (omega (arith, adds.end))
-        ∙ sym adds.value ∙ ap (λ n. run_value later n) (sym z));
+      (λ no. let z : run ≡ runs = omega (arith, no, in_run.one) in
+      let e = ap (λ n. run_end later n) z in
+      let b = in_run.below in
+      is.goes_on p (λ h. let f = in_run.from (omega arith) in let g = ap (λ n. slice_index later (2 * n)) z in let s = adds.same (2 * runs) (omega arith) in omega arith) (omega (arith, adds.end))
+      ∙ sym adds.value ∙ ap (λ n. run_value later n) (sym z));
   maximal = λ run h equal. dite (dec_lt (run + 1) runs)
-    (λ (low : run + 1 < runs). is.closed.maximal run low (sym (same_value run (omega arith)) ∙ equal ∙ same_value (run + 1) low))
-    (λ no. let z : run + 1 ≡ runs = omega (arith, no) in
-        let y : runs - 1 ≡ run = omega arith in
-        is.other (omega arith) (ap (λ n. run_value out n) y ∙ sym (same_value run (omega arith)) ∙ equal ∙ ap (λ n. run_value later n) z ∙ adds.value));
+      (λ (low : run + 1 < runs). is.closed.maximal run low (sym (same_value run (omega arith)) ∙ equal ∙ same_value (run + 1) low))
+      (λ no. let z : run + 1 ≡ runs = omega (arith, no) in
+      let y : runs - 1 ≡ run = omega arith in
+      is.other (omega arith) (ap (λ n. run_value out n) y ∙ sym (same_value run (omega arith)) ∙ equal ∙ ap (λ n. run_value later n) z ∙ adds.value));
 }
   where
     same_end : (run : ℕ) → run < runs → run_end later run ≡ run_end out run
@@ -69,7 +70,7 @@ next_open values out later runs place some is adds new = record {
   past = λ _. omega (arith, at_end);
   goes_on = λ before from low. ap (λ n. slice_index values n) (let f = from (omega arith) in let e : before ≡ place + 1 - 1 = omega (arith, at_end) in e);
   other = λ _ equal. let y : runs + 1 - 1 ≡ runs = omega arith in let z : place + 1 - 1 ≡ place = omega arith in
-    new (sym (ap (λ n. slice_index values n) z) ∙ sym equal ∙ ap (λ n. run_value later n) y ∙ adds.value);
+      new (sym (ap (λ n. slice_index values n) z) ∙ sym equal ∙ ap (λ n. run_value later n) y ∙ adds.value);
 }
   where
     at_end : slice_index later (2 * (runs + 1)) ≡ place
@@ -81,7 +82,7 @@ still_open values out runs place some is same = record {
   closed = is.closed;
   past = λ h. let p = is.past h in omega arith;
   goes_on = λ before from low. let z : place ≡ place + 1 - 1 = omega arith in
-    dite (dec_lt before place) (λ (h : before < place). is.goes_on before from h ∙ sym same ∙ ap (λ n. slice_index values n) z)
+      dite (dec_lt before place) (λ (h : before < place). is.goes_on before from h ∙ sym same ∙ ap (λ n. slice_index values n) z)
       (λ past. ap (λ n. slice_index values n) (let e : before ≡ place + 1 - 1 = omega (arith, past) in e));
   other = λ h equal. let z : place + 1 - 1 ≡ place = omega arith in is.other h (equal ∙ ap (λ n. slice_index values n) z ∙ same);
 }
@@ -90,17 +91,19 @@ still_open values out runs place some is same = record {
 pub runs_written : (values out later : List ℕ) (runs : ℕ) → runs + 1 ≤ 128 → slice_index out 0 ≡ 3 + 8 * (runs + 1) → length later ≡ 257 → length values ≡ 256
     → IsOpen values out runs 256 → AddsRun values out later runs 256 → PacksAs (Runs (runs + 1)) later values × AreMaximal later (runs + 1)
 runs_written values out later runs few first long full is adds =
-    let closed = run_closed values out later runs 256 (omega arith) is adds in
-    (record {
-      first = adds.same 0 (omega arith) ∙ first;
-      long = omega arith;
-      has = record {
-        some = omega arith;
-        few = few;
-        begins = closed.begins (omega arith);
-        rising = closed.rising;
-        last = ap (λ n. slice_index later n) (let e : 2 * (runs + 1) ≡ 2 + 2 * runs = omega arith in e) ∙ adds.end;
-      };
-      full = full;
-      stands = λ place low run in_run. closed.stands place run in_run;
-    }, closed.maximal)
+    let closed = run_closed values out later runs 256 (omega arith) is adds in (
+      record {
+        first = adds.same 0 (omega arith) ∙ first;
+        long = omega arith;
+        has = record {
+          some = omega arith;
+          few = few;
+          begins = closed.begins (omega arith);
+          rising = closed.rising;
+          last = ap (λ n. slice_index later n) (let e : 2 * (runs + 1) ≡ 2 + 2 * runs = omega arith in e) ∙ adds.end;
+        };
+        full = full;
+        stands = λ place low run in_run. closed.stands place run in_run;
+      },
+      closed.maximal,
+    )

@@ -1,5 +1,5 @@
 -- How the counts grow from one place to the next.
-use Rattle.std.proofs.Common.{◌≡◌, ◌≢◌, ℕ, zero, suc, ◌+◌, ◌-◌, ◌*◌, ◌<◌, ◌≤◌, ◌⊎◌, ⊎_elim, inl, inr, List, slice_index, refl, ap, arith, subst, sym, ◌∙◌, add-one, eq-eqb, ne_eqb, cond, nat_eq, true, false}
+use Rattle.std.proofs.Common.{◌≡◌, ◌≢◌, ℕ, zero, suc, ◌+◌, ◌-◌, ◌<◌, ◌≤◌, ◌⊎◌, ⊎_elim, List, slice_index, refl, ap, arith, subst, sym, ◌∙◌, add-one, eq-eqb, ne_eqb, cond, nat_eq, true, false}
 use mathlib.Core.Logic.{dite}
 use native.Mathlib.Decide.{dec_lt, ℕ_discrete}
 use Rattle.lst_pack.specs.Counts.{begins, runs_below, IsKnown, IsNew, StandsBelow, Rises, AreKnown, IsLeast, IsGreatest}
@@ -42,7 +42,7 @@ known_on values place known count are here = record {
   rising = are.rising;
   standing = λ code low. stands_on values place _ (are.standing code low);
   all = λ few before low. dite (dec_lt before place) (λ (h : before < place). are.all few before h)
-    (λ past. let e : place ≡ before = omega (arith, past) in subst (λ (n : ℕ). IsKnown known count (slice_index values n)) e (here few));
+      (λ past. let e : place ≡ before = omega (arith, past) in subst (λ (n : ℕ). IsKnown known count (slice_index values n)) e (here few));
 }
 
 pub known_learnt : (values : List ℕ) (place : ℕ) (known later : List ℕ) (count more : ℕ) → AreKnown values place known count → count ≤ 16 → more ≤ 17 → Rises later more
@@ -52,9 +52,9 @@ known_learnt values place known later count more are few within rises new kept o
   few = within;
   rising = rises;
   standing = λ code low. ⊎_elim (λ (e : slice_index later code ≡ slice_index values place). (place, omega arith, sym e))
-    (λ (k : IsKnown known count (slice_index later code)). let s = are.standing k.0 k.1 in (s.0, omega (arith, s.1), s.2 ∙ k.2)) (others code low);
+      (λ (k : IsKnown known count (slice_index later code)). let s = are.standing k.0 k.1 in (s.0, omega (arith, s.1), s.2 ∙ k.2)) (others code low);
   all = λ _ before low. dite (dec_lt before place) (λ (h : before < place). kept _ (are.all few before h))
-    (λ past. let e : place ≡ before = omega (arith, past) in subst (λ (n : ℕ). IsKnown later more (slice_index values n)) e new);
+      (λ past. let e : place ≡ before = omega (arith, past) in subst (λ (n : ℕ). IsKnown later more (slice_index values n)) e new);
 }
 
 pub least_on : (values : List ℕ) (place least smaller : ℕ) → IsLeast values place least → smaller ≤ least → smaller ≤ slice_index values place
@@ -62,7 +62,7 @@ pub least_on : (values : List ℕ) (place least smaller : ℕ) → IsLeast value
 least_on values place least smaller is under here one = record {
   stands = ⊎_elim (λ (e : smaller ≡ least). (is.stands.0, omega (arith, is.stands.1), is.stands.2 ∙ sym e)) (λ (e : smaller ≡ slice_index values place). (place, omega arith, sym e)) one;
   bound = λ before low. dite (dec_lt before place) (λ (h : before < place). let b = is.bound before h in omega arith)
-    (λ past. let e : place ≡ before = omega (arith, past) in subst (λ (n : ℕ). smaller ≤ slice_index values n) e here);
+      (λ past. let e : place ≡ before = omega (arith, past) in subst (λ (n : ℕ). smaller ≤ slice_index values n) e here);
 }
 
 pub greatest_on : (values : List ℕ) (place greatest larger : ℕ) → IsGreatest values place greatest → greatest ≤ larger → slice_index values place ≤ larger
@@ -70,7 +70,7 @@ pub greatest_on : (values : List ℕ) (place greatest larger : ℕ) → IsGreate
 greatest_on values place greatest larger is above here one = record {
   stands = ⊎_elim (λ (e : larger ≡ greatest). (is.stands.0, omega (arith, is.stands.1), is.stands.2 ∙ sym e)) (λ (e : larger ≡ slice_index values place). (place, omega arith, sym e)) one;
   bound = λ before low. dite (dec_lt before place) (λ (h : before < place). let b = is.bound before h in omega arith)
-    (λ past. let e : place ≡ before = omega (arith, past) in subst (λ (n : ℕ). slice_index values n ≤ larger) e here);
+      (λ past. let e : place ≡ before = omega (arith, past) in subst (λ (n : ℕ). slice_index values n ≤ larger) e here);
 }
 
 -- ---- the first place
@@ -112,7 +112,7 @@ runs_upto values place last low = let h = runs_mono values place (last - place) 
 one_goes_on : (values : List ℕ) → runs_below values 256 ≡ 1 → (place : ℕ) → 0 < place → place < 256 → slice_index values place ≡ slice_index values (place - 1)
 one_goes_on values one place later low = dite (ℕ_discrete (slice_index values place) (slice_index values (place - 1))) (λ e. e)
     (λ ne. let b = begins_other values place later ne in let n = runs_next values place in let f = runs_first values in
-        let u = runs_upto values 1 place later in let t = runs_upto values (place + 1) 256 (omega arith) in absurd (omega arith))
+    let u = runs_upto values 1 place later in let t = runs_upto values (place + 1) 256 (omega arith) in absurd (omega arith))
 
 pub one_run_is_equal : (values : List ℕ) → runs_below values 256 ≡ 1 → (place : ℕ) → place < 256 → slice_index values place ≡ slice_index values 0
 one_run_is_equal values one zero low = refl

@@ -1,8 +1,8 @@
 -- A value put among others that rise.
-use Rattle.std.proofs.Common.{◌≡◌, ◌≢◌, ℕ, ◌+◌, ◌-◌, ◌<◌, ◌≤◌, ◌⊎◌, ⊎_elim, inl, inr, List, slice_index, refl, ap, arith, subst, sym, ◌∙◌}
+use Rattle.std.proofs.Common.{◌≡◌, ◌≢◌, ℕ, ◌+◌, ◌-◌, ◌<◌, ◌≤◌, ◌⊎◌, ⊎_elim, inl, inr, List, slice_index, ap, arith, sym, ◌∙◌}
 use mathlib.Core.Logic.{dite}
 use native.Mathlib.Decide.{dec_lt, ℕ_discrete}
-use Rattle.lst_pack.specs.Counts.{IsKnown, IsNew, Rises}
+use Rattle.lst_pack.specs.Counts.{IsNew, Rises}
 
 -- `later` is `known` with the value put in at this place
 pub record IsInserted (known later : List ℕ) (count at value : ℕ) : Type 0 where
@@ -21,11 +21,11 @@ pub inserted_rises : (known later : List ℕ) (count at value : ℕ) → IsInser
     → ((code : ℕ) → code < at → slice_index known code < value) → ((code : ℕ) → at ≤ code → code < count → value < slice_index known code) → Rises later (count + 1)
 inserted_rises known later count at value is rises below above code next order low =
     ⊎_elim (λ (a : (code < at) × (slice_index later code ≡ slice_index known code)).
-        ⊎_elim (λ (b : (next < at) × (slice_index later next ≡ slice_index known next)). let within = is.within in let r = rises code next order (omega arith) in omega arith)
-        (λ (rest : ((next ≡ at) × (slice_index later next ≡ value)) ⊎ ((at < next) × (slice_index later next ≡ slice_index known (next - 1)))).
-        ⊎_elim (λ (b : (next ≡ at) × (slice_index later next ≡ value)). let r = below code a.0 in omega arith)
-        (λ (b : (at < next) × (slice_index later next ≡ slice_index known (next - 1))). let r = below code a.0 in let s = above (next - 1) (omega arith) (omega arith) in omega arith) rest)
-        (item known later count at value is next low))
+    ⊎_elim (λ (b : (next < at) × (slice_index later next ≡ slice_index known next)). let within = is.within in let r = rises code next order (omega arith) in omega arith)
+    (λ (rest : ((next ≡ at) × (slice_index later next ≡ value)) ⊎ ((at < next) × (slice_index later next ≡ slice_index known (next - 1)))).
+    ⊎_elim (λ (b : (next ≡ at) × (slice_index later next ≡ value)). let r = below code a.0 in omega arith)
+    (λ (b : (at < next) × (slice_index later next ≡ slice_index known (next - 1))). let r = below code a.0 in let s = above (next - 1) (omega arith) (omega arith) in omega arith) rest)
+    (item known later count at value is next low))
     (λ (rest : ((code ≡ at) × (slice_index later code ≡ value)) ⊎ ((at < code) × (slice_index later code ≡ slice_index known (code - 1)))).
     ⊎_elim (λ (a : (code ≡ at) × (slice_index later code ≡ value)). let b = after next (omega arith, omega arith) in let s = above (next - 1) (omega arith) (omega arith) in omega arith)
     (λ (a : (at < code) × (slice_index later code ≡ slice_index known (code - 1))). let b = after next (omega arith, omega arith) in let s = rises (code - 1) (next - 1) (omega arith) (omega arith) in omega arith) rest)

@@ -1,5 +1,5 @@
 -- Numbers of some bits in words.
-use Rattle.std.proofs.Common.{◌≡◌, ℕ, zero, suc, ◌+◌, ◌-◌, ◌*◌, ◌/◌, ◌%◌, ◌^◌, ◌<◌, ◌≤◌, List, slice_index, refl, ap, ◌∙◌, arith, subst, sym, inl, inr, ⊎_elim, ◌⊎◌}
+use Rattle.std.proofs.Common.{◌≡◌, ℕ, zero, suc, ◌+◌, ◌-◌, ◌*◌, ◌/◌, ◌%◌, ◌^◌, ◌<◌, ◌≤◌, List, slice_index, refl, ap, ◌∙◌, arith, subst, sym, ⊎_elim, ◌⊎◌}
 use Rattle.std.proofs.Math.Nat.{mul-le-mul_right, div-div-eq-div-mul, pow-le-pow_right, one-le-pow}
 use Rattle.std.proofs.lemmas.Nat.{div-mul-add, pow-add, div-add-mod'}
 use Rattle.std.proofs.Math.Arith.{digits_mod}

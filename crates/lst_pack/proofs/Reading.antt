@@ -1,9 +1,9 @@
 -- What the first word of a packed page says of the others.
-use Rattle.std.proofs.Common.{◌≡◌, ℕ, ◌+◌, ◌*◌, ◌/◌, ◌%◌, ◌^◌, ◌<◌, ◌≤◌, inl, inr, List, length, slice_index, refl, ap, arith, subst, sym, ◌∙◌}
+use Rattle.std.proofs.Common.{◌≡◌, ℕ, ◌+◌, ◌*◌, ◌/◌, ◌%◌, ◌^◌, ◌<◌, inl, inr, List, length, slice_index, refl, ap, arith, subst, sym, ◌∙◌}
 use Rattle.std.proofs.lemmas.Grind.{same_number_lists}
 use Rattle.lst_pack.specs.declared.forms.Form.{Form}
 use Rattle.lst_pack.specs.declared.forms.Form.TheVariants.{Constant, Dictionary, Runs, Reference, Plain}
-use Rattle.lst_pack.specs.Forms.{number_at, code_at, run_value, difference_at, IsWidth, IsInRun, PacksAs, Packs}
+use Rattle.lst_pack.specs.Forms.{number_at, code_at, difference_at, IsWidth, PacksAs, Packs}
 use Rattle.lst_pack.specs.Laws.{StandsForOne, RestIsFree, ZerosAreZeros}
 use Rattle.lst_pack.proofs.Numbers.{number_of_page, word_within}
 use Rattle.lst_pack.proofs.Runs.{in_one}
@@ -102,10 +102,11 @@ rest_is_free (Runs runs) words others values p long same = record {
   };
   full = p.full;
   stands = λ place low run is. let one = is.one in p.stands place low run (record {
-      one = is.one;
-      from = λ h. let f = is.from h in let e = same (2 * run) (omega arith) in omega arith;
-      below = let b = is.below in let e = same (2 + 2 * run) (omega arith) in omega arith })
-    ∙ sym (same (1 + 2 * run) (omega arith));
+    one = is.one;
+    from = λ h. let f = is.from h in let e = same (2 * run) (omega arith) in omega arith;
+    below = let b = is.below in let e = same (2 + 2 * run) (omega arith) in omega arith;
+  })
+      ∙ sym (same (1 + 2 * run) (omega arith));
 }
 rest_is_free (Reference width) words others values p long same = record {
   first = same 0 (omega arith) ∙ p.first;

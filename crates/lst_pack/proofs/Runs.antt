@@ -1,5 +1,5 @@
 -- Runs in words: their ends rise, and a place is in one of them.
-use Rattle.std.proofs.Common.{◌≡◌, ℕ, zero, suc, ◌+◌, ◌-◌, ◌*◌, ◌<◌, ◌≤◌, List, slice_index, refl, ap, arith, subst, sym, ◌∙◌}
+use Rattle.std.proofs.Common.{◌≡◌, ℕ, zero, suc, ◌+◌, ◌-◌, ◌*◌, ◌<◌, ◌≤◌, List, slice_index, ap, arith}
 use mathlib.Core.Logic.{dite}
 use native.Mathlib.Decide.{dec_lt}
 use Rattle.lst_pack.specs.Forms.{run_end, AreRuns, IsInRun}
@@ -45,10 +45,10 @@ in_some words runs place zero within some low = absurd (omega arith)
 in_some words runs place (suc run) within some low =
     let e : slice_index words (2 * suc run) ≡ run_end words run = ap (λ n. slice_index words n) (omega arith) in
     dite (dec_lt 0 run)
-        (λ (later : 0 < run). dite (dec_lt place (slice_index words (2 * run)))
-            (λ (before : place < slice_index words (2 * run)). in_some words runs place run (omega arith) later before)
-            (λ past. (run, record { one = omega arith; from = λ _. omega (arith, past); below = omega arith })))
-        (λ first. (run, record { one = omega arith; from = λ h. absurd (first h); below = omega arith }))
+    (λ (later : 0 < run). dite (dec_lt place (slice_index words (2 * run)))
+    (λ (before : place < slice_index words (2 * run)). in_some words runs place run (omega arith) later before)
+    (λ past. (run, record { one = omega arith; from = λ _. omega (arith, past); below = omega arith })))
+    (λ first. (run, record { one = omega arith; from = λ h. absurd (first h); below = omega arith }))
 
 pub in_one : (words : List ℕ) (runs place : ℕ) → AreRuns words runs → place < 256 → (run : ℕ) × IsInRun words runs place run
 in_one words runs place are low = in_some words runs place runs (omega arith) are.some (omega (arith, are.last))

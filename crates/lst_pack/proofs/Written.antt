@@ -1,10 +1,10 @@
 -- Words that were written as a page in a form.
-use Rattle.std.proofs.Common.{◌≡◌, ◌≢◌, ℕ, ◌+◌, ◌-◌, ◌*◌, ◌/◌, ◌%◌, ◌^◌, ◌<◌, ◌≤◌, ◌⊎◌, ⊎_elim, inl, inr, List, length, slice_index, refl, ap, arith, subst, sym, ◌∙◌}
+use Rattle.std.proofs.Common.{◌≡◌, ℕ, ◌+◌, ◌-◌, ◌*◌, ◌/◌, ◌%◌, ◌^◌, ◌<◌, ◌≤◌, inl, inr, List, length, slice_index, refl, ap, arith, subst, sym, ◌∙◌}
 use mathlib.Core.Logic.{dite}
-use native.Mathlib.Decide.{dec_lt, ℕ_discrete}
+use native.Mathlib.Decide.{dec_lt}
 use Rattle.std.proofs.lemmas.Nat.{div-add-mod'}
-use Rattle.lst_pack.specs.declared.forms.Form.TheVariants.{Constant, Dictionary, Runs, Reference, Plain}
-use Rattle.lst_pack.specs.Forms.{number_at, code_at, difference_at, run_value, run_end, IsWidth, AreRuns, IsInRun, PacksAs}
+use Rattle.lst_pack.specs.declared.forms.Form.TheVariants.{Dictionary, Reference}
+use Rattle.lst_pack.specs.Forms.{code_at, difference_at, IsWidth, PacksAs}
 use Rattle.lst_pack.specs.Counts.{IsKnown, Rises}
 use Rattle.lst_pack.proofs.Numbers.{number_of_page, per_some, word_within}
 
@@ -14,8 +14,8 @@ pub found : (known : List ℕ) (count value place : ℕ) → Rises known count �
 found known count value place rises is below from = dite (dec_lt is.0 place)
     (λ (h : is.0 < place). let b = below is.0 h in absurd (omega (arith, is.2)))
     (λ past. dite (dec_lt place is.0)
-        (λ (h : place < is.0). let r = rises place is.0 h is.1 in let f = from place (omega arith) (omega (arith, is.1)) in absurd (omega (arith, is.2)))
-        (λ no. let e : is.0 ≡ place = omega (arith, past, no) in (omega (arith, is.1, e), sym (ap (λ n. slice_index known n) e) ∙ is.2)))
+    (λ (h : place < is.0). let r = rises place is.0 h is.1 in let f = from place (omega arith) (omega (arith, is.1)) in absurd (omega (arith, is.2)))
+    (λ no. let e : is.0 ≡ place = omega (arith, past, no) in (omega (arith, is.1, e), sym (ap (λ n. slice_index known n) e) ∙ is.2)))
 
 pub dictionary_written : (out known values : List ℕ) (size : ℕ) → size ≤ 16 → slice_index out 0 ≡ 2 + 8 * size → length out ≡ 257 → length values ≡ 256
     → ((code : ℕ) → code < size → slice_index out (1 + code) ≡ slice_index known code)
@@ -27,8 +27,8 @@ dictionary_written out known values size few first long full stored codes = reco
   has = record { few = few; named = λ place low. subst (λ (n : ℕ). n < size) (sym (code place)) (codes (place / 16) (place % 16) (omega arith) (omega arith)).0 };
   full = full;
   stands = λ place low. let c = codes (place / 16) (place % 16) (omega arith) (omega arith) in
-    let e : place / 16 * 16 + place % 16 ≡ place = div-add-mod' place 16 in
-    sym (ap (λ n. slice_index values n) e) ∙ sym c.1 ∙ sym (stored _ c.0) ∙ ap (λ n. slice_index out (1 + n)) (sym (code place));
+      let e : place / 16 * 16 + place % 16 ≡ place = div-add-mod' place 16 in
+      sym (ap (λ n. slice_index values n) e) ∙ sym c.1 ∙ sym (stored _ c.0) ∙ ap (λ n. slice_index out (1 + n)) (sym (code place));
 }
   where
     code : (place : ℕ) → code_at out size place ≡ slice_index out (1 + size + place / 16) / 2 ^ (place % 16 * 4) % 2 ^ 4

@@ -65,12 +65,18 @@ pub fn get_from<W: Words>(words: &mut W, i: u32) -> u64
     ensures later { W.later words.old words.new }
 {
     let first = words.word(0);
-    match first % 8 {
-        1 => words.word(1),
-        2 => named_value(words, (first / 8) as u32, i),
-        3 => run_value(words, (first / 8) as u32, i),
-        4 => referred_value(words, (first / 8) as u32, i),
-        _ => words.word(1 + i),
+    let kind = first % 8;
+    // The two forms that take the most steps are told first.
+    if kind == 4 {
+        referred_value(words, (first / 8) as u32, i)
+    } else if kind == 2 {
+        named_value(words, (first / 8) as u32, i)
+    } else if first == 0 {
+        words.word(1 + i)
+    } else if first == 1 {
+        words.word(1)
+    } else {
+        run_value(words, (first / 8) as u32, i)
     }
 }
 

@@ -1,12 +1,6 @@
-use Rattle.std.proofs.Common.{rules, ◌≡◌, ◌≢◌, ℕ, ◌+◌, ◌*◌, ◌-◌, ◌<◌, ◌≤◌, List, slice_index, length, arith, refl, ◌∙◌, sym, subst, ap}
-use Rattle.lst_pack.specs.declared.forms.Form.{Form}
-use Rattle.lst_pack.specs.declared.forms.Form.TheVariants.{Constant, Dictionary, Runs, Reference, Plain}
-use Rattle.lst_pack.specs.Forms.{PacksAs}
-use Rattle.lst_pack.specs.Counts.{runs_below}
-use Rattle.lst_pack.specs.Choices.{MayStand}
-use Rattle.lst_pack.specs.Chosen.{IsAtMost}
+use Rattle.std.proofs.Common.{arith}
+use Rattle.lst_pack.specs.declared.forms.Form.TheVariants.{Dictionary, Runs, Reference, Plain}
 use Rattle.lst_pack.proofs.Counting.{runs_few}
-use Rattle.lst_pack.proofs.Runs.{ends_within}
 use Rattle.lst_pack.proofs.Choosing.{some_run, fewest}
 use Rattle.lst_pack.proofs.packing.pack.Goals as goal
 
@@ -23,7 +17,7 @@ returns-in-Dictionary c = record {
   packs = c.write_dictionary.ensures.packs;
   proper = c.write_dictionary.ensures.sorted;
   fewest = fewest c.args.values.now c.survey_of-found.result.known c.survey_of-found.result.distinct c.survey_of-found.result.least c.survey_of-found.result.greatest c.width_of-width.result
-    c.survey_of-found.result.runs (Dictionary c.in-Dictionary.size) c.survey_of-found.ensures.runs c.survey_of-found.ensures.known c.survey_of-found.ensures.least c.survey_of-found.ensures.greatest c.width_of-width.ensures c.in-Dictionary.ensures.fewest;
+      c.survey_of-found.result.runs (Dictionary c.in-Dictionary.size) c.survey_of-found.ensures.runs c.survey_of-found.ensures.known c.survey_of-found.ensures.least c.survey_of-found.ensures.greatest c.width_of-width.ensures c.in-Dictionary.ensures.fewest;
 }
 
 pub returns-in-Runs : goal.returns-in-Runs
@@ -33,7 +27,7 @@ returns-in-Runs c = record {
   packs = c.write_runs.ensures.packs;
   proper = c.write_runs.ensures.maximal;
   fewest = fewest c.args.values.now c.survey_of-found.result.known c.survey_of-found.result.distinct c.survey_of-found.result.least c.survey_of-found.result.greatest c.width_of-width.result
-    c.survey_of-found.result.runs (Runs c.in-Runs.runs) c.survey_of-found.ensures.runs c.survey_of-found.ensures.known c.survey_of-found.ensures.least c.survey_of-found.ensures.greatest c.width_of-width.ensures c.in-Runs.ensures.fewest;
+      c.survey_of-found.result.runs (Runs c.in-Runs.runs) c.survey_of-found.ensures.runs c.survey_of-found.ensures.known c.survey_of-found.ensures.least c.survey_of-found.ensures.greatest c.width_of-width.ensures c.in-Runs.ensures.fewest;
 }
 
 pub returns-in-Reference : goal.returns-in-Reference
@@ -43,7 +37,7 @@ returns-in-Reference c = record {
   packs = c.write_reference.ensures.packs;
   proper = c.write_reference.ensures.tight;
   fewest = fewest c.args.values.now c.survey_of-found.result.known c.survey_of-found.result.distinct c.survey_of-found.result.least c.survey_of-found.result.greatest c.width_of-width.result
-    c.survey_of-found.result.runs (Reference c.in-Reference.width) c.survey_of-found.ensures.runs c.survey_of-found.ensures.known c.survey_of-found.ensures.least c.survey_of-found.ensures.greatest c.width_of-width.ensures c.in-Reference.ensures.fewest;
+      c.survey_of-found.result.runs (Reference c.in-Reference.width) c.survey_of-found.ensures.runs c.survey_of-found.ensures.known c.survey_of-found.ensures.least c.survey_of-found.ensures.greatest c.width_of-width.ensures c.in-Reference.ensures.fewest;
 }
 
 pub returns-in-Plain : goal.returns-in-Plain
@@ -53,6 +47,5 @@ returns-in-Plain c = record {
   packs = c.write_plain.ensures.packs;
   proper = tt;
   fewest = fewest c.args.values.now c.survey_of-found.result.known c.survey_of-found.result.distinct c.survey_of-found.result.least c.survey_of-found.result.greatest c.width_of-width.result
-    c.survey_of-found.result.runs Plain c.survey_of-found.ensures.runs c.survey_of-found.ensures.known c.survey_of-found.ensures.least c.survey_of-found.ensures.greatest c.width_of-width.ensures c.in-Plain.ensures.fewest;
+      c.survey_of-found.result.runs Plain c.survey_of-found.ensures.runs c.survey_of-found.ensures.known c.survey_of-found.ensures.least c.survey_of-found.ensures.greatest c.width_of-width.ensures c.in-Plain.ensures.fewest;
 }
-

@@ -1,4 +1,4 @@
-use Rattle.std.proofs.Common.{rules, ◌≡◌, ◌≢◌, ℕ, ◌+◌, ◌*◌, ◌/◌, ◌%◌, ◌^◌, ◌-◌, ◌<◌, ◌≤◌, slice_index, length, arith, refl, ◌∙◌, sym, subst, ap, inl, inr}
+use Rattle.std.proofs.Common.{◌≡◌, ℕ, ◌+◌, ◌*◌, ◌^◌, ◌-◌, ◌<◌, ◌≤◌, slice_index, arith, refl, ◌∙◌, ap, inl, inr}
 use Rattle.lst_pack.proofs.Numbers.{pushed_each, pushed_within, pushed_fits}
 use Rattle.lst_pack.proofs.Written.{found}
 use Rattle.lst_pack.proofs.packing.word_of_codes.Goals as goal
@@ -23,9 +23,9 @@ loop-k-preserved c =
       few = omega arith;
       low = pushed_within c.loop-k.word c.place_of-code.result 4 16 16 c.loop-k.k refl (omega arith) (omega arith) c.loop-k.invariant.low (omega arith);
       codes = λ j low. pushed_each c.loop-k.word c.place_of-code.result 4 16 (16 - (c.loop-k.k - 1))
-        (λ j n. (n < c.args.size) × (slice_index c.args.known.now n ≡ slice_index c.args.values.now (c.args.turn * 16 + (c.loop-k.k - 1 + j)))) refl (omega arith)
-        (f.0, f.1 ∙ ap (λ n. slice_index c.args.values.now (c.args.turn * 16 + n)) (omega arith))
-        (λ i h. let e : c.loop-k.k + i ≡ c.loop-k.k - 1 + (i + 1) = omega arith in
-            let q = c.loop-k.invariant.codes i (omega arith) in (q.0, q.1 ∙ ap (λ n. slice_index c.args.values.now (c.args.turn * 16 + n)) e))
-        j (omega arith);
+          (λ j n. (n < c.args.size) × (slice_index c.args.known.now n ≡ slice_index c.args.values.now (c.args.turn * 16 + (c.loop-k.k - 1 + j)))) refl (omega arith)
+          (f.0, f.1 ∙ ap (λ n. slice_index c.args.values.now (c.args.turn * 16 + n)) (omega arith))
+          (λ i h. let e : c.loop-k.k + i ≡ c.loop-k.k - 1 + (i + 1) = omega arith in
+          let q = c.loop-k.invariant.codes i (omega arith) in (q.0, q.1 ∙ ap (λ n. slice_index c.args.values.now (c.args.turn * 16 + n)) e))
+          j (omega arith);
     }

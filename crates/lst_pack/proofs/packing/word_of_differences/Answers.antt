@@ -1,4 +1,4 @@
-use Rattle.std.proofs.Common.{rules, ◌≡◌, ◌≢◌, ℕ, ◌+◌, ◌*◌, ◌/◌, ◌%◌, ◌^◌, ◌-◌, ◌<◌, ◌≤◌, slice_index, length, arith, refl, ◌∙◌, sym, subst, ap, inl, inr}
+use Rattle.std.proofs.Common.{◌≡◌, ◌+◌, ◌*◌, ◌/◌, ◌^◌, ◌-◌, ◌<◌, slice_index, arith, ◌∙◌, ap}
 use Rattle.std.proofs.Math.Nat.{one-le-pow}
 use Rattle.lst_pack.proofs.Numbers.{pushed_each, pushed_within, pushed_fits, one_moved, place_within}
 use Rattle.lst_pack.proofs.packing.word_of_differences.Goals as goal
@@ -31,9 +31,9 @@ loop-k-preserved c =
       few = omega arith;
       low = pushed_within c.loop-k.word number c.args.width _ per c.loop-k.k m (omega arith) (omega arith) c.loop-k.invariant.low small;
       differences = λ j low. pushed_each c.loop-k.word number c.args.width _ (per - (c.loop-k.k - 1))
-        (λ j n. n ≡ slice_index c.args.values.now (c.args.turn * per + (c.loop-k.k - 1 + j)) - c.args.least) m small
-        (ap (λ n. slice_index c.args.values.now (c.args.turn * per + n) - c.args.least) (let e : c.loop-k.k - 1 ≡ c.loop-k.k - 1 + 0 = omega arith in e))
-        (λ i h. let e : c.loop-k.k + i ≡ c.loop-k.k - 1 + (i + 1) = omega arith in
-            c.loop-k.invariant.differences i (omega arith) ∙ ap (λ n. slice_index c.args.values.now (c.args.turn * per + n) - c.args.least) e)
-        j (omega arith);
+          (λ j n. n ≡ slice_index c.args.values.now (c.args.turn * per + (c.loop-k.k - 1 + j)) - c.args.least) m small
+          (ap (λ n. slice_index c.args.values.now (c.args.turn * per + n) - c.args.least) (let e : c.loop-k.k - 1 ≡ c.loop-k.k - 1 + 0 = omega arith in e))
+          (λ i h. let e : c.loop-k.k + i ≡ c.loop-k.k - 1 + (i + 1) = omega arith in
+          c.loop-k.invariant.differences i (omega arith) ∙ ap (λ n. slice_index c.args.values.now (c.args.turn * per + n) - c.args.least) e)
+          j (omega arith);
     }

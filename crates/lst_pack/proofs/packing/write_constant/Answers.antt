@@ -1,4 +1,4 @@
-use Rattle.std.proofs.Common.{rules, ◌≡◌, ℕ, ◌<◌, ◌≤◌, slice_index, length, arith, refl, ◌∙◌, sym}
+use Rattle.std.proofs.Common.{arith}
 use Rattle.std.proofs.lemmas.Grind.{common_steps}
 use Rattle.lst_pack.proofs.Counting.{one_run_is_equal}
 use Rattle.lst_pack.proofs.packing.write_constant.Goals as goal

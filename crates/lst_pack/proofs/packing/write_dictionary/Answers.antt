@@ -1,4 +1,4 @@
-use Rattle.std.proofs.Common.{rules, ◌≡◌, ℕ, ◌+◌, ◌<◌, ◌≤◌, slice_index, length, arith, refl, ◌∙◌, sym, subst, ap}
+use Rattle.std.proofs.Common.{arith, ◌∙◌, sym}
 use Rattle.lst_pack.proofs.Written.{dictionary_written}
 use Rattle.lst_pack.proofs.packing.write_dictionary.Goals as goal
 

@@ -1,4 +1,4 @@
-use Rattle.std.proofs.Common.{rules, ◌≡◌, ℕ, ◌<◌, ◌≤◌, slice_index, length, arith, refl, ◌∙◌, sym}
+use Rattle.std.proofs.Common.{arith, sym}
 use Rattle.lst_pack.proofs.packing.write_plain.Goals as goal
 
 pub returns-clause-packs : goal.returns-clause-packs

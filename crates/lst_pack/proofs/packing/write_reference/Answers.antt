@@ -1,4 +1,4 @@
-use Rattle.std.proofs.Common.{rules, ◌≡◌, ◌≢◌, ℕ, ◌+◌, ◌*◌, ◌/◌, ◌%◌, ◌^◌, ◌-◌, ◌<◌, ◌≤◌, slice_index, slice_set, length, arith, refl, ◌∙◌, sym, subst, ap, get_or-set_other}
+use Rattle.std.proofs.Common.{◌≡◌, ◌≢◌, ◌+◌, ◌*◌, ◌/◌, ◌%◌, ◌^◌, ◌-◌, ◌<◌, slice_index, arith, ◌∙◌, sym, ap, get_or-set_other}
 use mathlib.Core.Logic.{dite}
 use native.Mathlib.Decide.{dec_lt}
 use Rattle.std.proofs.lemmas.Grind.{common_steps, get_or-set_at}
@@ -14,10 +14,10 @@ loop-turn-preserved c =
       first = grind (arith, common_steps);
       base = grind (arith, common_steps);
       differences = λ t k low few. dite (dec_lt t c.loop-turn.turn)
-        (λ (h : t < c.loop-turn.turn). let ne : 2 + t ≢ 2 + c.loop-turn.turn = omega arith in rw get_or-set_other (c.loop-turn.invariant.differences t k h few))
-        (λ past. let e : t ≡ c.loop-turn.turn = omega (arith, past) in
-            let s = get_or-set_at c.loop-turn.out (2 + c.loop-turn.turn) (2 + t) c.word_of_differences.result 0 (omega arith) (omega arith) in
-            ap (λ n. n / 2 ^ (k * c.args.width) % 2 ^ c.args.width) s ∙ c.word_of_differences.ensures k few ∙ ap (λ n. slice_index c.args.values.now (n * (64 / c.args.width) + k) - c.args.least) (sym e));
+          (λ (h : t < c.loop-turn.turn). let ne : 2 + t ≢ 2 + c.loop-turn.turn = omega arith in rw get_or-set_other (c.loop-turn.invariant.differences t k h few))
+          (λ past. let e : t ≡ c.loop-turn.turn = omega (arith, past) in
+          let s = get_or-set_at c.loop-turn.out (2 + c.loop-turn.turn) (2 + t) c.word_of_differences.result 0 (omega arith) (omega arith) in
+          ap (λ n. n / 2 ^ (k * c.args.width) % 2 ^ c.args.width) s ∙ c.word_of_differences.ensures k few ∙ ap (λ n. slice_index c.args.values.now (n * (64 / c.args.width) + k) - c.args.least) (sym e));
     }
 
 pub returns-clause-packs : goal.returns-clause-packs

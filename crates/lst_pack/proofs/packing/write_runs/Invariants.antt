@@ -1,4 +1,4 @@
-use Rattle.std.proofs.Common.{◌≡◌, ℕ, ◌+◌, ◌*◌, slice_index, length}
+use Rattle.std.proofs.Common.{◌≡◌, ◌+◌, ◌*◌, slice_index, length}
 use Rattle.lst_pack.specs.Counts.{runs_below}
 use Rattle.lst_pack.proofs.Closing.{IsOpen}
 use Rattle.lst_pack.proofs.packing.write_runs.Given as goal

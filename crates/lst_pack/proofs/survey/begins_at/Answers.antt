@@ -1,4 +1,4 @@
-use Rattle.std.proofs.Common.{◌≡◌, sym, arith}
+use Rattle.std.proofs.Common.{sym}
 use Rattle.lst_pack.proofs.Counting.{begins_same, begins_other}
 use Rattle.lst_pack.proofs.survey.begins_at.Goals as goal
 

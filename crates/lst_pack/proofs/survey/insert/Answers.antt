@@ -1,4 +1,4 @@
-use Rattle.std.proofs.Common.{◌≡◌, ◌≢◌, ℕ, ◌<◌, ◌≤◌, slice_index, arith, ap, sym, ◌∙◌, get_or-set_other}
+use Rattle.std.proofs.Common.{◌≢◌, arith, get_or-set_other}
 use Rattle.lst_pack.proofs.survey.insert.Goals as goal
 
 pub returns-clause-below : goal.returns-clause-below

@@ -1,4 +1,4 @@
-use Rattle.std.proofs.Common.{◌≡◌, ℕ, ◌+◌, ◌-◌, ◌<◌, ◌≤◌, slice_index}
+use Rattle.std.proofs.Common.{ℕ, ◌-◌, ◌<◌, ◌≤◌, slice_index}
 use Rattle.lst_pack.proofs.survey.place_of.Given as goal
 
 abbrev pub invariant-loop-low : goal.invariant-loop-low

@@ -1,4 +1,4 @@
-use Rattle.std.proofs.Common.{rules, ◌≡◌, ◌≢◌, ℕ, ◌+◌, ◌*◌, ◌/◌, ◌%◌, ◌^◌, ◌<◌, ◌≤◌, slice_index, slice_set, length, arith, ap, sym, ◌∙◌, subst, get_or-set_other, get_or-set_same}
+use Rattle.std.proofs.Common.{◌≡◌, ◌≢◌, ◌+◌, ◌*◌, ◌/◌, ◌%◌, ◌^◌, ◌<◌, slice_index, arith, ap, sym, ◌∙◌, get_or-set_other}
 use mathlib.Core.Logic.{dite}
 use native.Mathlib.Decide.{dec_lt}
 use Rattle.std.proofs.lemmas.Grind.{get_or-set_at}
@@ -25,13 +25,13 @@ loop-k-preserved g c = λ p low.
     let per = per_word width c.requires.reference.whole in
     let within = place_within width c.requires.reference.whole c.loop-turn.turn c.loop-k.k (omega arith) (omega arith) in
     dite (dec_lt p (c.loop-turn.turn * (64 / width) + c.loop-k.k))
-        (λ (before : p < c.loop-turn.turn * (64 / width) + c.loop-k.k).
-            let ne : p ≢ c.loop-turn.turn * (64 / width) + c.loop-k.k = omega arith in rw get_or-set_other (c.loop-k.invariant p before))
-        (λ past.
-            let here : p ≡ c.loop-turn.turn * (64 / width) + c.loop-k.k = omega (arith, past) in
-            let e = number_in_word words 2 width (64 / width) c.loop-turn.turn c.loop-k.k per.0 per.1 (omega arith) in
-            let m = one_moved width c.requires.reference.whole in
-            get_or-set_at c.loop-k.out (c.loop-turn.turn * (64 / width) + c.loop-k.k) p _ 0 here (omega arith)
-            ∙ ap (λ n. slice_index words 1 + slice_index words (2 + c.loop-turn.turn) / 2 ^ (c.loop-k.k * width) % n) m
-            ∙ ap (λ n. slice_index words 1 + n) (sym e)
-            ∙ ap (λ n. slice_index words 1 + difference_at words width n) (sym here))
+    (λ (before : p < c.loop-turn.turn * (64 / width) + c.loop-k.k).
+    let ne : p ≢ c.loop-turn.turn * (64 / width) + c.loop-k.k = omega arith in rw get_or-set_other (c.loop-k.invariant p before))
+    (λ past.
+    let here : p ≡ c.loop-turn.turn * (64 / width) + c.loop-k.k = omega (arith, past) in
+    let e = number_in_word words 2 width (64 / width) c.loop-turn.turn c.loop-k.k per.0 per.1 (omega arith) in
+    let m = one_moved width c.requires.reference.whole in
+    get_or-set_at c.loop-k.out (c.loop-turn.turn * (64 / width) + c.loop-k.k) p _ 0 here (omega arith)
+    ∙ ap (λ n. slice_index words 1 + slice_index words (2 + c.loop-turn.turn) / 2 ^ (c.loop-k.k * width) % n) m
+    ∙ ap (λ n. slice_index words 1 + n) (sym e)
+    ∙ ap (λ n. slice_index words 1 + difference_at words width n) (sym here))

@@ -1,8 +1,8 @@
-use Rattle.std.proofs.Common.{rules, ◌≡◌, ℕ, ◌+◌, ◌*◌, ◌<◌, ◌≤◌, slice_index, slice_set, length, arith, ap, sym, ◌∙◌, get_or-set_other, get_or-set_same, below_more, ◌≢◌}
+use Rattle.std.proofs.Common.{rules, ◌≡◌, ◌+◌, ◌*◌, ◌<◌, ◌≤◌, slice_index, arith, ap, ◌∙◌, get_or-set_other, ◌≢◌}
 use Rattle.std.proofs.lemmas.Grind.{common_steps}
 use mathlib.Core.Logic.{dite}
 use native.Mathlib.Decide.{dec_lt}
-use Rattle.lst_pack.specs.Forms.{run_value, run_end, IsInRun}
+use Rattle.lst_pack.specs.Forms.{run_value}
 use Rattle.lst_pack.proofs.Runs.{ends_within, one_run}
 use Rattle.lst_pack.proofs.whole.unpack_runs.Goals as goal
 
@@ -28,8 +28,8 @@ loop-run-preserved c =
     record {
       here = (λ _. e, λ z. absurd (omega arith), h);
       done = λ place run low in_run. dite (dec_lt place c.loop-run.start)
-        (λ (below : place < c.loop-run.start). c.loop-place.invariant.done place run below in_run)
-        (λ past. let from : c.loop-run.start ≤ place = omega (arith, past) in
+          (λ (below : place < c.loop-run.start). c.loop-place.invariant.done place run below in_run)
+          (λ past. let from : c.loop-run.start ≤ place = omega (arith, past) in
           let same = one_run words c.args.runs place c.loop-run.run run c.requires.runs (record { one = omega arith; from = λ some. omega (arith, c.loop-run.invariant.here.0 some); below = low }) in_run in
           c.loop-place.invariant.same place from (omega arith) ∙ ap (λ n. run_value words n) same);
     }

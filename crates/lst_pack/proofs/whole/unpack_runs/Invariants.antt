@@ -1,4 +1,4 @@
-use Rattle.std.proofs.Common.{◌≡◌, ℕ, ◌+◌, ◌*◌, ◌<◌, ◌≤◌, slice_index}
+use Rattle.std.proofs.Common.{◌≡◌, ℕ, ◌*◌, ◌<◌, ◌≤◌, slice_index}
 use Rattle.lst_pack.specs.Forms.{run_value, IsInRun}
 use Rattle.lst_pack.proofs.whole.unpack_runs.Given as goal
 
