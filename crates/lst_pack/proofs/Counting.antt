@@ -1,0 +1,145 @@
+-- How the counts grow from one place to the next.
+use Rattle.std.proofs.Common.{◌≡◌, ◌≢◌, ℕ, zero, suc, ◌+◌, ◌-◌, ◌<◌, ◌≤◌, ◌⊎◌, ⊎_elim, List, slice_index, refl, ap, arith, subst, sym, ◌∙◌, add-one, eq-eqb, ne_eqb, cond, nat_eq, true, false}
+use mathlib.Core.Logic.{dite}
+use native.Mathlib.Decide.{dec_lt, ℕ_discrete}
+use Rattle.lst_pack.specs.Counts.{begins, runs_below, IsKnown, IsNew, StandsBelow, Rises, AreKnown, IsLeast, IsGreatest}
+
+pub runs_next : (values : List ℕ) (place : ℕ) → runs_below values (place + 1) ≡ runs_below values place + begins values place
+unfolding runs_below
+runs_next values place = rw add-one refl
+
+pub runs_first : (values : List ℕ) → runs_below values 1 ≡ 1
+unfolding runs_below begins
+runs_first values = refl
+
+pub begins_same : (values : List ℕ) (place : ℕ) → 0 < place → slice_index values place ≡ slice_index values (place - 1) → begins values place ≡ 0
+unfolding begins
+begins_same values place later e = let z : place ≢ 0 = omega arith in
+    ap (λ b. cond b 1 (cond (nat_eq (slice_index values place) (slice_index values (place - 1))) 0 1)) (ne_eqb place 0 z)
+    ∙ ap (λ b. cond b 0 1) (eq-eqb (slice_index values place) (slice_index values (place - 1)) e)
+
+pub begins_other : (values : List ℕ) (place : ℕ) → 0 < place → slice_index values place ≢ slice_index values (place - 1) → begins values place ≡ 1
+unfolding begins
+begins_other values place later ne = let z : place ≢ 0 = omega arith in
+    ap (λ b. cond b 1 (cond (nat_eq (slice_index values place) (slice_index values (place - 1))) 0 1)) (ne_eqb place 0 z)
+    ∙ ap (λ b. cond b 0 1) (ne_eqb (slice_index values place) (slice_index values (place - 1)) ne)
+
+pub begins_few : (values : List ℕ) (place : ℕ) → begins values place ≤ 1
+unfolding begins
+begins_few values place = elim (nat_eq place 0) as (λ b. cond b 1 (cond (nat_eq (slice_index values place) (slice_index values (place - 1))) 0 1) ≤ 1)
+    [ true ↦ omega arith | false ↦ elim (nat_eq (slice_index values place) (slice_index values (place - 1))) as (λ b. cond b 0 1 ≤ 1) [ true ↦ omega arith | false ↦ omega arith ] ]
+
+-- ---- what is known
+
+stands_on : (values : List ℕ) (place value : ℕ) → StandsBelow values place value → StandsBelow values (place + 1) value
+stands_on values place value s = (s.0, omega (arith, s.1), s.2)
+
+-- no more than 17 are known, and the value at the place isn't learnt: it stands before, or there are 17
+pub known_on : (values : List ℕ) (place : ℕ) (known : List ℕ) (count : ℕ) → AreKnown values place known count
+    → (count ≤ 16 → IsKnown known count (slice_index values place)) → AreKnown values (place + 1) known count
+known_on values place known count are here = record {
+  few = are.few;
+  rising = are.rising;
+  standing = λ code low. stands_on values place _ (are.standing code low);
+  all = λ few before low. dite (dec_lt before place) (λ (h : before < place). are.all few before h)
+      (λ past. let e : place ≡ before = omega (arith, past) in subst (λ (n : ℕ). IsKnown known count (slice_index values n)) e (here few));
+}
+
+pub known_learnt : (values : List ℕ) (place : ℕ) (known later : List ℕ) (count more : ℕ) → AreKnown values place known count → count ≤ 16 → more ≤ 17 → Rises later more
+    → IsKnown later more (slice_index values place) → ((other : ℕ) → IsKnown known count other → IsKnown later more other)
+    → ((code : ℕ) → code < more → IsNew known count (slice_index values place) (slice_index later code)) → AreKnown values (place + 1) later more
+known_learnt values place known later count more are few within rises new kept others = record {
+  few = within;
+  rising = rises;
+  standing = λ code low. ⊎_elim (λ (e : slice_index later code ≡ slice_index values place). (place, omega arith, sym e))
+      (λ (k : IsKnown known count (slice_index later code)). let s = are.standing k.0 k.1 in (s.0, omega (arith, s.1), s.2 ∙ k.2)) (others code low);
+  all = λ _ before low. dite (dec_lt before place) (λ (h : before < place). kept _ (are.all few before h))
+      (λ past. let e : place ≡ before = omega (arith, past) in subst (λ (n : ℕ). IsKnown later more (slice_index values n)) e new);
+}
+
+pub least_on : (values : List ℕ) (place least smaller : ℕ) → IsLeast values place least → smaller ≤ least → smaller ≤ slice_index values place
+    → ((smaller ≡ least) ⊎ (smaller ≡ slice_index values place)) → IsLeast values (place + 1) smaller
+least_on values place least smaller is under here one = record {
+  stands = ⊎_elim (λ (e : smaller ≡ least). (is.stands.0, omega (arith, is.stands.1), is.stands.2 ∙ sym e)) (λ (e : smaller ≡ slice_index values place). (place, omega arith, sym e)) one;
+  bound = λ before low. dite (dec_lt before place) (λ (h : before < place). let b = is.bound before h in omega arith)
+      (λ past. let e : place ≡ before = omega (arith, past) in subst (λ (n : ℕ). smaller ≤ slice_index values n) e here);
+}
+
+pub greatest_on : (values : List ℕ) (place greatest larger : ℕ) → IsGreatest values place greatest → greatest ≤ larger → slice_index values place ≤ larger
+    → ((larger ≡ greatest) ⊎ (larger ≡ slice_index values place)) → IsGreatest values (place + 1) larger
+greatest_on values place greatest larger is above here one = record {
+  stands = ⊎_elim (λ (e : larger ≡ greatest). (is.stands.0, omega (arith, is.stands.1), is.stands.2 ∙ sym e)) (λ (e : larger ≡ slice_index values place). (place, omega arith, sym e)) one;
+  bound = λ before low. dite (dec_lt before place) (λ (h : before < place). let b = is.bound before h in omega arith)
+      (λ past. let e : place ≡ before = omega (arith, past) in subst (λ (n : ℕ). slice_index values n ≤ larger) e here);
+}
+
+-- ---- the first place
+
+pub known_first : (values known : List ℕ) → slice_index known 0 ≡ slice_index values 0 → AreKnown values 1 known 1
+known_first values known e = record {
+  few = omega arith;
+  rising = λ code next order low. absurd (omega arith);
+  standing = λ code low. let z : 0 ≡ code = omega arith in (0, omega arith, sym e ∙ ap (λ n. slice_index known n) z);
+  all = λ _ before low. let z : 0 ≡ before = omega arith in (0, omega arith, e ∙ ap (λ n. slice_index values n) z);
+}
+
+pub least_first : (values : List ℕ) → IsLeast values 1 (slice_index values 0)
+least_first values = record {
+  stands = (0, omega arith, refl);
+  bound = λ before low. let z : before ≡ 0 = omega arith in let e = ap (λ n. slice_index values n) z in omega arith;
+}
+
+pub greatest_first : (values : List ℕ) → IsGreatest values 1 (slice_index values 0)
+greatest_first values = record {
+  stands = (0, omega arith, refl);
+  bound = λ before low. let z : before ≡ 0 = omega arith in let e = ap (λ n. slice_index values n) z in omega arith;
+}
+
+-- ---- runs
+
+pub runs_mono : (values : List ℕ) (place more : ℕ) → runs_below values place ≤ runs_below values (place + more)
+runs_mono values place zero = let e : runs_below values (place + 0) ≡ runs_below values place = ap (λ n. runs_below values n) (omega arith) in omega arith
+runs_mono values place (suc more) =
+    let before = runs_mono values place more in
+    let next = runs_next values (place + more) in
+    let e : runs_below values (place + more + 1) ≡ runs_below values (place + suc more) = ap (λ n. runs_below values n) (omega arith) in
+    omega arith
+
+pub runs_upto : (values : List ℕ) (place last : ℕ) → place ≤ last → runs_below values place ≤ runs_below values last
+runs_upto values place last low = let h = runs_mono values place (last - place) in let e : runs_below values (place + (last - place)) ≡ runs_below values last = ap (λ n. runs_below values n) (omega arith) in omega arith
+
+-- one run alone: no value differs from the one before it
+one_goes_on : (values : List ℕ) → runs_below values 256 ≡ 1 → (place : ℕ) → 0 < place → place < 256 → slice_index values place ≡ slice_index values (place - 1)
+one_goes_on values one place later low = dite (ℕ_discrete (slice_index values place) (slice_index values (place - 1))) (λ e. e)
+    (λ ne. let b = begins_other values place later ne in let n = runs_next values place in let f = runs_first values in
+    let u = runs_upto values 1 place later in let t = runs_upto values (place + 1) 256 (omega arith) in absurd (omega arith))
+
+pub one_run_is_equal : (values : List ℕ) → runs_below values 256 ≡ 1 → (place : ℕ) → place < 256 → slice_index values place ≡ slice_index values 0
+one_run_is_equal values one zero low = refl
+one_run_is_equal values one (suc place) low =
+    let before = one_run_is_equal values one place (omega arith) in
+    let step = one_goes_on values one (suc place) (omega arith) low in
+    let e : slice_index values (suc place - 1) ≡ slice_index values place = ap (λ n. slice_index values n) (omega arith) in
+    step ∙ e ∙ before
+
+pub runs_few : (values : List ℕ) (place : ℕ) → runs_below values place ≤ place
+unfolding runs_below
+runs_few values zero = omega arith
+runs_few values (suc place) = let before = runs_few values place in let one = begins_few values place in omega arith
+
+-- from one place on no run begins but maybe there
+runs_flat : (values : List ℕ) (from more : ℕ) → ((place : ℕ) → from < place → place < from + suc more → slice_index values place ≡ slice_index values (place - 1)) → runs_below values (from + suc more) ≤ runs_below values from + 1
+runs_flat values from zero same =
+    let n = runs_next values from in let b = begins_few values from in
+    let e : runs_below values (from + 1) ≡ runs_below values (from + suc zero) = ap (λ n. runs_below values n) (omega arith) in omega arith
+runs_flat values from (suc more) same =
+    let before = runs_flat values from more (λ place h k. same place h (omega arith)) in
+    let n = runs_next values (from + suc more) in
+    let b = begins_same values (from + suc more) (omega arith) (same (from + suc more) (omega arith) (omega arith)) in
+    let e : runs_below values (from + suc more + 1) ≡ runs_below values (from + suc (suc more)) = ap (λ n. runs_below values n) (omega arith) in omega arith
+
+pub runs_at_once : (values : List ℕ) (from last : ℕ) → from < last → ((place : ℕ) → from < place → place < last → slice_index values place ≡ slice_index values (place - 1)) → runs_below values last ≤ runs_below values from + 1
+runs_at_once values from last low same =
+    let e : from + suc (last - from - 1) ≡ last = omega arith in
+    let h = runs_flat values from (last - from - 1) (λ place a b. same place a (omega arith)) in
+    let f = ap (λ n. runs_below values n) e in omega arith

@@ -1,0 +1,18 @@
+//! Packed pages: 256 values in as few words as one of five forms takes.
+#![tactic(auto)]
+
+mod forms;
+mod laws;
+mod packing;
+mod single;
+mod survey;
+mod whole;
+
+pub use forms::Form;
+pub use laws::packed_words;
+pub use packing::pack;
+pub use single::{Words, get, get_from};
+pub use whole::unpack;
+
+#[cfg(test)]
+mod tests;
