@@ -53,7 +53,7 @@ pub fn session_of(event: Event) -> u32
         | Event::Stamp {
             session,
             range: _,
-            number: _,
+            tail: _,
         } => session,
     }
 }
@@ -81,12 +81,9 @@ pub fn is_within(layout: &Layout, event: Event) -> bool
         Event::Stamp {
             session,
             range,
-            number,
+            tail,
         } => {
-            session < limits.sessions
-                && range < limits.ranges
-                && 0 < number
-                && number <= limits.tails
+            session < limits.sessions && range < limits.ranges && 0 < tail && tail <= limits.tails
         }
         _ => session < limits.sessions,
     }
@@ -141,8 +138,8 @@ pub(crate) fn stands(layout: &Layout, words: &[u64], now: &Numbers, event: Event
         Event::Stamp {
             session: _,
             range,
-            number,
-        } => is_committed(layout, words, range * layout.limits.tails + number),
+            tail,
+        } => is_committed(layout, words, range * layout.limits.tails + tail),
         _ => true,
     }
 }
@@ -157,10 +154,10 @@ pub(crate) fn time(layout: &Layout, words: &[u64], event: Event) -> u64
     if let Event::Stamp {
         session: _,
         range,
-        number,
+        tail,
     } = event
     {
-        let tail = range * layout.limits.tails + number;
+        let tail = range * layout.limits.tails + tail;
         state_of(layout, words, writer(layout, words, tail)) - 1
     } else {
         0

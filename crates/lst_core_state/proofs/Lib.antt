@@ -37,3 +37,4 @@ pub mod Flags
 pub mod Numbered
 pub mod Stepped
 pub mod Bounds
+pub mod Opened

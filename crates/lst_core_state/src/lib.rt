@@ -10,6 +10,7 @@ mod facts;
 mod known;
 mod laws;
 mod numbers;
+mod openings;
 mod targets;
 
 pub use afters::{advance, look};
@@ -21,4 +22,5 @@ pub use laws::{
     visible_is_seen,
 };
 pub use numbers::{Numbers, newcomers};
-pub use targets::{target, written};
+pub use openings::opening_words;
+pub use targets::{cell_address, target, written};

@@ -1,7 +1,6 @@
 //! Packed pages: 256 values in as few words as one of five forms takes.
 #![tactic(auto)]
 
-mod checks;
 mod forms;
 mod laws;
 mod packing;
@@ -9,7 +8,6 @@ mod single;
 mod survey;
 mod whole;
 
-pub use checks::is_packed;
 pub use forms::Form;
 pub use laws::packed_words;
 pub use packing::pack;

@@ -1,4 +1,3 @@
-pub mod Lists
 pub mod Folds
 pub mod Pages
 pub mod Rows

@@ -36,14 +36,14 @@ fn row(first: u64, second: u64) -> Row {
     let mut cells = ArrayVec::new();
     cells.push(first);
     cells.push(second);
-    Row::of_numbers(cells)
+    Row::new(cells)
 }
 
 fn patch(first: Option<u64>, second: Option<u64>) -> Patch {
     let mut cells = ArrayVec::new();
     cells.push(first);
     cells.push(second);
-    Patch::of_numbers(cells)
+    Patch::new(cells)
 }
 
 fn insert(key: Key, first: u64, second: u64) -> Call {
@@ -96,7 +96,9 @@ fn fits(limits: &Limits, session: u32, call: &Call) -> bool
     let columns = limits.columns as usize;
     match call {
         Call::Insert { row, .. } => row.len() == columns,
-        Call::Update { patch, .. } => { patch.len() == columns && patch.sets_some() }
+        Call::Update { patch, .. } => {
+            patch.len() == columns && patch.cells().iter().any(|cell| cell.is_some())
+        }
         Call::Sum { .. } | Call::Count | Call::Scan | Call::Find { .. } => false,
         _ => true,
     }

@@ -10,4 +10,3 @@ pub mod Committed
 pub mod Keying
 pub mod Asking
 pub mod Backs
-pub mod Encoded
