@@ -41,7 +41,7 @@ fn row(key: Key, value: u64) -> Row {
     let mut cells = ArrayVec::new();
     cells.push(value);
     cells.push(key);
-    Row::new(cells)
+    Row::of_numbers(cells)
 }
 
 /// The patch of a row's first cell.
@@ -49,7 +49,7 @@ fn patch(value: u64) -> Patch {
     let mut cells = ArrayVec::new();
     cells.push(Some(value));
     cells.push(None);
-    Patch::new(cells)
+    Patch::of_numbers(cells)
 }
 
 /// What a get of the key is answered, where the rows have these first cells.

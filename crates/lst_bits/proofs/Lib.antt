@@ -1,2 +1,3 @@
+pub mod Withins
 pub mod Laws
 pub mod TailNumbers

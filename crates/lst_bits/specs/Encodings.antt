@@ -1,4 +1,4 @@
--- The encoding word of a tail record: which columns it holds, what kind of write it is, and the record's slot.
+-- The encoding word of a tail record: which columns it holds, what kind of write it is, the record's slot, and the null columns.
 use Rattle.std.specs.Prelude.{ℕ, ◌+◌, ◌-◌, ◌*◌, ◌/◌, ◌%◌, ◌^◌, ◌<◌, ◌≤◌, ◌≡◌, ◌==◌, if◌then◌else◌}
 use Rattle.std.specs.Int.{bit_at}
 use Rattle.lst_bits.specs.declared.encodings.Encoding.{Encoding}
@@ -14,23 +14,33 @@ kind_code Del = 3
 abbrev pub kind_of : ℕ → Kind
 kind_of code = if code == 1 then Put else (if code == 2 then Set else Del)
 
--- 8 bits each of mask, kind and slot
+-- 8 bits each of mask, kind, slot and nulls
 abbrev pub encoding_word : Encoding → ℕ
-encoding_word e = e.mask + 256 * kind_code e.kind + 65536 * e.slot
+encoding_word e = e.mask + 256 * kind_code e.kind + 65536 * e.slot + 16777216 * e.nulls
 
 abbrev pub encoding_of : ℕ → Encoding
-encoding_of word = record { mask = word % 256; kind = kind_of (word / 256 % 256); slot = word / 65536 }
-
-abbrev pub IsEncoding : Encoding → Type 0
-IsEncoding e = (e.mask < 256) × (e.slot < 256)
-
--- the word of some encoding: its kind is one of the three
-abbrev pub IsEncodingWord : ℕ → Type 0
-IsEncodingWord word = (word < 2 ^ 24) × (0 < word / 256 % 256) × (word / 256 % 256 ≤ 3)
+encoding_of word = record { mask = word % 256; kind = kind_of (word / 256 % 256); slot = word / 65536 % 256; nulls = word / 16777216 }
 
 -- column c has bit c of the mask
 abbrev pub HasColumn : ℕ → ℕ → Type 0
 HasColumn mask column = bit_at mask column ≡ 1
+
+-- each null column is one that the mask holds
+abbrev pub AreWithin : ℕ → ℕ → Type 0
+AreWithin nulls mask = (column : ℕ) → HasColumn nulls column → HasColumn mask column
+
+pub record IsEncoding (e : Encoding) : Type 0 where
+  pub mask : e.mask < 256
+  pub slot : e.slot < 256
+  pub nulls : e.nulls < 256
+  pub within : AreWithin e.nulls e.mask
+
+-- the word of some encoding: its kind is one of the three, and its nulls are within its mask
+pub record IsEncodingWord (word : ℕ) : Type 0 where
+  pub wide : word < 2 ^ 32
+  pub some : 0 < word / 256 % 256
+  pub kind : word / 256 % 256 ≤ 3
+  pub within : AreWithin (word / 16777216) (word % 256)
 
 -- the mask that fits the kind: a put holds every column, a set at least one, a delete none
 abbrev pub IsMaskOf : ℕ → Kind → ℕ → Type 0

@@ -1,16 +1,16 @@
--- A posting: the number of a tail record among all of a store, or none.
+-- A posting: the identifier of a tail record, which counts those of all ranges, or none.
 use Rattle.std.specs.Prelude.{ℕ, ◌+◌, ◌-◌, ◌*◌, ◌/◌, ◌%◌, ◌^◌, ◌<◌, ◌≤◌, ◌==◌, Option, Some, None, if◌then◌else◌}
 use Rattle.lst_bits.specs.declared.postings.Tail.{Tail}
 use Rattle.lst_bits.specs.Packing.{IsPacking}
 
 -- the number of a tail record, of which each range has this many: from 1 on, range after range
-abbrev pub tail_number : ℕ → ℕ → ℕ → ℕ
-tail_number tails range tail = range * tails + tail
+abbrev pub tail_identifier : ℕ → ℕ → ℕ → ℕ
+tail_identifier tails range tail = range * tails + tail
 
 -- 0 where there is none
 abbrev pub posting_word : ℕ → Option Tail → ℕ
 posting_word tails None = 0
-posting_word tails (Some t) = tail_number tails t.range t.tail
+posting_word tails (Some t) = tail_identifier tails t.range t.tail
 
 abbrev pub tail_of : ℕ → ℕ → Tail
 tail_of tails word = record { range = (word - 1) / tails; tail = (word - 1) % tails + 1 }

@@ -1,6 +1,6 @@
 //! The encoding word of a tail record.
 ghost use Rattle.std.specs.Prelude.{◌≡◌, ◌<◌, ◌≤◌, ◌-◌, ◌^◌, ◌↔◌, IsTrue};
-ghost use Rattle.lst_bits.specs.Encodings.{encoding_word, encoding_of, IsEncoding, IsEncodingWord, IsEncodingFor, IsMaskOf, HasColumn, EncodingsArePacked};
+ghost use Rattle.lst_bits.specs.Encodings.{encoding_word, encoding_of, IsEncoding, IsEncodingWord, IsEncodingFor, IsMaskOf, HasColumn, AreWithin, EncodingsArePacked};
 
 /// What kind of write a tail record holds.
 #[derive(Clone, Copy, PartialEq, Eq, Debug)]
@@ -21,10 +21,13 @@ pub struct Encoding {
     pub kind: Kind,
     /// The record's slot in its range.
     pub slot: u8,
+    /// Bit c is set where column c is null. The mask holds each of these.
+    pub nulls: u8,
 }
 
-/// The encoding word: 8 bits each of mask, kind (1 put, 2 set, 3 delete) and slot, lowest first.
+/// The encoding word: 8 bits each of mask, kind (1 put, 2 set, 3 delete), slot and nulls, lowest first.
 pub fn pack_encoding(e: Encoding) -> u64
+    requires { AreWithin e.nulls e.mask }
     ensures word { result ≡ encoding_word e }
     ensures image { IsEncodingWord result }
 {
@@ -33,7 +36,7 @@ pub fn pack_encoding(e: Encoding) -> u64
         Kind::Set => 2,
         Kind::Del => 3,
     };
-    e.mask as u64 + 256 * code + 65_536 * e.slot as u64
+    e.mask as u64 + 256 * code + 65_536 * e.slot as u64 + 16_777_216 * e.nulls as u64
 }
 
 /// What an encoding word says.
@@ -51,7 +54,8 @@ pub fn unpack_encoding(word: u64) -> Encoding
     Encoding {
         mask: (word % 256) as u8,
         kind,
-        slot: (word / 65_536) as u8,
+        slot: (word / 65_536 % 256) as u8,
+        nulls: (word / 16_777_216) as u8,
     }
 }
 
@@ -73,7 +77,15 @@ pub fn is_encoding_word(word: u64) -> bool
     ensures { IsTrue result ↔ IsEncodingWord word }
 {
     let code = word / 256 % 256;
-    word < 1 << 24 && 0 < code && code <= 3
+    word < 1 << 32 && 0 < code && code <= 3 && are_within(word / 16_777_216, word % 256)
+}
+
+/// Whether each bit of `nulls` is one of the mask, both below 256.
+fn are_within(nulls: u64, mask: u64) -> bool
+    requires { nulls < 256 }
+    ensures { IsTrue result ↔ AreWithin nulls mask }
+{
+    nulls & mask == nulls
 }
 
 /// Whether a mask fits the kind of a write to a table with this many columns.

@@ -73,6 +73,7 @@ mod tests {
             mask: 2,
             kind: Kind::Set,
             slot: 7,
+            nulls: 0,
         };
         assert_eq!(rt; pack_encoding(encoding), 459_266);
         assert_eq!(rt; unpack_encoding(459_266), encoding);
@@ -80,6 +81,21 @@ mod tests {
         assert!(rt; !is_encoding(459_266, 1));
         assert!(rt; has_column(encoding.mask, 1));
         assert_eq!(rt; full_mask(8), 255);
+    }
+
+    #[test]
+    fn a_set_of_column_1_to_null_at_slot_7_has_encoding_34013698(rt: HostRuntime) {
+        let encoding = Encoding {
+            mask: 2,
+            kind: Kind::Set,
+            slot: 7,
+            nulls: 2,
+        };
+        assert_eq!(rt; pack_encoding(encoding), 34_013_698);
+        assert_eq!(rt; unpack_encoding(34_013_698), encoding);
+        assert!(rt; is_encoding(34_013_698, 2));
+        assert!(rt; !is_encoding_word(34_013_697));
+        assert!(rt; !is_encoding_word(17_236_482));
     }
 
     #[test]

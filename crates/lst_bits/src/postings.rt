@@ -9,8 +9,8 @@ pub struct Tail {
     pub tail: u32,
 }
 
-/// The word of a posting in a store with `tails` tail records in a range: 0 empty, else the number
-/// of the tail record among those of all ranges.
+/// The word of a posting in a store with `tails` tail records in a range: 0 empty, else the
+/// identifier of the tail record, which counts those of all ranges.
 pub fn pack_posting(tails: u32, posting: Option<Tail>) -> u64
     requires { IsPosting tails posting }
     ensures word { result ≡ posting_word tails posting }

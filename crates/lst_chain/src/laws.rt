@@ -1,6 +1,6 @@
 //! Laws of column values, proved for every type of version. The functions do nothing.
 
-ghost use Rattle.lst_chain.specs.Chain.{ActsAreTaken, AddsOne, PassedChangeNothing, NewestDecides};
+ghost use Rattle.lst_chain.specs.Chain.{ActsAreTaken, AddsOne, PassedChangeNothing, NewestDecides, CellsAreRead};
 
 use crate::Version;
 
@@ -15,4 +15,10 @@ pub fn column_laws<V: Version>()
     ensures one_more { AddsOne V.status V.explicit }
     ensures passed { PassedChangeNothing V.status V.explicit }
     ensures newest { NewestDecides V.status V.explicit }
+{}
+
+/// Where versions hold cells that may be null, the value of a column below 8 and that of its null
+/// flag, 8 columns on, are the cell that the visible versions leave.
+pub fn nullable_columns<V: Version>()
+    ensures { CellsAreRead V.status V.explicit }
 {}

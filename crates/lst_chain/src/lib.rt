@@ -1,7 +1,8 @@
 //! Version chains: which version a begin time sees first, and what the visible versions leave in
 //! a column.
 //!
-//! A chain is a slice of versions, the newest first.
+//! A chain is a slice of versions, the newest first. The columns 8 to 15 are the null flags of the
+//! columns 0 to 7: 1 where the column is null, and 0 where it has a number.
 #![tactic(auto)]
 
 ghost use Rattle.std.specs.Prelude.{◌≡◌, ◌↔◌, ℕ, Option, IsNone, IfSome};
@@ -10,7 +11,7 @@ ghost use Rattle.lst_chain.specs.Chain.{column_value, IsFirstVisible};
 
 mod laws;
 
-pub use laws::{acts_in_order, column_laws};
+pub use laws::{acts_in_order, column_laws, nullable_columns};
 
 /// Whether a transaction with a given begin time sees a version.
 #[derive(Clone, Copy, Debug, PartialEq, Eq)]
@@ -35,7 +36,8 @@ pub trait Version {
 
     /// What this version holds in the column with number `column`: `Some(Some(value))` where it
     /// wrote a value there, `Some(None)` where it deleted the record, and `None` where it doesn't
-    /// hold the column.
+    /// hold the column. A version with cells that may be null holds the number 0 for null, and the
+    /// null flag of the column, 1 for null and 0 for a number, in column `column` + 8.
     fn explicit(&self, column: u32) -> Option<Option<u64>>
         ensures { result ≡ explicit self.now column };
 }
@@ -98,6 +100,62 @@ mod tests {
         fn explicit(&self, column: u32) -> Option<Option<u64>> {
             if column == 0 { self.held } else { None }
         }
+    }
+
+    // A version with one column that may be null.
+    #[derive(Drop)]
+    struct Nullable {
+        time: u64,
+        held: Option<Option<Option<u64>>>,
+    }
+
+    impl Version for Nullable {
+        ghost use Rattle.std.specs.Prelude.{nat_eq, nat_le, None, option_map, if◌then◌else◌};
+        ghost use Rattle.lst_chain.specs.Chain.{number_of, null_flag};
+        ghost use Rattle.lst_chain.specs.declared.Seen.TheVariants.{Visible, Hidden};
+
+        ghost status = { λ entry begin. if nat_le entry.time begin then Visible else Hidden };
+
+        ghost explicit = { λ entry column. if nat_eq column 0 then option_map (option_map number_of) entry.held else (if nat_eq column 8 then option_map (option_map null_flag) entry.held else None) };
+
+        fn status(&self, begin: u64) -> Seen {
+            if self.time <= begin {
+                Seen::Visible
+            } else {
+                Seen::Hidden
+            }
+        }
+
+        fn explicit(&self, column: u32) -> Option<Option<u64>> {
+            match (column, self.held) {
+                (0, Some(Some(cell))) => Some(Some(cell.unwrap_or(0))),
+                (8, Some(Some(cell))) => Some(Some(cell.is_none() as u64)),
+                (0 | 8, Some(None)) => Some(None),
+                _ => None,
+            }
+        }
+    }
+
+    #[test]
+    fn reads_a_cell_by_its_number_and_its_null_flag(rt: HostRuntime) {
+        let held = [
+            (9, Some(Some(Some(90)))),
+            (7, None),
+            (5, Some(Some(None))),
+            (3, Some(None)),
+            (1, Some(Some(Some(10)))),
+        ];
+        let chain = held.map(|(time, held)| Nullable { time, held });
+        for (begin, number, flag) in [
+            (9, Some(90), Some(0)),
+            (8, Some(0), Some(1)),
+            (4, None, None),
+            (2, Some(10), Some(0)),
+        ] {
+            assert_eq!(rt; column_at(&chain, begin, 0), number, "at {begin}");
+            assert_eq!(rt; column_at(&chain, begin, 8), flag, "at {begin}");
+        }
+        nullable_columns::<Nullable>();
     }
 
     const CHAIN: [Entry; 5] = [

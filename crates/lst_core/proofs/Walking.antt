@@ -5,12 +5,12 @@ use Rattle.lst_layout.specs.declared.limits.Limits.{Limits}
 use Rattle.lst_layout.specs.Words.{Words, shown}
 use Rattle.lst_model.specs.declared.acts.Act.{Act}
 use Rattle.lst_model.specs.declared.acts.Act.TheVariants.{Put, Set, Del}
-use Rattle.lst_model.specs.Cells.{Cell}
+use Rattle.lst_model.specs.Cells.{Cell, patched, cells_of}
 use Rattle.lst_model.specs.Histories.{row_from, row_after}
 use Rattle.lst_model.specs.Soundness.{Fits}
 use Rattle.lst_model.proofs.Folds.{row_from-append}
 use Rattle.lst_core_state.specs.Lists.{Has, Links, Fitting, Judged, Under, acts, is_live}
-use Rattle.lst_core_state.specs.Cells.{record_count, tail_count, kind_of, act_of, listed, patched, mask_of, IsCell}
+use Rattle.lst_core_state.specs.Cells.{record_count, tail_count, kind_of, nulls_of, act_of, listed, mask_of, IsCell}
 use Rattle.lst_core_state.specs.State.{entry, writer_at, state_at, line, back_in, head_of, act_in, FitsAfter}
 use Rattle.lst_core_state.proofs.Lists.{first_link}
 use Rattle.lst_core.specs.Reading.{IsRead, IsPresent}
@@ -114,23 +114,23 @@ module _ (l : Limits) (w : Words) (r t : ℕ) (k : Rows l w r t) where
 
 -- ---- what an act leaves
 
-pub act_put : (e : ℕ) (values : List ℕ) → kind_of e ≡ 1 → act_of e values ≡ Put values
+pub act_put : (e : ℕ) (values : List ℕ) → kind_of e ≡ 1 → act_of e values ≡ Put (cells_of (nulls_of e) 0 values)
 unfolding act_of
-act_put e values is = ap (λ (b : Bool). cond b (Put values) (cond (eqb (kind_of e) 2) (Set (patched (mask_of e) 0 values)) Del)) (eq-eqb (kind_of e) 1 is)
+act_put e values is = ap (λ (b : Bool). cond b (Put (cells_of (nulls_of e) 0 values)) (cond (eqb (kind_of e) 2) (Set (patched (mask_of e) 0 (cells_of (nulls_of e) 0 values))) Del)) (eq-eqb (kind_of e) 1 is)
 
-pub act_set : (e : ℕ) (values : List ℕ) → kind_of e ≡ 2 → act_of e values ≡ Set (patched (mask_of e) 0 values)
+pub act_set : (e : ℕ) (values : List ℕ) → kind_of e ≡ 2 → act_of e values ≡ Set (patched (mask_of e) 0 (cells_of (nulls_of e) 0 values))
 unfolding act_of
-act_set e values is = ap (λ (b : Bool). cond b (Put values) (cond (eqb (kind_of e) 2) (Set (patched (mask_of e) 0 values)) Del)) (ne_eqb (kind_of e) 1 (λ f. omega arith)) ∙ ap (λ (b : Bool). cond b (Set (patched (mask_of e) 0 values)) Del) (eq-eqb (kind_of e) 2 is)
+act_set e values is = ap (λ (b : Bool). cond b (Put (cells_of (nulls_of e) 0 values)) (cond (eqb (kind_of e) 2) (Set (patched (mask_of e) 0 (cells_of (nulls_of e) 0 values))) Del)) (ne_eqb (kind_of e) 1 (λ f. omega arith)) ∙ ap (λ (b : Bool). cond b (Set (patched (mask_of e) 0 (cells_of (nulls_of e) 0 values))) Del) (eq-eqb (kind_of e) 2 is)
 
 pub act_del : (e : ℕ) (values : List ℕ) → kind_of e ≡ 3 → act_of e values ≡ Del
 unfolding act_of
-act_del e values is = ap (λ (b : Bool). cond b (Put values) (cond (eqb (kind_of e) 2) (Set (patched (mask_of e) 0 values)) Del)) (ne_eqb (kind_of e) 1 (λ f. omega arith)) ∙ ap (λ (b : Bool). cond b (Set (patched (mask_of e) 0 values)) Del) (ne_eqb (kind_of e) 2 (λ f. omega arith))
+act_del e values is = ap (λ (b : Bool). cond b (Put (cells_of (nulls_of e) 0 values)) (cond (eqb (kind_of e) 2) (Set (patched (mask_of e) 0 (cells_of (nulls_of e) 0 values))) Del)) (ne_eqb (kind_of e) 1 (λ f. omega arith)) ∙ ap (λ (b : Bool). cond b (Set (patched (mask_of e) 0 (cells_of (nulls_of e) 0 values))) Del) (ne_eqb (kind_of e) 2 (λ f. omega arith))
 
-put_present : (row : Option (List Cell)) (values : List ℕ) → IsPresent (row_after row (Put values))
+put_present : (row : Option (List Cell)) (values : List Cell) → IsPresent (row_after row (Put values))
 put_present None values = tt
 put_present (Some x) values = tt
 
-set_present : (row : Option (List Cell)) (patch : List (Option ℕ)) → Fits row (Set patch) → IsPresent (row_after row (Set patch))
+set_present : (row : Option (List Cell)) (patch : List (Option Cell)) → Fits row (Set patch) → IsPresent (row_after row (Set patch))
 set_present None patch fits = absurd fits
 set_present (Some x) patch fits = tt
 
@@ -160,9 +160,9 @@ module _ (l : Limits) (ws : List ℕ) (read : IsRead l ws) (r t : ℕ) (k : Rows
 
   pub row_left : kind_of e ≢ 3 → IsPresent (made l W r t k (line l W r))
   row_left ne = subst IsPresent (sym here) (⊎_elim
-      (λ q. subst (λ (a : Act). IsPresent (row_after before a)) (sym (act_put e values q.0)) (put_present before values))
+      (λ q. subst (λ (a : Act). IsPresent (row_after before a)) (sym (act_put e values q.0)) (put_present before (cells_of (nulls_of e) 0 values)))
       (λ q. ⊎_elim
-      (λ z. subst (λ (a : Act). IsPresent (row_after before a)) (sym (act_set e values z.0)) (set_present before (patched (mask_of e) 0 values) (subst (λ (a : Act). Fits before a) (act_set e values z.0) (walk_fits l W r t k.walk some other))))
+      (λ z. subst (λ (a : Act). IsPresent (row_after before a)) (sym (act_set e values z.0)) (set_present before (patched (mask_of e) 0 (cells_of (nulls_of e) 0 values)) (subst (λ (a : Act). Fits before a) (act_set e values z.0) (walk_fits l W r t k.walk some other))))
       (λ z. absurd (ne z.0)) q) image.kind)
 
   pub row_gone : kind_of e ≡ 3 → ¬ IsPresent (made l W r t k (line l W r))

@@ -53,7 +53,7 @@ pub fn session_of(event: Event) -> u32
         | Event::Stamp {
             session,
             range: _,
-            tail: _,
+            number: _,
         } => session,
     }
 }
@@ -81,9 +81,12 @@ pub fn is_within(layout: &Layout, event: Event) -> bool
         Event::Stamp {
             session,
             range,
-            tail,
+            number,
         } => {
-            session < limits.sessions && range < limits.ranges && 0 < tail && tail <= limits.tails
+            session < limits.sessions
+                && range < limits.ranges
+                && 0 < number
+                && number <= limits.tails
         }
         _ => session < limits.sessions,
     }
@@ -138,8 +141,8 @@ pub(crate) fn stands(layout: &Layout, words: &[u64], now: &Numbers, event: Event
         Event::Stamp {
             session: _,
             range,
-            tail,
-        } => is_committed(layout, words, range * layout.limits.tails + tail),
+            number,
+        } => is_committed(layout, words, range * layout.limits.tails + number),
         _ => true,
     }
 }
@@ -154,10 +157,10 @@ pub(crate) fn time(layout: &Layout, words: &[u64], event: Event) -> u64
     if let Event::Stamp {
         session: _,
         range,
-        tail,
+        number,
     } = event
     {
-        let tail = range * layout.limits.tails + tail;
+        let tail = range * layout.limits.tails + number;
         state_of(layout, words, writer(layout, words, tail)) - 1
     } else {
         0

@@ -12,8 +12,8 @@ ghost use Rattle.lst_core.specs.Machine.{Holds, IsCore, Steps};
 
 use crate::allowed::{is_within, session_of, stands, time};
 use crate::numbers::{after, allows};
-use lst_core_state::{Event, Numbers, newcomers, opening_words, target, written};
-use lst_layout::Layout;
+use lst_core_state::{Event, Numbers, newcomers, target, written};
+use lst_layout::{Layout, opening_words};
 use lst_model::OutOfMemory;
 use std::alloc::Global;
 use std::marker::Model;

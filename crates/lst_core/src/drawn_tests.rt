@@ -109,7 +109,7 @@ impl Drawer {
             _ => Event::Stamp {
                 session,
                 range: 0,
-                tail: self.pick(TAILS + 2),
+                number: self.pick(TAILS + 2),
             },
         }
     }
@@ -146,7 +146,7 @@ impl Drawer {
         Event::Stamp {
             session,
             range: 0,
-            tail: self.pick(TAILS).wrapping_add(1),
+            number: self.pick(TAILS).wrapping_add(1),
         }
     }
 
@@ -225,13 +225,14 @@ impl Drawer {
         } else {
             self.pick(5)
         };
-        let mask = plain.cell(tail, 1) % 4;
+        let encoding = plain.cell(tail, 1);
+        let numbers = encoding & !(encoding >> 24);
         let value = match place {
             0 => own.wrapping_mul(2).wrapping_add(1),
             1 => self.draw_encoding(rec, is_present),
             2 => seat.head.wrapping_add((self.draw(12) == 0) as u64),
-            3 if mask % 2 == 0 => (self.draw(9) == 0) as u64,
-            4 if mask < 2 => (self.draw(9) == 0) as u64,
+            3 if numbers & 1 == 0 => (self.draw(9) == 0) as u64,
+            4 if numbers & 2 == 0 => (self.draw(9) == 0) as u64,
             _ => self.draw(99),
         };
         Event::StoreCell {
@@ -249,16 +250,24 @@ impl Drawer {
             (true, 1) => 3 * 256,
             (true, _) => 2 * 256 + 1 + self.draw(3) % 3,
         };
+        // The null columns are mostly those of the mask.
+        let nulls = match self.draw(6) {
+            0 => self.draw(5),
+            1 | 2 => self.draw(4) & draft % 256,
+            _ => 0,
+        };
         let slot = (rec % 256) + (self.draw(12) == 0) as u64;
-        slot * 65536 + draft
+        nulls << 24 | slot << 16 | draft
     }
 }
 
-/// What some drawn steps came to: how many could be made, the commits, and the turn of the first that differs, if any.
+/// What some drawn steps came to: how many could be made, the commits, the stored tails with null columns, and the first step
+/// that differs, if any.
 #[derive(Clone, Copy)]
 struct Outcome {
     made: u64,
     commits: u64,
+    null_tails: u64,
     differs: Option<u64>,
 }
 
@@ -293,7 +302,7 @@ fn is_same(layout: &Layout, core: &Core, plain: &Plain) -> bool {
 }
 
 /// Steps drawn from a seed, on a core and on a recomputation.
-fn run(alloc: Global, layout: &Layout, seed: u64, turns: u64) -> Result<Outcome, OutOfMemory>
+fn run(alloc: Global, layout: &Layout, seed: u64, count: u64) -> Result<Outcome, OutOfMemory>
     requires { layout.now.limits.indexed ≡ 0 }
 {
     let mut core = Core::new(alloc, layout)?;
@@ -301,23 +310,24 @@ fn run(alloc: Global, layout: &Layout, seed: u64, turns: u64) -> Result<Outcome,
     let mut drawer = Drawer { seed };
     let mut made = 0u64;
     let mut differs = None;
-    for turn in 0..turns {
+    for i in 0..count {
         let event = drawer.draw_event(&plain, layout);
         let wanted = plain.step(event, place_of(layout, event));
         let found = step(&mut core, event);
         if found.is_some() {
             made = made.wrapping_add(1);
         }
-        // A refused step changes no word, which is looked up now and then.
-        let is_due = found.is_some() || turn % 16 == 0;
+        // All words are looked up now and then, since a step changes one at most.
+        let is_due = i % 16 == 15;
         if found != wanted || (is_due && !is_same(layout, &core, &plain)) {
-            differs = Some(turn);
+            differs = Some(i);
             break;
         }
     }
     Ok(Outcome {
         made,
         commits: plain.clock,
+        null_tails: plain.null_tails(),
         differs,
     })
 }
@@ -329,14 +339,17 @@ fn drawn_steps_find_what_a_plain_recomputation_finds(rt: HostRuntime) -> Result<
     };
     let mut made = 0u64;
     let mut commits = 0u64;
+    let mut null_tails = 0u64;
     for seed in 1..11u64 {
-        let outcome = run(rt.alloc(), &layout, seed, 500)?;
+        let outcome = run(rt.alloc(), &layout, seed, 496)?;
         assert_eq!(rt; outcome.differs, None);
         made = made.wrapping_add(outcome.made);
         commits = commits.wrapping_add(outcome.commits);
+        null_tails = null_tails.wrapping_add(outcome.null_tails);
     }
     // Steps of both kinds were drawn, and transactions came to their end.
     assert!(rt; made > 1000 && made < 4900);
     assert!(rt; commits > 10);
+    assert!(rt; null_tails > 5);
     Ok(())
 }

@@ -46,7 +46,7 @@ pub fn allows(limits: &Limits, now: &Numbers, event: Event) -> bool
         | Event::Stamp {
             session: _,
             range: _,
-            tail: _,
+            number: _,
         } => true,
         Event::Begin {
             session: _,

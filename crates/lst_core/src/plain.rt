@@ -286,16 +286,30 @@ impl Plain {
     pub(crate) fn is_cell(&self, tail: u64, rec: u64, is_present: bool) -> bool {
         let encoding = self.cell(tail, 1);
         let mask = encoding % 256;
+        let nulls = encoding >> 24;
         let is_right = match encoding / 256 % 256 {
             1 => mask == 3 && !is_present,
             2 => mask > 0 && mask < 4 && is_present,
             3 => mask == 0 && is_present,
             _ => false,
         };
+        let numbers = mask & !nulls;
         is_right
-            && encoding / 65536 == rec
-            && (mask % 2 == 1 || self.cell(tail, 3) == 0)
-            && (mask / 2 == 1 || self.cell(tail, 4) == 0)
+            && encoding / 65536 % 256 == rec
+            && nulls & !mask == 0
+            && (numbers & 1 == 1 || self.cell(tail, 3) == 0)
+            && (numbers & 2 == 2 || self.cell(tail, 4) == 0)
+    }
+
+    /// How many stored tails have a null column.
+    pub(crate) fn null_tails(&self) -> u64 {
+        let mut count = 0u64;
+        for tail in 1..TAILS + 1 {
+            if self.cell(tail, 0) != 0 && self.cell(tail, 1) >> 24 != 0 {
+                count = count.wrapping_add(1);
+            }
+        }
+        count
     }
 
     // ---- steps: each answers the word found, or none where it may not be made
@@ -320,8 +334,8 @@ impl Plain {
             Event::Stamp {
                 session,
                 range,
-                tail,
-            } => session < inside && range < 1 && tail > 0 && (tail as u64) <= TAILS,
+                number,
+            } => session < inside && range < 1 && number > 0 && (number as u64) <= TAILS,
             other => crate::session_of(other) < inside,
         }
     }
@@ -361,8 +375,8 @@ impl Plain {
             Event::Stamp {
                 session: _,
                 range: _,
-                tail,
-            } => self.stamp(tail as u64),
+                number,
+            } => self.stamp(number as u64),
         }
     }
 

@@ -9,7 +9,6 @@ ghost use Rattle.lst_core_state.specs.State.{writer_at, state_at};
 ghost use Rattle.lst_core_state.specs.Step.{IsCommitted};
 ghost use Rattle.lst_core.specs.Reading.{IsRead};
 
-use lst_core_state::cell_address;
 use lst_layout::Layout;
 
 /// The number of commits.
@@ -71,5 +70,5 @@ pub(crate) fn cell(layout: &Layout, words: &[u64], tail: u32, place: u32) -> u64
     requires place { addresses.IsWithin layout.now.limits (CellWord tail place) }
     ensures { result ≡ (shown layout.now.limits words.now).cells tail place }
 {
-    words[cell_address(layout, tail, place) as usize]
+    words[layout.cell_address(tail, place) as usize]
 }

@@ -76,7 +76,7 @@ const DRAW_TAIL: Event = Event::DrawTail {
 const STAMP: Event = Event::Stamp {
     session: 1,
     range: 0,
-    tail: 1,
+    number: 1,
 };
 
 /// The steps of a first insert: a record is drawn and placed, and latched once it is in the index.

@@ -5,6 +5,7 @@ use mathlib.Core.Logic.{dite}
 use native.Mathlib.Decide.{ℕ_discrete}
 use Rattle.lst_layout.specs.Functions.{put, put_in}
 use Rattle.lst_layout.proofs.Functions.{put_here, put_else, put_in_row, put_in_else}
+pub use Rattle.lst_pages.proofs.Lists.{get-listed, length-listed, listed-same}
 use Rattle.lst_core_pages.specs.Lists.{total, listed, rows_of, word_in, with_word_in}
 
 -- ---- two places
@@ -28,20 +29,6 @@ each_put_in P f k m a here others j i = choose (same_place k m j i)
 -- ---- lists
 
 module _ {A : Type 0} where
-  pub get-listed : (f : ℕ → A) (k n i : ℕ) (d : A) → i < n → slice_index_or (listed f k n) i d ≡ f (k + i)
-  get-listed f k zero i d low = absurd (omega arith)
-  get-listed f k (suc n) zero d low = let e : k ≡ k + 0 = omega arith in ap f e
-  get-listed f k (suc n) (suc i) d low = let e : suc k + i ≡ k + suc i = omega arith in get-listed f (suc k) n i d (omega arith) ∙ ap f e
-
-  pub length-listed : (f : ℕ → A) (k n : ℕ) → length (listed f k n) ≡ n
-  length-listed f k zero = refl
-  length-listed f k (suc n) = ap suc (length-listed f (suc k) n)
-
-  -- the items are the same where the functions are
-  pub listed-same : (f g : ℕ → A) (k n : ℕ) → ((i : ℕ) → k ≤ i → i < k + n → g i ≡ f i) → listed g k n ≡ listed f k n
-  listed-same f g k zero same = refl
-  listed-same f g k (suc n) same = let a = same k (omega arith) (omega arith) in let b = listed-same f g (suc k) n (λ i low high. same i (omega arith) (omega arith)) in λ i. a i ∷ b i
-
   pub listed-put : (f : ℕ → A) (k n i j : ℕ) (a : A) → j ≡ k + i → i < n → listed (put f j a) k n ≡ slice_set (listed f k n) i a
   listed-put f k zero i j a e low = absurd (omega arith)
   listed-put f k (suc n) zero j a e low = let same : k ≡ j = omega arith in let x = ap (put f j a) same ∙ put_here f j a in let y = listed-same f (put f j a) (suc k) n (λ i lo hi. put_else f j a i (omega arith)) in λ i. x i ∷ y i

@@ -15,8 +15,8 @@ use Rattle.lst_pages.proofs.Pages.{right_same, right_settle}
 use Rattle.lst_core_pages.specs.declared.events.PageEvent.TheVariants.{Pin, Unpin, LookPage, StoreFrame}
 use Rattle.lst_core_pages.specs.declared.known.Retired.{Retired}
 use Rattle.lst_core_pages.specs.declared.known.PageInHand.{PageInHand}
-use Rattle.lst_core_pages.specs.declared.known.Reader.{Reader}
-use Rattle.lst_core_pages.specs.declared.known.Merger.{Merger}
+use Rattle.lst_core_pages.specs.declared.known.SessionFrames.{SessionFrames}
+use Rattle.lst_core_pages.specs.declared.known.MergerFrames.{MergerFrames}
 use Rattle.lst_core_pages.specs.Lists.{Every, Any, First, HasFirst, total, listed, word_in}
 use Rattle.lst_core_pages.specs.State.{Pages, hand_of, empty_hand, is_clear, oldest_epoch}
 use Rattle.lst_core_pages.specs.Step.{IsWithin, Enabled, page_at, with_page, after, settled}
@@ -41,29 +41,29 @@ module _ (p : Pages) (sound : Sound p) where
   abbrev pub w : Words
   w = p.words
 
-  abbrev pub K : ℕ → Reader
+  abbrev pub K : ℕ → SessionFrames
   K = p.readers
 
-  abbrev pub m : Merger
+  abbrev pub m : MergerFrames
   m = p.merger
 
   -- nobody takes in hand a frame that is in no directory word
-  cleared_put : (s : ℕ) (v : Reader) → ((f : ℕ) → Outside L w.directory f → hand_of (K s) f ≡ None → hand_of v f ≡ None) → Cleared L (put K s v) m.retired (is_clear m)
+  cleared_put : (s : ℕ) (v : SessionFrames) → ((f : ℕ) → Outside L w.directory f → hand_of (K s) f ≡ None → hand_of v f ≡ None) → Cleared L (put K s v) m.retired (is_clear m)
   cleared_put s v still = first_both (λ (r : Retired). (j : ℕ) → j < L.sessions → is_clear m j ≡ true → hand_of (K j) r.frame ≡ None) (λ (r : Retired). (r.frame < frame_count L) × Outside L w.directory r.frame)
       (λ (r : Retired). (j : ℕ) → j < L.sessions → is_clear m j ≡ true → hand_of (put K s v j) r.frame ≡ None) m.retired
-      (λ r old out. each_put (λ (j : ℕ) (u : Reader). j < L.sessions → is_clear m j ≡ true → hand_of u r.frame ≡ None) K s v (λ low e. still r.frame out.1 (old s low e)) (λ j other. old j)) sound.cleared sound.places.outside
+      (λ r old out. each_put (λ (j : ℕ) (u : SessionFrames). j < L.sessions → is_clear m j ≡ true → hand_of u r.frame ≡ None) K s v (λ low e. still r.frame out.1 (old s low e)) (λ j other. old j)) sound.cleared sound.places.outside
 
   -- a session has another pin, and no frame in hand
   emptied : (s q : ℕ) → q ≤ w.epoch + 1 → Sound record { limits = L; words = record w { pins = put w.pins s q }; tails = p.tails; readers = put K s (record { pin = q; hand = empty_hand L }); merger = m }
-  emptied s q low = let v : Reader = record { pin = q; hand = empty_hand L } in record {
+  emptied s q low = let v : SessionFrames = record { pin = q; hand = empty_hand L } in record {
     valid = sound.valid;
     places = sound.places;
-    hand_sized = each_put (λ (j : ℕ) (u : Reader). j < L.sessions → length u.hand ≡ frame_count L) K s v (λ _. length-replicate (frame_count L) None) (λ j other. sound.hand_sized j);
-    pinned = each_put (λ (j : ℕ) (u : Reader). j < L.sessions → Pinned w.epoch (put w.pins s q j) u.pin (hand_of u)) K s v (λ _. record { known = put_here w.pins s q; low = low; none = λ _ f. none_in L f })
+    hand_sized = each_put (λ (j : ℕ) (u : SessionFrames). j < L.sessions → length u.hand ≡ frame_count L) K s v (λ _. length-replicate (frame_count L) None) (λ j other. sound.hand_sized j);
+    pinned = each_put (λ (j : ℕ) (u : SessionFrames). j < L.sessions → Pinned w.epoch (put w.pins s q j) u.pin (hand_of u)) K s v (λ _. record { known = put_here w.pins s q; low = low; none = λ _ f. none_in L f })
         (λ j other h. let k = sound.pinned j h in record { known = put_else w.pins s q j other ∙ k.known; low = k.low; none = k.none });
-    hand_kept = each_put (λ (j : ℕ) (u : Reader). j < L.sessions → HandKept L w.directory m.retired m.waiting u.pin (hand_of u)) K s v (λ _. each_empty L (λ f page. Kept L w.directory m.retired m.waiting q f)) (λ j other. sound.hand_kept j);
-    hand_same = each_put (λ (j : ℕ) (u : Reader). j < L.sessions → HandSame w.frames (hand_of u)) K s v (λ _. each_empty L (λ f page. (n : ℕ) → n < FRAME_WORDS → w.frames f n ≡ slice_index page.words n)) (λ j other. sound.hand_same j);
-    hand_right = each_put (λ (j : ℕ) (u : Reader). j < L.sessions → HandRight L p.tails (hand_of u)) K s v (λ _. each_empty L (λ f page. IsPage L page.range page.column × IsRightPage page.column (p.tails page.range) (slice_index page.words))) (λ j other. sound.hand_right j);
+    hand_kept = each_put (λ (j : ℕ) (u : SessionFrames). j < L.sessions → HandKept L w.directory m.retired m.waiting u.pin (hand_of u)) K s v (λ _. each_empty L (λ f page. Kept L w.directory m.retired m.waiting q f)) (λ j other. sound.hand_kept j);
+    hand_same = each_put (λ (j : ℕ) (u : SessionFrames). j < L.sessions → HandSame w.frames (hand_of u)) K s v (λ _. each_empty L (λ f page. (n : ℕ) → n < FRAME_WORDS → w.frames f n ≡ slice_index page.words n)) (λ j other. sound.hand_same j);
+    hand_right = each_put (λ (j : ℕ) (u : SessionFrames). j < L.sessions → HandRight L p.tails (hand_of u)) K s v (λ _. each_empty L (λ f page. IsPage L page.range page.column × IsRightPage page.column (p.tails page.range) (slice_index page.words))) (λ j other. sound.hand_right j);
     cleared = cleared_put s v (λ f _ _. none_in L f);
     unlooked = sound.unlooked;
     built = sound.built;
@@ -80,17 +80,17 @@ module _ (p : Pages) (sound : Sound p) where
   unpin_keeps s = emptied s 0 (omega arith)
 
   pub page_keeps : (s r c : ℕ) → IsWithin L (LookPage s r c) → Enabled p (LookPage s r c) → Sound (after p (LookPage s r c))
-  page_keeps s r c within ok = let v : Reader = with_page w (K s) r c in record {
+  page_keeps s r c within ok = let v : SessionFrames = with_page w (K s) r c in record {
     valid = sound.valid;
     places = sound.places;
-    hand_sized = each_put (λ (j : ℕ) (u : Reader). j < L.sessions → length u.hand ≡ frame_count L) K s v (λ low. length-set (K s).hand g (Some (page_at w r c)) ∙ sound.hand_sized s low) (λ j other. sound.hand_sized j);
-    pinned = each_put (λ (j : ℕ) (u : Reader). j < L.sessions → Pinned w.epoch (w.pins j) u.pin (hand_of u)) K s v
+    hand_sized = each_put (λ (j : ℕ) (u : SessionFrames). j < L.sessions → length u.hand ≡ frame_count L) K s v (λ low. length-set (K s).hand g (Some (page_at w r c)) ∙ sound.hand_sized s low) (λ j other. sound.hand_sized j);
+    pinned = each_put (λ (j : ℕ) (u : SessionFrames). j < L.sessions → Pinned w.epoch (w.pins j) u.pin (hand_of u)) K s v
         (λ low. let k = sound.pinned s low in record { known = k.known; low = k.low; none = λ e. absurd (omega arith) }) (λ j other. sound.pinned j);
-    hand_kept = each_put (λ (j : ℕ) (u : Reader). j < L.sessions → HandKept L w.directory m.retired m.waiting u.pin (hand_of u)) K s v
+    hand_kept = each_put (λ (j : ℕ) (u : SessionFrames). j < L.sessions → HandKept L w.directory m.retired m.waiting u.pin (hand_of u)) K s v
         (λ low. in_hand (λ f page. Kept L w.directory m.retired m.waiting (K s).pin f) low (inl (r, c, within.1, refl)) (sound.hand_kept s low)) (λ j other. sound.hand_kept j);
-    hand_same = each_put (λ (j : ℕ) (u : Reader). j < L.sessions → HandSame w.frames (hand_of u)) K s v
+    hand_same = each_put (λ (j : ℕ) (u : SessionFrames). j < L.sessions → HandSame w.frames (hand_of u)) K s v
         (λ low. in_hand (λ f page. (n : ℕ) → n < FRAME_WORDS → w.frames f n ≡ slice_index page.words n) low (λ n short. sym (at n short)) (sound.hand_same s low)) (λ j other. sound.hand_same j);
-    hand_right = each_put (λ (j : ℕ) (u : Reader). j < L.sessions → HandRight L p.tails (hand_of u)) K s v
+    hand_right = each_put (λ (j : ℕ) (u : SessionFrames). j < L.sessions → HandRight L p.tails (hand_of u)) K s v
         (λ low. in_hand (λ f page. IsPage L page.range page.column × IsRightPage page.column (p.tails page.range) (slice_index page.words)) low
         (within.1, right_same c (p.tails r) (w.frames g) (slice_index (listed (w.frames g) 0 FRAME_WORDS)) at (sound.right r c within.1)) (sound.hand_right s low)) (λ j other. sound.hand_right j);
     cleared = cleared_put s v (λ f out none. each_set (λ (i : ℕ) (x : Option PageInHand). i ≡ f → x ≡ None) (K s).hand g (Some (page_at w r c)) None (g_low within.0) (λ e. absurd (out r c within.1 e)) (λ j other e. ap (hand_of (K s)) e ∙ none) f refl);

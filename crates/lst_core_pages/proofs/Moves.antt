@@ -11,8 +11,8 @@ use Rattle.lst_layout.proofs.Functions.{put_in_else}
 use Rattle.lst_pages.specs.Pages.{IsRightPage}
 use Rattle.lst_core_pages.specs.declared.events.PageEvent.TheVariants.{LookPin, Swap, Raise}
 use Rattle.lst_core_pages.specs.declared.known.Retired.{Retired}
-use Rattle.lst_core_pages.specs.declared.known.Reader.{Reader}
-use Rattle.lst_core_pages.specs.declared.known.Merger.{Merger}
+use Rattle.lst_core_pages.specs.declared.known.SessionFrames.{SessionFrames}
+use Rattle.lst_core_pages.specs.declared.known.MergerFrames.{MergerFrames}
 use Rattle.lst_core_pages.specs.Lists.{Every, Any, First, HasFirst, rest, total, word_in, with_word_in}
 use Rattle.lst_core_pages.specs.State.{Pages, hand_of, is_clear, nobody_clear, oldest_epoch, retired_at, frame_in}
 use Rattle.lst_core_pages.specs.Step.{MaySwap, Enabled, lets_go, after}
@@ -38,10 +38,10 @@ module _ (p : Pages) (sound : Sound p) where
   abbrev w : Words
   w = p.words
 
-  abbrev K : ℕ → Reader
+  abbrev K : ℕ → SessionFrames
   K = p.readers
 
-  abbrev m : Merger
+  abbrev m : MergerFrames
   m = p.merger
 
   abbrev OutOf : Retired → Type 0

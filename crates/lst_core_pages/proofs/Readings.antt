@@ -13,6 +13,7 @@ use Rattle.lst_layout.specs.Limits.{IsValid}
 use Rattle.lst_layout.specs.Words.{word_at, shown}
 use Rattle.lst_layout.proofs.Apart.{below}
 use Rattle.lst_layout.proofs.Shown.{areas_are_shown}
+use Rattle.lst_pages.specs.declared.tails.PageTail.{PageTail}
 use Rattle.lst_core_pages.specs.declared.events.PageEvent.{PageEvent}
 use Rattle.lst_core_pages.specs.declared.events.PageEvent.TheVariants.{Pin, Unpin, LookPage, LookPin, StoreFrame, Swap, Raise}
 use Rattle.lst_core_pages.specs.declared.hands.PageId.{PageId}
@@ -47,7 +48,7 @@ module _ (c v : Cells) (same : c ≡ v) (is : IsCore c) where
 
   pub frame_fits : (f start : ℕ) → f < frame_count v.limits → start ≡ address c.limits (FrameWord f 0) → start + FRAME_WORDS ≤ length c.row
   frame_fits f start low at = let here : f < frame_count c.limits = subst (λ (u : Cells). f < frame_count u.limits) (sym same) low in
-      let end = below c.limits (FrameWord f 512) (here, omega arith) in let e = frame_address f 512 in let wide = is.wide in omega arith
+      let end = below c.limits (FrameWord f (FRAME_WORDS - 1)) (here, omega arith) in let e = frame_address f (FRAME_WORDS - 1) in let wide = is.wide in omega arith
 
   pub frame_words : (f start : ℕ) → f < frame_count v.limits → start ≡ address c.limits (FrameWord f 0) → (part : List ℕ) → part ≡ slice_range c.row start (start + FRAME_WORDS)
       → (n : ℕ) → n < FRAME_WORDS → slice_index part n ≡ (shown v.limits v.row).frames f n
@@ -55,6 +56,11 @@ module _ (c v : Cells) (same : c ≡ v) (is : IsCore c) where
       let long : start + n < length c.row = let h = frame_fits f start low at in omega arith in
       let read : slice_index part n ≡ slice_index c.row (start + n) = ap (λ (ws : List ℕ). slice_index ws n) is_part ∙ ap (λ (k : ℕ). slice_index (take k (drop start c.row)) n) len ∙ get_or-take FRAME_WORDS (drop start c.row) n 0 short ∙ get_or-drop start c.row n 0 in
       word_read (FrameWord f n) (low, short) (start + n) (slice_index part n) (ap (λ (k : ℕ). k + n) at ∙ sym (frame_address f n)) (read ∙ get_or_default c.row (start + n) 0 (slice_index part n) long)
+
+  -- the settled tails of a range, as the program reads them
+  pub tails_read : (r d : ℕ) → IsPage v.limits r d → (x : List PageTail) → x ≡ slice_index_or c.tails r x → x ≡ (pages_of v).tails r
+  tails_read r d page x read = read ∙ get_or_default c.tails r x [] (let wide = is.each_range in let low : r < c.limits.ranges = subst (λ (u : Cells). r < u.limits.ranges) (sym same) page.0 in omega arith)
+      ∙ ap (λ (u : Cells). slice_index_or u.tails r []) same
 
   pub directory_low : (r d x : ℕ) → IsPage v.limits r d → x ≡ (shown v.limits v.row).directory r d → (x < frame_count v.limits) × (x < 2 ^ 32)
   directory_low r d x page at = let sound : Sound (pages_of v) = subst (λ (u : Cells). Sound (pages_of u)) same is.sound in let low = sound.places.low r d page in let few = frames_few v.limits sound.valid in (omega arith, omega arith)

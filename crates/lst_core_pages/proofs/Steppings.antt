@@ -17,7 +17,7 @@ use Rattle.lst_core_pages.specs.declared.events.PageEvent.{PageEvent}
 use Rattle.lst_core_pages.specs.declared.events.PageEvent.TheVariants.{Pin, Unpin, LookPage, LookPin, StoreFrame, Swap, Raise}
 use Rattle.lst_core_pages.specs.declared.hands.PageId.{PageId}
 use Rattle.lst_core_pages.specs.declared.known.PageInHand.{PageInHand}
-use Rattle.lst_core_pages.specs.declared.known.Reader.{Reader}
+use Rattle.lst_core_pages.specs.declared.known.SessionFrames.{SessionFrames}
 use Rattle.lst_core_pages.specs.Lists.{rest, listed}
 use Rattle.lst_core_pages.specs.State.{Pages, empty_hand, oldest_epoch, frame_in}
 use Rattle.lst_core_pages.specs.Step.{IsWithin, Enabled, lets_go, place_of, with_page, page_at, words_after, after, settled}
@@ -132,7 +132,7 @@ module _ (c : Cells) (is : IsCore c) where
   hand_in_is s low = get_or_default c.hands s [] (empty_hand L) (in_hands s low)
 
   -- another pin of one session
-  other_pin : (s q : ℕ) (hands : List (List (Option PageId))) (v : Reader) → ((j : ℕ) → j ≢ s → hand_at L hands j ≡ hand_at L c.hands j) → v ≡ record { pin = q; hand = filled w.frames 0 (hand_at L hands s) }
+  other_pin : (s q : ℕ) (hands : List (List (Option PageId))) (v : SessionFrames) → ((j : ℕ) → j ≢ s → hand_at L hands j ≡ hand_at L c.hands j) → v ≡ record { pin = q; hand = filled w.frames 0 (hand_at L hands s) }
       → (j : ℕ) → reader_of L (record w { pins = put w.pins s q }) hands j ≡ put (reader_of L w c.hands) s v j
   other_pin s q hands v others here j = dite (ℕ_discrete j s)
       (λ e. subst (λ (k : ℕ). reader_of L (record w { pins = put w.pins s q }) hands k ≡ put (reader_of L w c.hands) s v k) (sym e)

@@ -7,8 +7,8 @@ use Rattle.lst_layout.specs.Words.{Words, word_at, with_word}
 use Rattle.lst_layout.proofs.Functions.{put_here, put_else}
 use Rattle.lst_core_pages.specs.declared.events.PageEvent.{PageEvent}
 use Rattle.lst_core_pages.specs.declared.events.PageEvent.TheVariants.{Pin, Unpin, LookPage, LookPin, StoreFrame, Swap, Raise}
-use Rattle.lst_core_pages.specs.declared.known.Merger.{Merger}
-use Rattle.lst_core_pages.specs.declared.known.Reader.{Reader}
+use Rattle.lst_core_pages.specs.declared.known.MergerFrames.{MergerFrames}
+use Rattle.lst_core_pages.specs.declared.known.SessionFrames.{SessionFrames}
 use Rattle.lst_core_pages.specs.State.{Pages, oldest_epoch, frame_in, empty_hand}
 use Rattle.lst_core_pages.specs.Step.{IsWithin, Enabled, lets_go, place_of, with_page, after, words_after}
 use Rattle.lst_core_pages.specs.Sound.{Sound}
@@ -27,7 +27,7 @@ put_in-again : (f : ℕ → ℕ → ℕ) (k m : ℕ) → put_in f k m (f k m) �
 put_in-again f k m = λ i a b. each_put_in (λ (a b v : ℕ). v ≡ f a b) f k m (f k m) refl (λ a b other. refl) a b i
 
 -- a step is a change of one word
-pub words_law : (w : Words) (m : Merger) (e : PageEvent) → with_word w (place_of e) (written_of (numbers_of m) e (word_at w (place_of e))) ≡ words_after w m e
+pub words_law : (w : Words) (m : MergerFrames) (e : PageEvent) → with_word w (place_of e) (written_of (numbers_of m) e (word_at w (place_of e))) ≡ words_after w m e
 words_law w m (Pin s e) = refl
 words_law w m (Unpin s) = refl
 words_law w m (LookPage s r c) = λ i. record w { directory = put_in-again w.directory r c i }
@@ -62,13 +62,13 @@ module _ (p : Pages) where
   is_session : (s j : ℕ) → Some s ≡ Some j → s ≡ j
   is_session s j e = ap frame_in e
 
-  own : (s j : ℕ) (v : Reader) → Some s ≡ Some j → put p.readers s v j ≡ v
+  own : (s j : ℕ) (v : SessionFrames) → Some s ≡ Some j → put p.readers s v j ≡ v
   own s j v e = ap (put p.readers s v) (sym (is_session s j e)) ∙ put_here p.readers s v
 
   reader_law : (e : PageEvent) (j : ℕ) → session_of e ≡ Some j → ((after p e).readers j).pin ≡ pin_after_of (p.readers j).pin e
-  reader_law (Pin s e) j is = ap (λ (v : Reader). v.pin) (own s j (record { pin = e + 1; hand = empty_hand p.limits }) is)
-  reader_law (Unpin s) j is = ap (λ (v : Reader). v.pin) (own s j (record { pin = 0; hand = empty_hand p.limits }) is)
-  reader_law (LookPage s r c) j is = ap (λ (v : Reader). v.pin) (own s j (with_page p.words (p.readers s) r c) is) ∙ ap (λ (k : ℕ). (p.readers k).pin) (is_session s j is)
+  reader_law (Pin s e) j is = ap (λ (v : SessionFrames). v.pin) (own s j (record { pin = e + 1; hand = empty_hand p.limits }) is)
+  reader_law (Unpin s) j is = ap (λ (v : SessionFrames). v.pin) (own s j (record { pin = 0; hand = empty_hand p.limits }) is)
+  reader_law (LookPage s r c) j is = ap (λ (v : SessionFrames). v.pin) (own s j (with_page p.words (p.readers s) r c) is) ∙ ap (λ (k : ℕ). (p.readers k).pin) (is_session s j is)
   reader_law (LookPin s) j is = refl
   reader_law (StoreFrame f n x) j is = refl
   reader_law (Swap r c) j is = refl

@@ -9,9 +9,9 @@ use Rattle.lst_pages.specs.declared.tails.PageTail.{PageTail}
 use Rattle.lst_core_pages.specs.declared.events.PageEvent.{PageEvent}
 use Rattle.lst_core_pages.specs.declared.events.PageEvent.TheVariants.{Pin, Unpin, LookPage, LookPin, StoreFrame, Swap, Raise}
 use Rattle.lst_core_pages.specs.declared.known.PageInHand.{PageInHand}
-use Rattle.lst_core_pages.specs.declared.known.Reader.{Reader}
+use Rattle.lst_core_pages.specs.declared.known.SessionFrames.{SessionFrames}
 use Rattle.lst_core_pages.specs.declared.known.Retired.{Retired}
-use Rattle.lst_core_pages.specs.declared.known.Merger.{Merger}
+use Rattle.lst_core_pages.specs.declared.known.MergerFrames.{MergerFrames}
 use Rattle.lst_core_pages.specs.declared.hands.PageId.{PageId}
 use Rattle.lst_core_pages.specs.declared.numbers.MergerNumbers.{MergerNumbers}
 use Rattle.lst_core_pages.specs.Lists.{rest, listed, rows_of}
@@ -39,17 +39,6 @@ pub record Cells : Type 0 where
 abbrev pub opening_queue : Limits → Queue
 opening_queue l = record { retired = spares (page_count l) l.spare; clear = nobody_clear l; waiting = None; built = None }
 
--- the words from a place on, so many of them, are numbered from 0 on, and all others are 0
-pub record IsNumbered (start count : ℕ) (row : List ℕ) : Type 0 where
-  pub numbers : (k : ℕ) → k < count → slice_index row (start + k) ≡ k
-  pub below : (k : ℕ) → k < start → slice_index row k ≡ 0
-  pub above : (k : ℕ) → start + count ≤ k → slice_index row k ≡ 0
-
--- the words at opening: those of the directory are the numbers of the pages
-pub record IsOpeningRow (l : Limits) (row : List ℕ) : Type 0 where
-  pub wide : length row ≡ words_of l
-  pub numbered : IsNumbered (directory_start l) (page_count l) row
-
 -- ---- the state that cells tell
 
 abbrev pub page_of : (ℕ → ℕ → ℕ) → ℕ → Option PageId → Option PageInHand
@@ -64,11 +53,11 @@ filled frames f (x ∷ xs) = page_of frames f x ∷ filled frames (suc f) xs
 abbrev pub hand_at : Limits → List (List (Option PageId)) → ℕ → List (Option PageId)
 hand_at l hands s = slice_index_or hands s (empty_hand l)
 
-abbrev pub reader_of : Limits → Words → List (List (Option PageId)) → ℕ → Reader
+abbrev pub reader_of : Limits → Words → List (List (Option PageId)) → ℕ → SessionFrames
 reader_of l w hands s = record { pin = w.pins s; hand = filled w.frames 0 (hand_at l hands s) }
 
 -- the finds are left out
-abbrev pub merger_of : Limits → Words → Queue → Merger
+abbrev pub merger_of : Limits → Words → Queue → MergerFrames
 merger_of l w q = record {
   epoch = w.epoch;
   directory = rows_of w.directory l.ranges l.columns;

@@ -1,10 +1,6 @@
 -- Lists, and sums: nothing here speaks of a state.
 use Rattle.std.specs.Prelude.{◌⊎◌, ℕ, zero, suc, ◌+◌, List, [], ◌∷◌, slice_index_or, slice_set}
-
--- P holds of each item
-abbrev pub Every : {A : Type 0} → (A → Type 0) → List A → Type 0
-Every P [] = Unit {0}
-Every P (x ∷ xs) = P x × Every P xs
+pub use Rattle.lst_pages.specs.Lists.{Every, listed}
 
 -- P holds of some item
 abbrev pub Any : {A : Type 0} → (A → Type 0) → List A → Type 0
@@ -30,11 +26,6 @@ rest (x ∷ xs) = xs
 abbrev pub total : (ℕ → ℕ) → ℕ → ℕ
 total f zero = 0
 total f (suc n) = total f n + f n
-
--- f k, f (k + 1), .., n items
-abbrev pub listed : {A : Type 0} → (ℕ → A) → ℕ → ℕ → List A
-listed f k zero = []
-listed f k (suc n) = f k ∷ listed f (suc k) n
 
 -- n rows of m words
 abbrev pub rows_of : (ℕ → ℕ → ℕ) → ℕ → ℕ → List (List ℕ)

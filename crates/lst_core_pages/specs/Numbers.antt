@@ -3,12 +3,12 @@ use Rattle.std.specs.Prelude.{◌≡◌, ◌≢◌, ℕ, ◌+◌, ◌<◌, ◌^�
 use Rattle.lst_layout.specs.Words.{word_at, with_word}
 use Rattle.lst_core_pages.specs.declared.events.PageEvent.{PageEvent}
 use Rattle.lst_core_pages.specs.declared.events.PageEvent.TheVariants.{Pin, Unpin, LookPage, LookPin, StoreFrame, Swap, Raise}
-use Rattle.lst_core_pages.specs.declared.known.Merger.{Merger}
+use Rattle.lst_core_pages.specs.declared.known.MergerFrames.{MergerFrames}
 use Rattle.lst_core_pages.specs.declared.numbers.MergerNumbers.{MergerNumbers}
 use Rattle.lst_core_pages.specs.State.{Pages, frame_in}
 use Rattle.lst_core_pages.specs.Step.{place_of, after}
 
-abbrev pub numbers_of : Merger → MergerNumbers
+abbrev pub numbers_of : MergerFrames → MergerNumbers
 numbers_of m = record { epoch = m.epoch; built = m.built }
 
 -- what a step makes of the word that it finds

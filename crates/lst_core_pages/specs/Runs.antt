@@ -11,7 +11,7 @@ use Rattle.lst_pages.specs.Pages.{IsRightPage}
 use Rattle.lst_core_pages.specs.declared.events.PageEvent.{PageEvent}
 use Rattle.lst_core_pages.specs.declared.events.PageEvent.TheVariants.{LookPin, StoreFrame, Swap}
 use Rattle.lst_core_pages.specs.declared.known.PageInHand.{PageInHand}
-use Rattle.lst_core_pages.specs.declared.known.Merger.{Merger}
+use Rattle.lst_core_pages.specs.declared.known.MergerFrames.{MergerFrames}
 use Rattle.lst_core_pages.specs.Lists.{word_in}
 use Rattle.lst_core_pages.specs.State.{Pages, hand_of, oldest_epoch, opening}
 use Rattle.lst_core_pages.specs.Step.{IsWithin, Enabled, lets_go, after, settled}
@@ -100,15 +100,15 @@ pub record IsSafe (p : Pages) : Type 0 where
 -- ---- what the merger knows of the words that it alone stores
 
 -- the words of a frame, as the merger knows them
-abbrev pub frame_known : Merger → ℕ → ℕ → ℕ
+abbrev pub frame_known : MergerFrames → ℕ → ℕ → ℕ
 frame_known m f = word_in m.frames f
 
 -- the frame of a page
-abbrev pub page_known : Merger → ℕ → ℕ → ℕ
+abbrev pub page_known : MergerFrames → ℕ → ℕ → ℕ
 page_known m r c = word_in m.directory r c
 
 -- by what it knows, the frame f may take the place of the page of range r and column c over the settled tails ts
-pub record IsSwapKnown (l : Limits) (m : Merger) (ts : List PageTail) (r c f : ℕ) : Type 0 where
+pub record IsSwapKnown (l : Limits) (m : MergerFrames) (ts : List PageTail) (r c f : ℕ) : Type 0 where
   pub built : m.built ≡ Some f
   pub right : IsRightPage c ts (frame_known m f)
   pub more : tps_in (frame_known m (page_known m r c)) < tps_in (frame_known m f)

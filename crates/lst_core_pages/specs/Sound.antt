@@ -8,7 +8,7 @@ use Rattle.lst_pages.specs.declared.tails.PageTail.{PageTail}
 use Rattle.lst_pages.specs.Frames.{tps_in}
 use Rattle.lst_pages.specs.Pages.{IsRightPage}
 use Rattle.lst_core_pages.specs.declared.known.PageInHand.{PageInHand}
-use Rattle.lst_core_pages.specs.declared.known.Reader.{Reader}
+use Rattle.lst_core_pages.specs.declared.known.SessionFrames.{SessionFrames}
 use Rattle.lst_core_pages.specs.declared.known.Retired.{Retired}
 use Rattle.lst_core_pages.specs.Lists.{Every, Any, First, HasFirst, total, word_in}
 use Rattle.lst_core_pages.specs.State.{Pages, hand_of, is_clear}
@@ -74,7 +74,7 @@ HandSame frames hand = EachInHand (λ f page. (n : ℕ) → n < FRAME_WORDS → 
 -- ---- readers that were found to be clear, and the frame being built
 
 -- a session whose pin was found not to hold the oldest retired frame has not got it in hand
-abbrev pub Cleared : Limits → (ℕ → Reader) → List Retired → (ℕ → Bool) → Type 0
+abbrev pub Cleared : Limits → (ℕ → SessionFrames) → List Retired → (ℕ → Bool) → Type 0
 Cleared l readers retired clear = First (λ r. (s : ℕ) → s < l.sessions → clear s ≡ true → hand_of (readers s) r.frame ≡ None) retired
 
 -- while a frame waits to be retired, nobody was found so
@@ -138,7 +138,7 @@ pub record Sized (l : Limits) (clear : List Bool) (its_directory its_frames : Li
 -- ---- all parts
 
 -- P holds of what each session knows
-abbrev pub EachReader : Limits → (ℕ → Reader → Type 0) → (ℕ → Reader) → Type 0
+abbrev pub EachReader : Limits → (ℕ → SessionFrames → Type 0) → (ℕ → SessionFrames) → Type 0
 EachReader l P readers = (s : ℕ) → s < l.sessions → P s (readers s)
 
 pub record Sound (p : Pages) : Type 0 where

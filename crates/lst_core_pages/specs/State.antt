@@ -2,15 +2,14 @@
 use Rattle.std.specs.Prelude.{ℕ, ◌+◌, ◌*◌, zero, suc, List, [], ◌∷◌, Bool, false, Option, Some, None, cond, replicate, slice_index_or}
 use Rattle.lst_layout.specs.declared.TheConstants.{FRAME_WORDS}
 use Rattle.lst_layout.specs.declared.limits.Limits.{Limits}
-use Rattle.lst_layout.specs.declared.place.Place.TheVariants.{DirectoryWord}
-use Rattle.lst_layout.specs.Addresses.{is_within}
 use Rattle.lst_layout.specs.Areas.{page_count, frame_count}
+use Rattle.lst_layout.specs.Words as store
 use Rattle.lst_layout.specs.Words.{Words}
 use Rattle.lst_pages.specs.declared.tails.PageTail.{PageTail}
 use Rattle.lst_core_pages.specs.declared.known.Retired.{Retired}
 use Rattle.lst_core_pages.specs.declared.known.PageInHand.{PageInHand}
-use Rattle.lst_core_pages.specs.declared.known.Reader.{Reader}
-use Rattle.lst_core_pages.specs.declared.known.Merger.{Merger}
+use Rattle.lst_core_pages.specs.declared.known.SessionFrames.{SessionFrames}
+use Rattle.lst_core_pages.specs.declared.known.MergerFrames.{MergerFrames}
 use Rattle.lst_core_pages.specs.Lists.{rows_of}
 
 -- tails by range, oldest first; readers by session
@@ -18,11 +17,11 @@ pub record Pages : Type 0 where
   pub limits : Limits
   pub words : Words
   pub tails : ℕ → List PageTail
-  pub readers : ℕ → Reader
-  pub merger : Merger
+  pub readers : ℕ → SessionFrames
+  pub merger : MergerFrames
 
 -- the page that a session took a frame in hand as, if the frame is in hand
-abbrev pub hand_of : Reader → ℕ → Option PageInHand
+abbrev pub hand_of : SessionFrames → ℕ → Option PageInHand
 hand_of v f = slice_index_or v.hand f None
 
 -- no frame is in hand
@@ -30,7 +29,7 @@ abbrev pub empty_hand : {A : Type 0} → Limits → List (Option A)
 empty_hand l = replicate (frame_count l) None
 
 -- the session's pin was found not to hold the oldest retired frame
-abbrev pub is_clear : Merger → ℕ → Bool
+abbrev pub is_clear : MergerFrames → ℕ → Bool
 is_clear m s = slice_index_or m.clear s false
 
 abbrev pub nobody_clear : Limits → List Bool
@@ -53,39 +52,18 @@ frame_in (Some f) = f
 
 -- each page has the frame of its number
 abbrev pub opening_directory : Limits → ℕ → ℕ → ℕ
-opening_directory l r c = cond (is_within l (DirectoryWord r c)) (r * l.columns + c) 0
-
--- every word is 0 but those of the directory
-abbrev pub opening_words : Limits → Words
-opening_words l = record {
-  clock = 0;
-  turn = 0;
-  epoch = 0;
-  counter = 0;
-  log = λ t. 0;
-  begins = λ s n. 0;
-  states = λ s n. 0;
-  keys = λ r. 0;
-  index = λ q. 0;
-  heads = λ r. 0;
-  counts = λ r. 0;
-  cells = λ t p. 0;
-  directory = opening_directory l;
-  frames = λ f n. 0;
-  pins = λ s. 0;
-  postings = λ c q. 0;
-}
+opening_directory l = (store.opening l).directory
 
 -- n frames from f on, retired at epoch 0
 abbrev pub spares : ℕ → ℕ → List Retired
 spares f zero = []
 spares f (suc n) = retired_at f 0 ∷ spares (suc f) n
 
-abbrev pub opening_reader : Limits → Reader
+abbrev pub opening_reader : Limits → SessionFrames
 opening_reader l = record { pin = 0; hand = empty_hand l }
 
 -- the frames that no page has are retired
-abbrev pub opening_merger : Limits → Merger
+abbrev pub opening_merger : Limits → MergerFrames
 opening_merger l = record {
   epoch = 0;
   directory = rows_of (opening_directory l) l.ranges l.columns;
@@ -98,4 +76,4 @@ opening_merger l = record {
 }
 
 abbrev pub opening : Limits → Pages
-opening l = record { limits = l; words = opening_words l; tails = λ r. []; readers = λ s. opening_reader l; merger = opening_merger l }
+opening l = record { limits = l; words = store.opening l; tails = λ r. []; readers = λ s. opening_reader l; merger = opening_merger l }

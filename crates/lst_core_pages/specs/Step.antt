@@ -13,8 +13,8 @@ use Rattle.lst_pages.specs.Pages.{IsRightPage}
 use Rattle.lst_core_pages.specs.declared.events.PageEvent.{PageEvent}
 use Rattle.lst_core_pages.specs.declared.events.PageEvent.TheVariants.{Pin, Unpin, LookPage, LookPin, StoreFrame, Swap, Raise}
 use Rattle.lst_core_pages.specs.declared.known.PageInHand.{PageInHand}
-use Rattle.lst_core_pages.specs.declared.known.Reader.{Reader}
-use Rattle.lst_core_pages.specs.declared.known.Merger.{Merger}
+use Rattle.lst_core_pages.specs.declared.known.SessionFrames.{SessionFrames}
+use Rattle.lst_core_pages.specs.declared.known.MergerFrames.{MergerFrames}
 use Rattle.lst_core_pages.specs.Lists.{HasFirst, rest, listed, with_word_in}
 use Rattle.lst_core_pages.specs.State.{Pages, is_clear, nobody_clear, empty_hand, oldest_epoch, retired_at, frame_in}
 
@@ -36,7 +36,7 @@ IsWithin l e = addresses.IsWithin l (place_of e)
 -- ---- where a step may be made
 
 -- every session's pin was found not to hold the oldest retired frame
-abbrev pub IsClear : Limits → Merger → Type 0
+abbrev pub IsClear : Limits → MergerFrames → Type 0
 IsClear l m = (s : ℕ) → s < l.sessions → is_clear m s ≡ true
 
 -- the frame f may take the place of the page of range r and column c: it is right, and has more tails than the page has
@@ -57,7 +57,7 @@ Enabled p Raise = (f : ℕ) × (p.merger.waiting ≡ Some f)
 -- ---- what a step changes
 
 -- the words
-abbrev pub words_after : Words → Merger → PageEvent → Words
+abbrev pub words_after : Words → MergerFrames → PageEvent → Words
 words_after w m (Pin s e) = record w { pins = put w.pins s (e + 1) }
 words_after w m (Unpin s) = record w { pins = put w.pins s 0 }
 words_after w m (LookPage s r c) = w
@@ -71,10 +71,10 @@ abbrev pub page_at : Words → ℕ → ℕ → PageInHand
 page_at w r c = record { range = r; column = c; words = listed (w.frames (w.directory r c)) 0 FRAME_WORDS }
 
 -- what a session knows after its step
-abbrev pub with_page : Words → Reader → ℕ → ℕ → Reader
+abbrev pub with_page : Words → SessionFrames → ℕ → ℕ → SessionFrames
 with_page w v r c = record v { hand = slice_set v.hand (w.directory r c) (Some (page_at w r c)) }
 
-abbrev pub readers_after : Limits → Words → (ℕ → Reader) → PageEvent → ℕ → Reader
+abbrev pub readers_after : Limits → Words → (ℕ → SessionFrames) → PageEvent → ℕ → SessionFrames
 readers_after l w vs (Pin s e) = put vs s (record { pin = e + 1; hand = empty_hand l })
 readers_after l w vs (Unpin s) = put vs s (record { pin = 0; hand = empty_hand l })
 readers_after l w vs (LookPage s r c) = put vs s (with_page w (vs s) r c)
@@ -88,7 +88,7 @@ abbrev pub lets_go : ℕ → ℕ → Bool
 lets_go pin e = eqb pin 0 || nat_lt e pin
 
 -- what the merger knows after a step
-abbrev pub merger_after : Limits → Words → Merger → PageEvent → Merger
+abbrev pub merger_after : Limits → Words → MergerFrames → PageEvent → MergerFrames
 merger_after l w m (Pin s e) = m
 merger_after l w m (Unpin s) = m
 merger_after l w m (LookPage s r c) = m

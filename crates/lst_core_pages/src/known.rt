@@ -17,7 +17,7 @@ pub struct PageInHand {
 }
 
 /// What a session knows of frames. No value of it is made at run time.
-pub struct Reader {
+pub struct SessionFrames {
     /// Its pin word: 0 where it has no epoch pinned, else that epoch plus one.
     pub pin: u64,
     /// For each frame, the page that it was taken in hand as, if it is in hand.
@@ -25,7 +25,7 @@ pub struct Reader {
 }
 
 /// What the merger knows of frames. No value of it is made at run time.
-pub struct Merger {
+pub struct MergerFrames {
     /// The epoch word. The merger alone stores it, the directory and the frames, so it knows their words.
     pub epoch: u64,
     /// The directory words, by range and column.

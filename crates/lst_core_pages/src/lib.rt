@@ -18,7 +18,7 @@ mod tests;
 
 pub use events::PageEvent;
 pub use hands::PageId;
-pub use known::{Merger, PageInHand, Reader, Retired};
+pub use known::{MergerFrames, PageInHand, Retired, SessionFrames};
 pub use laws::{
     every_run_is_sound, merger_knows_its_words, sound_states_are_safe, steps_are_made_by_numbers,
     steps_keep_soundness,

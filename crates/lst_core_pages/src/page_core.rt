@@ -14,7 +14,7 @@ use crate::hands::{Hand, PageId};
 use crate::numbers::{MergerNumbers, target, written};
 use crate::queue::FrameQueue;
 use crate::tails::TailList;
-use lst_layout::{FRAME_WORDS, Layout};
+use lst_layout::{FRAME_WORDS, Layout, opening_words};
 use lst_model::OutOfMemory;
 use lst_pages::{PageTail, is_right};
 use std::alloc::Global;
@@ -188,31 +188,6 @@ impl PageCore {
         change_hands(self.hands.as_mut_slice(), event, found);
         self.queue.change(event, found);
         found
-    }
-}
-
-/// All words of a store at opening: each is 0 but those of the directory, which hold the numbers of the pages.
-fn opening_words(alloc: Global, layout: &Layout) -> Result<Vec<u64>, OutOfMemory>
-    ensures { IfOk result (λ words. spec.IsOpeningRow layout.now.limits words.items) }
-{
-    let mut words = vec![in alloc; 0; layout.words as usize]?;
-    let start = layout.directory(0, 0) as usize;
-    number_words(
-        words.as_mut_slice(),
-        start,
-        layout.limits.page_count() as usize,
-    );
-    Ok(words)
-}
-
-/// Numbers this many words from a place on, where all are 0.
-fn number_words(words: &mut [u64], start: usize, count: usize)
-    requires room { start + count ≤ length words.old }
-    requires zero { (k : ℕ) → slice_index words.old k ≡ 0 }
-    ensures { spec.IsNumbered start count words.new }
-{
-    for k in 0..count {
-        words[start + k] = k as u64;
     }
 }
 

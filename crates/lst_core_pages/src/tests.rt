@@ -5,7 +5,7 @@ ghost use Rattle.lst_core_pages.specs.Step.{IsWithin};
 use crate::{NotEnabled, PageCore, PageEvent};
 use arrayvec::ArrayVec;
 use lst_bits::Kind;
-use lst_layout::{FRAME_WORDS, Limits, RANGE_RECORDS};
+use lst_layout::{FRAME_NULLS, FRAME_TIMES, FRAME_VALUES, FRAME_WORDS, Limits, RANGE_RECORDS};
 use lst_model::{OutOfMemory, Row};
 use lst_pages::PageTail;
 use std::alloc::Global;
@@ -37,7 +37,7 @@ fn a_session_reads_a_page_only_while_it_is_pinned(rt: HostRuntime) -> Result<(),
         slot: 0,
         kind: Kind::Put,
         mask: 3,
-        values: [10, 20],
+        cells: [Some(10), None],
         time: 1,
     };
     assert!(rt; core.settle(0, tail.settled()).is_ok());
@@ -49,10 +49,10 @@ fn drawn_steps_find_what_a_plain_recomputation_finds(rt: HostRuntime) -> Result<
     let Ok(layout) = SMALL.check() else {
         return Err(Fail::from("the small limits are in range"));
     };
-    for seed in 1..4 {
+    for seed in 1..3 {
         let mut core = PageCore::new(rt.alloc(), &layout)?;
         let mut plain = Plain::new(rt.alloc(), seed)?;
-        for _ in 0..20_000 {
+        for _ in 0..10_000 {
             if plain.draw(100) == 0 {
                 let range = plain.draw(RANGES) as u32;
                 let tail = plain.draw_tail();
@@ -81,6 +81,12 @@ const FRAMES: u64 = 6;
 
 const TAILS: u64 = 40;
 
+const VALUES: u64 = FRAME_VALUES as u64;
+
+const TIMES: u64 = FRAME_TIMES as u64;
+
+const NULLS: u64 = FRAME_NULLS as u64;
+
 const SMALL: Limits = Limits {
     columns: 2,
     ranges: 2,
@@ -97,20 +103,20 @@ struct Tail {
     slot: u8,
     kind: Kind,
     mask: u8,
-    values: [u64; 2],
+    cells: [Option<u64>; 2],
     time: u64,
 }
 
 impl Tail {
     fn settled(&self) -> PageTail {
-        let mut cells = ArrayVec::new();
-        cells.push(self.values[0]);
-        cells.push(self.values[1]);
+        let mut values = Row::of_numbers(ArrayVec::new());
+        values.push(self.cells[0]);
+        values.push(self.cells[1]);
         PageTail {
             slot: self.slot,
             kind: self.kind,
             mask: self.mask,
-            values: Row::new(cells),
+            values,
             time: self.time,
         }
     }
@@ -201,8 +207,15 @@ impl Plain {
             slot: self.draw(3) as u8,
             kind,
             mask,
-            values: [self.draw(1000), self.draw(1000)],
+            cells: [self.draw_cell(), self.draw_cell()],
             time: if self.draw(5) == 0 { 0 } else { self.time },
+        }
+    }
+
+    fn draw_cell(&mut self) -> Option<u64> {
+        match self.draw(4) {
+            0 => None,
+            _ => Some(self.draw(1000)),
         }
     }
 
@@ -280,30 +293,40 @@ impl Plain {
             .map_or(0, |list| list.len() as u64)
     }
 
-    /// The word that a page of all settled tails has there.
+    /// The word that a page of all settled tails has there, with its values in plain form.
     fn page_word(&self, range: u32, column: u64, place: u64) -> u64 {
         let tails = self.tail_count(range);
         if place == 0 {
             return tails;
         }
-        let records = RANGE_RECORDS as u64;
-        let (time, cell) = self.entry(range, column, (place - 1) % records, tails);
-        if place <= records {
-            cell.unwrap_or(0)
-        } else {
-            time.wrapping_mul(2).wrapping_add(cell.is_some() as u64)
+        if place < TIMES {
+            let slot = place.wrapping_sub(VALUES + 1);
+            let (_, cell) = self.entry(range, column, slot, tails);
+            return cell.flatten().unwrap_or(0);
         }
+        if place < NULLS {
+            let (time, cell) = self.entry(range, column, place - TIMES, tails);
+            return time.wrapping_mul(2).wrapping_add(cell.is_some() as u64);
+        }
+        let mut nulls = 0;
+        for bit in 0..64 {
+            let slot = (place - NULLS).wrapping_mul(64).wrapping_add(bit);
+            if self.entry(range, column, slot, tails).1 == Some(None) {
+                nulls |= 1 << bit;
+            }
+        }
+        nulls
     }
 
     /// The last tail up to this one that is committed, of this slot and touches the column.
-    fn entry(&self, range: u32, column: u64, slot: u64, tps: u64) -> (u64, Option<u64>) {
+    fn entry(&self, range: u32, column: u64, slot: u64, tps: u64) -> (u64, Option<Option<u64>>) {
         let mut entry = (0, None);
         if let Some(list) = self.tails.get(range as usize) {
             for (number, tail) in list.iter().enumerate() {
                 if (number as u64) < tps && tail.slot as u64 == slot && tail.is_on(column) {
                     let cell = match tail.kind {
                         Kind::Del => None,
-                        Kind::Put | Kind::Set => Some(tail.values[(column % 2) as usize]),
+                        Kind::Put | Kind::Set => Some(tail.cells[(column % 2) as usize]),
                     };
                     entry = (tail.time, cell);
                 }
@@ -312,21 +335,36 @@ impl Plain {
         entry
     }
 
+    /// The value at a slot, where the values stand in plain form or are all one.
+    fn value(&self, frame: u64, slot: u64) -> Option<u64> {
+        match self.word(frame, VALUES) {
+            0 => Some(self.word(frame, VALUES.wrapping_add(1).wrapping_add(slot))),
+            1 => Some(self.word(frame, VALUES.wrapping_add(1))),
+            _ => None,
+        }
+    }
+
+    /// Whether the frame is right. No drawn word names a form but the plain one and that of one value.
     fn is_right(&self, frame: u64, range: u32, column: u64) -> bool {
         let tps = self.word(frame, 0);
         if tps > self.tail_count(range) {
             return false;
         }
-        let records = RANGE_RECORDS as u64;
-        for slot in 0..records {
-            let stamp = self.word(frame, 1 + records + slot);
-            let cell = if stamp % 2 == 1 {
-                Some(self.word(frame, 1 + slot))
-            } else {
-                None
-            };
-            if self.entry(range, column, slot, tps) != (stamp / 2, cell) {
+        for slot in 0..RANGE_RECORDS as u64 {
+            let Some(value) = self.value(frame, slot) else {
                 return false;
+            };
+            let (time, cell) = self.entry(range, column, slot, tps);
+            let nulls = self.word(frame, NULLS.wrapping_add(slot / 64));
+            let stamp = time.wrapping_mul(2).wrapping_add(cell.is_some() as u64);
+            if self.word(frame, TIMES.wrapping_add(slot)) != stamp {
+                return false;
+            }
+            if let Some(cell) = cell {
+                let is_null = nulls >> (slot % 64) & 1 == 1;
+                if is_null != cell.is_none() || value != cell.unwrap_or(0) {
+                    return false;
+                }
             }
         }
         true

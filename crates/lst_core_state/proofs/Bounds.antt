@@ -72,6 +72,6 @@ rows_few l sized = let a = sized.sessions.1 in let b = sized.txns.1 in let h : l
 pub tails_few : (l : Limits) → IsValid l → tail_count l < 2 ^ 32
 tails_few l sized = let a = sized.ranges.1 in let b = sized.tails.1 in let h : l.ranges * l.tails ≤ 64 * 16384 = mul-le-mul a b in omega arith
 
--- a tail's number among all is below 2 ^ 21
+-- a tail's identifier is below 2 ^ 21
 pub tail_few : (range tails ranges n : ℕ) → range < ranges → ranges ≤ 64 → tails ≤ 16384 → n ≤ tails → range * tails + n ≤ 1048576
 tail_few range tails ranges n low a b few = let h : range * tails ≤ 63 * 16384 = mul-le-mul (let a : range ≤ 63 = omega arith in a) b in omega arith

@@ -37,4 +37,3 @@ pub mod Flags
 pub mod Numbered
 pub mod Stepped
 pub mod Bounds
-pub mod Opened

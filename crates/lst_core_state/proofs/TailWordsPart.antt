@@ -10,7 +10,7 @@ use Rattle.lst_core_state.specs.declared.events.Event.{Event}
 use Rattle.lst_core_state.specs.declared.events.Event.TheVariants.{Look, Begin, Take, Log, State, Clock, Give, Close, DrawRecord, StoreKey, Claim, Latch, DrawTail, StoreCell, Install, Release, Stamp}
 use Rattle.lst_layout.specs.declared.place.Place.{Place}
 use Rattle.lst_layout.specs.declared.place.Place.TheVariants.{ClockWord, CommitWord, EpochWord, RecordCounter, LogWord, BeginWord, StateWord, KeyWord, IndexWord, HeadWord, TailCounter, CellWord, DirectoryWord, FrameWord, PinWord, PostingWord}
-use Rattle.lst_core_state.specs.Cells.{record_count, range_of, IsCell}
+use Rattle.lst_core_state.specs.Cells.{record_count, range_of, IsColumn, IsCell}
 use Rattle.lst_core_state.specs.State.{Words, Core, state_at, record_in}
 use Rattle.lst_layout.specs.Addresses.{place_of}
 use Rattle.lst_core_state.specs.Step.{session_of, IsWithin, Enabled, Stands, words_after, known_after, look_at, gives_up, given_up, took, held_off, record_drawn, records_full, claimed, claim_lost, latched, latch_lost, tail_drawn, tails_full, cell_started, word_stored}
@@ -26,9 +26,9 @@ drawn_more l counts counts' range g more d = (d.0, d.1, let a = d.2 in let b = m
 -- the same words at other places
 image_same : (columns : ℕ) (f g : ℕ → ℕ) → ((p : ℕ) → 0 < p → g p ≡ f p) → IsCell columns (f 1) (λ c. f (3 + c)) → IsCell columns (g 1) (λ c. g (3 + c))
 image_same columns f g same k = let e : g 1 ≡ f 1 = same 1 (omega arith) in subst (λ (x : ℕ). IsCell columns x (λ c. g (3 + c))) (sym e) record {
-  slot = k.slot;
+  nulls = k.nulls;
   kind = k.kind;
-  else = λ c low none. same (3 + c) (omega arith) ∙ k.else c low none;
+  each = λ c low. subst (IsColumn (f 1) c) (sym (same (3 + c) (omega arith))) (k.each c low);
 }
 
 module _ (c : Core) (sound : Sound c) where

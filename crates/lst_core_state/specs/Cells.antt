@@ -1,8 +1,11 @@
--- The words of a tail, and what they say. All tails of a store are numbered through: range * tails + number.
-use Rattle.std.specs.Prelude.{◌≡◌, ◌⊎◌, ℕ, zero, suc, ◌+◌, ◌-◌, ◌*◌, ◌/◌, ◌%◌, ◌^◌, ◌<◌, List, [], ◌∷◌, Bool, false, cond, eqb, Option, Some, None}
+-- The words of a tail, and what they say. A tail's number counts the tails of its range, from 1 on; its identifier counts through
+-- all ranges: range * tails + number.
+use Rattle.std.specs.Prelude.{◌≡◌, ◌⊎◌, ℕ, zero, suc, ◌+◌, ◌-◌, ◌*◌, ◌/◌, ◌%◌, ◌^◌, ◌<◌, List, [], ◌∷◌, true, false, cond, eqb}
 use Rattle.lst_layout.specs.declared.limits.Limits.{Limits}
 use Rattle.lst_model.specs.declared.acts.Act.{Act}
 use Rattle.lst_model.specs.declared.acts.Act.TheVariants.{Put, Set, Del}
+pub use Rattle.lst_model.specs.Cells.{has_bit, patched}
+use Rattle.lst_model.specs.Cells.{Cell, cells_of}
 
 -- records and tails of a store
 abbrev pub record_count : Limits → ℕ
@@ -19,11 +22,11 @@ range_of r = r / 256
 unfoldable pub tail_range : ℕ → ℕ → ℕ
 tail_range tails t = (t - 1) / tails
 
--- the tail that has this number in the range, and 0 for 0
+-- the identifier of the tail with this number in the range, and 0 for 0
 unfoldable pub tail_at : ℕ → ℕ → ℕ → ℕ
 tail_at tails range n = cond (eqb n 0) 0 (range * tails + n)
 
--- an encoding word is mask + 256 * kind + 65536 * slot
+-- an encoding word is mask + 256 * kind + 65536 * slot + 16777216 * nulls
 abbrev pub mask_of : ℕ → ℕ
 mask_of e = e % 256
 
@@ -31,31 +34,37 @@ abbrev pub kind_of : ℕ → ℕ
 kind_of e = e / 256 % 256
 
 abbrev pub slot_of : ℕ → ℕ
-slot_of e = e / 65536
+slot_of e = e / 65536 % 256
 
-abbrev pub has_bit : ℕ → ℕ → Bool
-has_bit mask c = eqb (mask / 2 ^ c % 2) 1
+abbrev pub nulls_of : ℕ → ℕ
+nulls_of e = e / 16777216
 
 -- n words from a place on
 abbrev pub listed : (ℕ → ℕ) → ℕ → ℕ → List ℕ
 listed word p zero = []
 listed word p (suc n) = word p ∷ listed word (suc p) n
 
--- the cells from the column c on that the mask names
-abbrev pub patched : ℕ → ℕ → List ℕ → List (Option ℕ)
-patched mask c [] = []
-patched mask c (x ∷ xs) = cond (has_bit mask c) (Some x) None ∷ patched mask (suc c) xs
+-- what a write of this kind, a put, a set or a delete, does with the cells that the mask names
+abbrev pub act_with : ℕ → ℕ → List Cell → Act
+act_with kind mask cells = cond (eqb kind 1) (Put cells) (cond (eqb kind 2) (Set (patched mask 0 cells)) Del)
 
 -- what an encoding word and the values say is done to the row
 unfoldable pub act_of : ℕ → List ℕ → Act
-act_of e values = cond (eqb (kind_of e) 1) (Put values) (cond (eqb (kind_of e) 2) (Set (patched (mask_of e) 0 values)) Del)
+act_of e values = act_with (kind_of e) (mask_of e) (cells_of (nulls_of e) 0 values)
 
 -- a tail's record
 unfoldable pub record_of : ℕ → ℕ → ℕ → ℕ
 record_of tails t e = 256 * tail_range tails t + slot_of e
 
--- a put has all columns, a delete none, a set at least one; what the mask leaves out is 0
+-- under an encoding word a column that is null is one that the mask names, and the value of a column that is null, or that the
+-- mask leaves out, is 0
+pub record IsColumn (e c value : ℕ) : Type 0 where
+  pub within : has_bit (nulls_of e) c ≡ true → has_bit (mask_of e) c ≡ true
+  pub null : has_bit (nulls_of e) c ≡ true → value ≡ 0
+  pub else : has_bit (mask_of e) c ≡ false → value ≡ 0
+
+-- a put has all columns, a delete none, a set at least one; no column is null but those that there are
 pub record IsCell (columns e : ℕ) (values : ℕ → ℕ) : Type 0 where
-  pub slot : slot_of e < 256
+  pub nulls : nulls_of e < 2 ^ columns
   pub kind : ((kind_of e ≡ 1) × (mask_of e ≡ 2 ^ columns - 1)) ⊎ (((kind_of e ≡ 2) × (0 < mask_of e) × (mask_of e < 2 ^ columns)) ⊎ ((kind_of e ≡ 3) × (mask_of e ≡ 0)))
-  pub else : (c : ℕ) → c < columns → has_bit (mask_of e) c ≡ false → values c ≡ 0
+  pub each : (c : ℕ) → c < columns → IsColumn e c (values c)

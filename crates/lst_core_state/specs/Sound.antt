@@ -251,7 +251,7 @@ pub record Listed (l : Limits) (w : Words) (known : ℕ → Known) : Type 0 wher
   pub only : (s : ℕ) → s < l.sessions → (d : Done) → Contains (known s).done d → (d.rec < record_count l) × Has d.tail (line l w d.rec) × (writer_at w d.tail ≡ name_of s d.number)
   pub once : (s : ℕ) → s < l.sessions → AllPairs (λ d e. d.tail ≢ e.tail) (known s).done
   pub latched : (s : ℕ) → s < l.sessions → 0 < (known s).hold.latch → Contains (known s).latched ((known s).hold.latch - 1)
-  -- a tail number that was drawn is on a chain, or in hand
+  -- a tail that was drawn is on a chain, or in hand
   pub tails : (range g : ℕ) → range < l.ranges → Drawn l w.counts range g → ((r : ℕ) × (r < record_count l) × Has g (line l w r)) ⊎ ((s : ℕ) × (s < l.sessions) × ((known s).hold.tail ≡ g))
 
 -- ---- what steps have found

@@ -218,7 +218,7 @@ pub fn advance(layout: &Layout, now: &mut Numbers, event: Event, found: u64)
         Event::Stamp {
             session: _,
             range: _,
-            tail: _,
+            number: _,
         } => {}
     }
 }

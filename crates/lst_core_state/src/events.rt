@@ -77,10 +77,10 @@ pub enum Event {
     Release {
         session: u32,
     },
-    /// Store the commit time of a tail's transaction into its start word.
+    /// Store the commit time of a tail's transaction into its start word. The tail is named by its range and its number there.
     Stamp {
         session: u32,
         range: u32,
-        tail: u32,
+        number: u32,
     },
 }

@@ -2,7 +2,7 @@
 
 use std::collections::LinkedList;
 
-/// What a step has found, and stays so for good. A tail is named by `range * tails + number`.
+/// What a step has found, and stays so for good. A tail is named by its identifier, `range * tails + number`.
 pub enum Fact {
     /// The position of the index holds the record, which has the key.
     IndexAt {

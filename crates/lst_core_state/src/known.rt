@@ -48,9 +48,9 @@ pub struct Placing {
 pub struct Hold {
     /// One more than the record whose latch is in hand, or 0.
     pub latch: u32,
-    /// The tail number, in its range, that the latched indirection word held.
+    /// The number, in its range, of the tail that the latched indirection word held, or 0.
     pub head: u64,
-    /// The tail in hand, as `range * tails + number`, or 0.
+    /// The identifier of the tail in hand, `range * tails + number`, or 0.
     pub tail: u32,
     /// The start word of the tail in hand is stored.
     pub is_whole: bool,

@@ -10,7 +10,6 @@ mod facts;
 mod known;
 mod laws;
 mod numbers;
-mod openings;
 mod targets;
 
 pub use afters::{advance, look};
@@ -22,5 +21,4 @@ pub use laws::{
     visible_is_seen,
 };
 pub use numbers::{Numbers, newcomers};
-pub use openings::opening_words;
-pub use targets::{cell_address, target, written};
+pub use targets::{target, written};

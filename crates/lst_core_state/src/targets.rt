@@ -4,7 +4,6 @@ ghost use Rattle.lst_layout.specs.Addresses as addresses;
 ghost use Rattle.lst_layout.specs.Addresses.{address};
 ghost use Rattle.lst_layout.specs.Areas.{words_of};
 ghost use Rattle.lst_layout.specs.Limits.{IsValid};
-ghost use Rattle.lst_layout.specs.declared.place.Place.TheVariants.{CellWord};
 ghost use Rattle.lst_core_state.specs.Cells.{record_count};
 ghost use Rattle.lst_core_state.specs.Step as step;
 ghost use Rattle.lst_core_state.specs.State as state;
@@ -14,18 +13,6 @@ ghost use Rattle.lst_core_state.specs.Bounds.{IsWritable};
 use crate::Event;
 use crate::numbers::Numbers;
 use lst_layout::{Layout, Limits};
-
-/// The address of a word of a tail, by its number among all tails.
-pub fn cell_address(layout: &Layout, tail: u32, place: u32) -> u64
-    requires { addresses.IsWithin layout.now.limits (CellWord tail place) }
-    ensures address { result ≡ address layout.now.limits (CellWord tail place) }
-    ensures below { result < words_of layout.now.limits }
-{
-    // Each address is below the number of words, which fits.
-    let _all = layout.words;
-    let first = layout.tail_cells(0, 1, 0);
-    first + (tail - 1) as u64 * layout.limits.cell_words() + place as u64
-}
 
 /// The address of the word that a step is on.
 #[inline(always)]
@@ -63,15 +50,15 @@ pub fn target(layout: &Layout, now: &Numbers, event: Event) -> u64
             session: _,
             place,
             value: _,
-        } => cell_address(layout, now.hold.tail, place),
+        } => layout.cell_address(now.hold.tail, place),
         Event::Install { session: _ } | Event::Release { session: _ } => layout.indirection(
             now.hold.latch.saturating_sub(1),
         ),
         Event::Stamp {
             session: _,
             range,
-            tail,
-        } => layout.tail_cells(range, tail, 0),
+            number,
+        } => layout.tail_cells(range, number, 0),
     }
 }
 
@@ -127,7 +114,7 @@ pub fn written(limits: &Limits, now: &Numbers, time: u64, event: Event, found: u
         Event::Stamp {
             session: _,
             range: _,
-            tail: _,
+            number: _,
         } => 2 * time,
     }
 }

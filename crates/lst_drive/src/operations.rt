@@ -51,12 +51,12 @@ fn judges(store: &Store, seat: &mut Seat, s: u32, rec: u32, head: u32) -> (Answe
 
 /// A put of 10 20.
 fn a_put() -> Act
-    ensures { result ≡ Put (10 ∷ 20 ∷ []) }
+    ensures { result ≡ Put (Some 10 ∷ Some 20 ∷ []) }
 {
     let mut cells = ArrayVec::new();
     cells.push(10);
     cells.push(20);
-    Act::Put(Row::new(cells))
+    Act::Put(Row::of_numbers(cells))
 }
 
 fn appends(store: &Store, seat: &mut Seat, s: u32, rec: u32, head: u32) -> (Answer, Stage)

@@ -46,7 +46,7 @@ fn cells(first: u64, second: u64) -> Row
     let mut cells = ArrayVec::new();
     cells.push(first);
     cells.push(second);
-    Row::new(cells)
+    Row::of_numbers(cells)
 }
 
 fn put(first: u64, second: u64) -> Act
@@ -61,7 +61,27 @@ fn set_first(cell: u64) -> Act
     let mut cells = ArrayVec::new();
     cells.push(Some(cell));
     cells.push(None);
-    Act::Set(Patch::new(cells))
+    Act::Set(Patch::of_numbers(cells))
+}
+
+/// A set of the first column to null.
+fn set_first_to_null() -> Act
+    ensures { IsActFor 2 result }
+{
+    let mut patch = Patch::of_numbers(ArrayVec::new());
+    patch.push(Some(None));
+    patch.push(None);
+    Act::Set(patch)
+}
+
+/// A row whose first cell is null.
+fn null_and(second: u64) -> Row
+    ensures { length result ≡ 2 }
+{
+    let mut row = Row::of_numbers(ArrayVec::new());
+    row.push(None);
+    row.push(Some(second));
+    row
 }
 
 fn set_second(cell: u64) -> Act
@@ -70,7 +90,7 @@ fn set_second(cell: u64) -> Act
     let mut cells = ArrayVec::new();
     cells.push(None);
     cells.push(Some(cell));
-    Act::Set(Patch::new(cells))
+    Act::Set(Patch::of_numbers(cells))
 }
 
 /// Session s begins: the begin, or None where it may not.
@@ -236,6 +256,18 @@ fn stamp_tail(store: &Store, seat: &mut Seat, s: u32, tail: u32) -> Option<bool>
     Some(stamp(store, seat, s, 0, tail))
 }
 
+/// The word at a place of a tail record.
+fn cell_word(store: &Store, seat: &mut Seat, s: u32, tail: u32, place: u32) -> u64
+    requires pair { IsPair store.now seat.old }
+    requires session { s < 2 }
+    requires some { 0 < tail }
+    requires few { tail ≤ 16 }
+    requires place { place < 5 }
+    ensures { IsPair store.now seat.new }
+{
+    load_cell(store, seat, s, tail, place)
+}
+
 /// The start word of a tail record.
 fn start_word(store: &Store, seat: &mut Seat, s: u32, tail: u32) -> u64
     requires pair { IsPair store.now seat.old }
@@ -244,7 +276,7 @@ fn start_word(store: &Store, seat: &mut Seat, s: u32, tail: u32) -> u64
     requires few { tail ≤ 16 }
     ensures { IsPair store.now seat.new }
 {
-    load_cell(store, seat, s, tail, 0)
+    cell_word(store, seat, s, tail, 0)
 }
 
 #[test]
@@ -372,5 +404,32 @@ fn a_record_without_a_seen_key_has_no_row(rt: HostRuntime) -> Result<(), Fail> {
         read_record(&store, &mut seat, 0, 0),
         Some(Some(cells(10, 20)))
     );
+    Ok(())
+}
+
+#[test]
+fn a_null_is_read_and_set(rt: HostRuntime) -> Result<(), Fail> {
+    let (store, mut seat) = open_pair(rt.alloc())?;
+    assert_eq!(rt; start(&store, &mut seat, 0), Some(0));
+    assert_eq!(rt;
+        write(&store, &mut seat, 0, 7, &Act::Put(null_and(20))),
+        Some(1)
+    );
+    // Mask 3, a put, slot 0, and the first column null; its value word is 0.
+    assert_eq!(rt; cell_word(&store, &mut seat, 0, 1, 1), 16_777_475);
+    assert_eq!(rt; cell_word(&store, &mut seat, 0, 1, 3), 0);
+    assert_eq!(rt; see(&store, &mut seat, 0, 7), Some(Some(null_and(20))));
+    assert_eq!(rt; see_cell(&store, &mut seat, 0, 7, 0), Some(Some(0)));
+    assert_eq!(rt; write(&store, &mut seat, 0, 7, &set_first(11)), Some(2));
+    assert_eq!(rt; see(&store, &mut seat, 0, 7), Some(Some(cells(11, 20))));
+    assert_eq!(rt;
+        write(&store, &mut seat, 0, 7, &set_first_to_null()),
+        Some(3)
+    );
+    // Mask 1, a set, slot 0, and the first column null.
+    assert_eq!(rt; cell_word(&store, &mut seat, 0, 3, 1), 16_777_729);
+    assert_eq!(rt; see(&store, &mut seat, 0, 7), Some(Some(null_and(20))));
+    assert_eq!(rt; see_cell(&store, &mut seat, 0, 7, 0), Some(Some(0)));
+    assert_eq!(rt; see_cell(&store, &mut seat, 0, 7, 1), Some(Some(20)));
     Ok(())
 }

@@ -186,8 +186,8 @@ fn one_transaction_puts_sets_and_deletes_a_row(rt: HostRuntime) -> Result<(), Fa
         &mut seat,
         0,
         7,
-        Row::new(cells),
-        Patch::new(changes),
+        Row::of_numbers(cells),
+        Patch::of_numbers(changes),
     );
     assert_eq!(rt; time, Some(1));
     let _ = head;

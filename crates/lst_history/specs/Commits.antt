@@ -1,15 +1,10 @@
 -- The commits with the writes of the first tails, and which commit the write of a tail is of.
 use Rattle.std.specs.Prelude.{◌≡◌, ℕ, zero, suc, ◌<◌, ◌≤◌, List, [], ◌∷◌, false, eqb}
 use Rattle.lst_layout.specs.declared.limits.Limits.{Limits}
-use Rattle.lst_model.specs.declared.acts.Act.{Act}
-use Rattle.lst_model.specs.declared.acts.Act.TheVariants.{Put, Set, Del}
 use Rattle.lst_model.specs.declared.acts.Write.{Write}
 use Rattle.lst_model.specs.declared.commits.Commit.{Commit}
 use Rattle.lst_model.specs.Histories.{joined}
 use Rattle.lst_core_state.specs.Writes.{write, writes_by}
-use Rattle.lst_bits.specs.declared.encodings.Kind.{Kind}
-use Rattle.lst_bits.specs.declared.encodings.Kind.TheVariants as kinds
-use Rattle.lst_core_state.specs.Cells.{patched}
 use Rattle.lst_core_state.specs.State.{Words, history, is_by, record_in, act_in}
 
 -- the writes of the transaction x in the first n tails
@@ -54,9 +49,3 @@ abbrev pub entered : List Commit → ℕ → Write → List Commit
 entered [] i x = []
 entered (c ∷ cs) zero x = with_write c x ∷ cs
 entered (c ∷ cs) (suc i) x = c ∷ entered cs i x
-
--- what a write of the kind and mask does, with these values
-abbrev pub act_for : Kind → ℕ → List ℕ → Act
-act_for kinds.Put mask values = Put values
-act_for kinds.Set mask values = Set (patched mask 0 values)
-act_for kinds.Del mask values = Del

@@ -61,7 +61,7 @@ module _ (v : View) (words : List ℕ) (known : ℕ → Known) (merger : Known) 
 -- a run that was found to end without the key: it stands in no position then
 pub ended_absent : (v : View) (s key : ℕ) → hosts v s ≡ true → (e : Ended v s key) → let w = shown v.limits e.words in (q : ℕ) → 0 < w.index q → w.keys (w.index q - 1) ≢ key
 ended_absent v s key hosted e = let w : Words = shown v.limits e.words in
-    absent v.limits w.counter w.keys w.index (λ j. (e.known j).placing) e.allowed.sound.index key e.turn (passes v e.words e.known e.merger e.allowed s hosted key e.turn e.passed) e.empty
+    absent v.limits w.counter w.keys w.index (λ j. (e.known j).placing) e.allowed.sound.index key e.offset (passes v e.words e.known e.merger e.allowed s hosted key e.offset e.passed) e.empty
 
 pub ended_unseen : (v : View) (s key : ℕ) → hosts v s ≡ true → s < v.limits.sessions → Ended v s key → IsUnseen (knows v s) key
 ended_unseen v s key hosted low e = unseen v e.words e.known e.merger e.allowed s hosted key (ended_absent v s key hosted e) low

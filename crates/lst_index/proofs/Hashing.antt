@@ -20,9 +20,9 @@ module _ (l : Limits) (sized : IsValid l) where
       (λ e. let h = (size_enough l sized).0 in let some = sized.ranges.0 in let one : size l ≡ 2 ^ 0 = ap (λ (b : ℕ). 2 ^ b) e in absurd (omega arith))
       (λ ne. omega arith)
 
-  pub position_is : (key turn first : ℕ) → first ≡ start_of key (index_bits l) → (positions : ℕ) → positions ≡ index_positions l → (first + turn) % positions ≡ position_of l key turn
+  pub position_is : (key offset first : ℕ) → first ≡ start_of key (index_bits l) → (positions : ℕ) → positions ≡ index_positions l → (first + offset) % positions ≡ position_of l key offset
   unfolding size first_of run_position
-  position_is key turn first e positions f = λ i. (e i + turn) % f i
+  position_is key offset first e positions f = λ i. (e i + offset) % f i
 
-  pub position_below : (key turn first : ℕ) → first ≡ start_of key (index_bits l) → (positions : ℕ) → positions ≡ index_positions l → (first + turn) % positions < size l
-  position_below key turn first e positions f = subst (λ (q : ℕ). q < size l) (sym (position_is key turn first e positions f)) (position_low l sized key turn)
+  pub position_below : (key offset first : ℕ) → first ≡ start_of key (index_bits l) → (positions : ℕ) → positions ≡ index_positions l → (first + offset) % positions < size l
+  position_below key offset first e positions f = subst (λ (q : ℕ). q < size l) (sym (position_is key offset first e positions f)) (position_low l sized key offset)

@@ -78,7 +78,7 @@ module _ (v w : View) (s q x : ℕ) (h : Looked v w s (IndexWord q) x) (hosted :
   pub index_ends : (key n : ℕ) → x ≡ 0 → n < size v.limits → q ≡ position_of v.limits key n → Passed v.limits k.facts key n → EndedSince v w s key
   index_ends key n free short is p = let t = h.met.made.told in let same : w.limits ≡ v.limits = h.view.limits in record {
     ended = record {
-      turn = n;
+      offset = n;
       short = subst (λ (l : Limits). n < size l) (sym same) short;
       passed = subst (λ (l : Limits). Passed l (knows w s).facts key n) (sym same) (passed_more v.limits k.facts (knows w s).facts key n (works_stay v w s [] index_works) p);
       before = v;

@@ -19,12 +19,12 @@ use Rattle.lst_index.proofs.Hashing.{size_is}
 use Rattle.lst_index.proofs.Views.{works_on, works_stay, works_host, keeps_on}
 use Rattle.lst_index.proofs.Ending.{passed_more, passed_next}
 
--- a turn of the loop is below the size
-pub turn_short : (l m : Limits) (all turn : ℕ) → turn < all → all ≡ index_positions l → l ≡ m → turn < size m
-turn_short l m all turn low is same = subst (λ (z : Limits). turn < size z) same (subst (λ (n : ℕ). turn < n) (is ∙ sym (size_is l)) low)
+-- an offset of the loop is below the size
+pub offset_short : (l m : Limits) (all offset : ℕ) → offset < all → all ≡ index_positions l → l ≡ m → offset < size m
+offset_short l m all offset low is same = subst (λ (z : Limits). offset < size z) same (subst (λ (n : ℕ). offset < n) (is ∙ sym (size_is l)) low)
 
-pub turns_over : (l m : Limits) (all turn : ℕ) → all ≤ turn → all ≡ index_positions l → l ≡ m → size m ≤ turn
-turns_over l m all turn low is same = subst (λ (z : Limits). size z ≤ turn) same (subst (λ (n : ℕ). n ≤ turn) (is ∙ sym (size_is l)) low)
+pub offsets_over : (l m : Limits) (all offset : ℕ) → all ≤ offset → all ≡ index_positions l → l ≡ m → size m ≤ offset
+offsets_over l m all offset low is same = subst (λ (z : Limits). size z ≤ offset) same (subst (λ (n : ℕ). n ≤ offset) (is ∙ sym (size_is l)) low)
 
 -- the positions passed, after more steps
 pub passed_on : (l : Limits) (v w : View) (s key n : ℕ) → Works v w s [] → Passed l (knows v s).facts key n → Passed l (knows w s).facts key n

@@ -28,16 +28,16 @@ Passed l facts key n = (i : ℕ) → i < n → (r k : ℕ) × Contains facts (In
 -- the key's run was found to end without it: the positions passed hold other keys, and the load of the next one, by which the session s came to
 -- the view, found it empty. So it is in a state in which the view is possible
 pub record Ended (v : View) (s key : ℕ) : Type 0 where
-  pub turn : ℕ
-  pub short : turn < size v.limits
-  pub passed : Passed v.limits (knows v s).facts key turn
+  pub offset : ℕ
+  pub short : offset < size v.limits
+  pub passed : Passed v.limits (knows v s).facts key offset
   pub before : View
-  pub look : Looked before v s (IndexWord (position_of v.limits key turn)) 0
+  pub look : Looked before v s (IndexWord (position_of v.limits key offset)) 0
   pub words : List ℕ
   pub known : ℕ → Known
   pub merger : Known
   pub allowed : Allowed v words known merger
-  pub empty : (shown v.limits words).index (position_of v.limits key turn) ≡ 0
+  pub empty : (shown v.limits words).index (position_of v.limits key offset) ≡ 0
 
 -- no commit that was seen wrote the key, and the open transaction sees nothing of it
 pub record IsUnseen (k : Known) (key : ℕ) : Type 0 where

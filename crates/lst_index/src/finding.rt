@@ -29,16 +29,16 @@ pub fn find(store: &Store, seat: &mut Seat, s: u32, key: Key) -> Option<RecordId
     ensures unseen { IfNone result (IsUnseen (knows seat.new.view s) key) }
 {
     let all = store.layout().index_positions() as u32;
-    let mut turn = 0;
-    while turn < all {
-        let at = position(store.layout(), key, turn);
+    let mut offset = 0;
+    while offset < all {
+        let at = position(store.layout(), key, offset);
         let Some(number) = look(store, seat, s, at) else {
             return None;
         };
         if let Some(found) = compare(store, seat, s, key, at, number) {
             return Some(found);
         }
-        turn += 1;
+        offset += 1;
     }
     seat.consider();
     unreachable!()

@@ -98,17 +98,17 @@ fn claim(
     seat: &mut Seat,
     s: u32,
     key: Key,
-    turn: u32,
+    offset: u32,
     position: u32,
 ) -> Result<RecordId, Lost>
     requires seat { IsSeatOf store.now seat.old }
     requires host { hosts seat.old.view s ≡ true }
     requires own { s < seat.old.view.limits.sessions }
-    requires turn { turn < size store.now.layout.limits }
+    requires offset { offset < size store.now.layout.limits }
     requires position { position < size store.now.layout.limits }
-    requires is { position ≡ position_of store.now.layout.limits key turn }
+    requires is { position ≡ position_of store.now.layout.limits key offset }
     requires has { HasOne (knows seat.old.view s).placing key }
-    requires passed { Passed store.now.layout.limits (knows seat.old.view s).facts key turn }
+    requires passed { Passed store.now.layout.limits (knows seat.old.view s).facts key offset }
     ensures seat { IsSeatOf store.now seat.new }
     ensures works { Works seat.old.view seat.new.view s [] }
     ensures won { IfOk result (λ r. (r.number < record_count store.now.layout.limits) × IsPlaced (knows seat.new.view s) r.number key × ((knows seat.new.view s).placing ≡ (let before = (knows seat.old.view s).placing in record before { hand = 0; has_key = false }))) }
@@ -136,26 +136,26 @@ pub(crate) fn settle(
     seat: &mut Seat,
     s: u32,
     key: Key,
-    turn: u32,
+    offset: u32,
     position: u32,
 ) -> Option<RecordId>
     requires seat { IsSeatOf store.now seat.old }
     requires host { hosts seat.old.view s ≡ true }
     requires own { s < seat.old.view.limits.sessions }
-    requires turn { turn < size store.now.layout.limits }
+    requires offset { offset < size store.now.layout.limits }
     requires position { position < size store.now.layout.limits }
-    requires is { position ≡ position_of store.now.layout.limits key turn }
+    requires is { position ≡ position_of store.now.layout.limits key offset }
     requires has { HasOne (knows seat.old.view s).placing key }
-    requires passed { Passed store.now.layout.limits (knows seat.old.view s).facts key turn }
+    requires passed { Passed store.now.layout.limits (knows seat.old.view s).facts key offset }
     ensures seat { IsSeatOf store.now seat.new }
     ensures works { Works seat.old.view seat.new.view s [] }
     ensures drawn { (knows seat.new.view s).placing.drawn ≡ (knows seat.old.view s).placing.drawn }
     ensures placed { IfSome result (λ r. (r.number < record_count store.now.layout.limits) × IsPlaced (knows seat.new.view s) r.number key × ((knows seat.new.view s).placing.hand ≡ 0)) }
-    ensures passed { IfNone result (HasOne (knows seat.new.view s).placing key × Passed store.now.layout.limits (knows seat.new.view s).facts key (turn + 1)) }
+    ensures passed { IfNone result (HasOne (knows seat.new.view s).placing key × Passed store.now.layout.limits (knows seat.new.view s).facts key (offset + 1)) }
     ensures stores { IfSome result (λ r. seat.old.view.whole ≡ true → (shown seat.old.view.limits seat.old.view.words).index position ≡ 0 → Claims seat.old.view seat.new.view s position r.number) }
     ensures taken { IfNone result (seat.old.view.whole ≡ true → (shown seat.old.view.limits seat.old.view.words).index position ≢ 0) }
 {
-    match claim(store, seat, s, key, turn, position) {
+    match claim(store, seat, s, key, offset, position) {
         Ok(placed) => Some(placed),
         Err(lost) => compare(store, seat, s, key, position, lost.number),
     }
@@ -167,32 +167,32 @@ pub(crate) fn visit(
     seat: &mut Seat,
     s: u32,
     key: Key,
-    turn: u32,
+    offset: u32,
 ) -> Result<Option<RecordId>, TableFull>
     requires seat { IsSeatOf store.now seat.old }
     requires host { hosts seat.old.view s ≡ true }
     requires own { s < seat.old.view.limits.sessions }
-    requires turn { turn < size store.now.layout.limits }
+    requires offset { offset < size store.now.layout.limits }
     requires holds { Holds (knows seat.old.view s).placing key }
-    requires passed { Passed store.now.layout.limits (knows seat.old.view s).facts key turn }
+    requires passed { Passed store.now.layout.limits (knows seat.old.view s).facts key offset }
     ensures seat { IsSeatOf store.now seat.new }
     ensures works { Works seat.old.view seat.new.view s (full_finds result) }
     ensures uses { Uses (knows seat.old.view s).placing (knows seat.new.view s).placing 1 }
     ensures after_look { IsOk result → DrawsAfterLook seat.old.view seat.new.view s key }
     ensures placed { IfOk result (λ o. IfSome o (λ r. (r.number < record_count store.now.layout.limits) × IsPlaced (knows seat.new.view s) r.number key × ((knows seat.new.view s).placing.hand ≡ 0))) }
-    ensures passed { IfOk result (λ o. IfNone o (Uses (knows seat.old.view s).placing (knows seat.new.view s).placing (one (knows seat.new.view s).placing.has_key) × Holds (knows seat.new.view s).placing key × Passed store.now.layout.limits (knows seat.new.view s).facts key (turn + 1))) }
+    ensures passed { IfOk result (λ o. IfNone o (Uses (knows seat.old.view s).placing (knows seat.new.view s).placing (one (knows seat.new.view s).placing.has_key) × Holds (knows seat.new.view s).placing key × Passed store.now.layout.limits (knows seat.new.view s).facts key (offset + 1))) }
     ensures full { OnErr result (FoundFull seat.old.view seat.new.view s key) }
     ensures none { OnErr result (((knows seat.new.view s).placing.hand ≡ 0) × Uses (knows seat.old.view s).placing (knows seat.new.view s).placing 0) }
     ensures words { IfOk result (λ o. IfSome o (λ r. seat.old.view.whole ≡ true → (knows seat.old.view s).placing.hand ≡ 0 → Leaves seat.old.view.limits seat.old.view.words seat.new.view.words key r.number)) }
     ensures rests { IfOk result (λ o. IfNone o (seat.old.view.whole ≡ true → (knows seat.old.view s).placing.hand ≡ 0 → Rests seat.old.view seat.new.view s)) }
     ensures kept { OnErr result (seat.old.view.whole ≡ true → LeavesFull seat.old.view.limits seat.old.view.words seat.new.view.words key) }
 {
-    let at = position(store.layout(), key, turn);
+    let at = position(store.layout(), key, offset);
     if let Some(number) = look(store, seat, s, at) {
         return Ok(compare(store, seat, s, key, at, number));
     }
     take_record(store, seat, s, key)?;
-    Ok(settle(store, seat, s, key, turn, at))
+    Ok(settle(store, seat, s, key, offset, at))
 }
 
 /// The record of a key, which is drawn and placed if the key has none. At most one record is drawn, and none is in hand afterwards. A
@@ -224,12 +224,12 @@ pub fn place(store: &Store, seat: &mut Seat, s: u32, key: Key) -> Result<RecordI
 {
     seat.consider();
     let all = store.layout().index_positions() as u32;
-    let mut turn = 0;
-    while turn < all {
-        if let Some(placed) = visit(store, seat, s, key, turn)? {
+    let mut offset = 0;
+    while offset < all {
+        if let Some(placed) = visit(store, seat, s, key, offset)? {
             return Ok(placed);
         }
-        turn += 1;
+        offset += 1;
     }
     seat.consider();
     unreachable!()

@@ -7,11 +7,11 @@ use lst_layout::Layout;
 use lst_probe::start;
 
 /// A position of a key's run, from 0.
-pub(crate) fn position(layout: &Layout, key: u64, turn: u32) -> u32
-    requires { turn < size layout.now.limits }
-    ensures position { result ≡ position_of layout.now.limits key turn }
+pub(crate) fn position(layout: &Layout, key: u64, offset: u32) -> u32
+    requires { offset < size layout.now.limits }
+    ensures position { result ≡ position_of layout.now.limits key offset }
     ensures below { result < size layout.now.limits }
 {
     let first = start(key, layout.index_bits()) as u64;
-    ((first + turn as u64) % layout.index_positions()) as u32
+    ((first + offset as u64) % layout.index_positions()) as u32
 }

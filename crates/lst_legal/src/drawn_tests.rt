@@ -48,29 +48,37 @@ impl Drawer {
         }
     }
 
-    fn draw_cell(&mut self) -> u64 {
+    fn draw_number(&mut self) -> u64 {
         match self.draw(12) {
             0 => 18446744073709551615,
             _ => self.draw(3),
         }
     }
 
+    /// A number, or None for null.
+    fn draw_cell(&mut self) -> Option<u64> {
+        match self.draw(5) {
+            0 => None,
+            _ => Some(self.draw_number()),
+        }
+    }
+
     fn draw_row(&mut self) -> Row {
-        let mut cells = ArrayVec::new();
-        cells.push(self.draw_cell());
-        cells.push(self.draw_cell());
-        Row::new(cells)
+        let mut row = Row::of_numbers(ArrayVec::new());
+        row.push(self.draw_cell());
+        row.push(self.draw_cell());
+        row
     }
 
     fn draw_patch(&mut self) -> Patch {
-        let mut cells = ArrayVec::new();
+        let mut patch = Patch::of_numbers(ArrayVec::new());
         let first = match self.draw(2) {
             0 => None,
             _ => Some(self.draw_cell()),
         };
-        cells.push(first);
-        cells.push(Some(self.draw_cell()));
-        Patch::new(cells)
+        patch.push(first);
+        patch.push(Some(self.draw_cell()));
+        patch
     }
 
     fn draw_begin(&mut self) -> Call {
@@ -104,7 +112,7 @@ impl Drawer {
             2 => Call::Scan,
             3 => Call::Find {
                 column: self.pick(2),
-                value: self.draw_cell(),
+                value: self.draw_number(),
             },
             _ => Call::Get {
                 key: self.draw(KEYS),
@@ -550,7 +558,7 @@ fn judge(alloc: Global, seed: u64) -> Result<Verdicts, OutOfMemory> {
 fn drawn_reports_are_judged_as_the_plain_checker_judges(rt: HostRuntime) -> Result<(), Fail> {
     let mut legal_ones = 0u64;
     let mut others = 0u64;
-    for seed in 1..601u64 {
+    for seed in 1..401u64 {
         let verdicts = judge(rt.alloc(), seed.wrapping_mul(7919))?;
         assert_eq!(rt; verdicts.plain, verdicts.fast);
         if verdicts.fast {
@@ -560,6 +568,6 @@ fn drawn_reports_are_judged_as_the_plain_checker_judges(rt: HostRuntime) -> Resu
         }
     }
     // Both verdicts occur often.
-    assert!(rt; legal_ones > 150 && others > 100);
+    assert!(rt; legal_ones > 100 && others > 65);
     Ok(())
 }

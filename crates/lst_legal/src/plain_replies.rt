@@ -55,8 +55,12 @@ pub(crate) fn lacks_index(limits: &Limits, call: &Call) -> bool {
     }
 }
 
+/// The number of a column, or None where it is null.
 fn cell(row: &Row, column: u32) -> Option<u64> {
-    row.cells().get(column as usize).copied()
+    if (row.nulls() as u32 >> (column % 8)) % 2 == 1 {
+        return None;
+    }
+    row.numbers().get(column as usize).copied()
 }
 
 pub(crate) fn sum_of(sight: &Table, column: u32) -> u128 {

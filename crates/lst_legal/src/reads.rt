@@ -40,7 +40,7 @@ fn tells_row(snapshots: &Snapshots, sight: &Sight, key: Key, reply: &Reply) -> b
 {
     match reply {
         Reply::Row { row } => match sight.row(snapshots, key) {
-            Some(found) => found.cells() == row.cells(),
+            Some(found) => found.is_same(row),
             None => false,
         },
         Reply::Absent => sight.row(snapshots, key).is_none(),

@@ -55,11 +55,23 @@ fn read_lines(alloc: Global, limits: &Limits, text: &str) -> Result<Vec<Line>, F
                     value: 7,
                 },
             })?;
+        } else if line == "1 insert 7 null 20" {
+            lines.push(insert_of_null())?;
         } else {
             lines.push(read_line(alloc, limits, line)?)?;
         }
     }
     Ok(lines)
+}
+
+fn insert_of_null() -> Line {
+    let mut row = Row::of_numbers(ArrayVec::new());
+    row.push(None);
+    row.push(Some(20));
+    Line::Call {
+        session: 1,
+        call: Call::Insert { key: 7, row },
+    }
 }
 
 fn read_line(alloc: Global, limits: &Limits, text: &str) -> Result<Line, Fail> {
@@ -526,6 +538,20 @@ fn a_missing_index_is_told_to_an_open_transaction(rt: HostRuntime) -> Result<(),
     is_judged(&rt, alloc, &indexed, script, report, false)
 }
 
+#[test]
+fn a_number_is_not_null(rt: HostRuntime) -> Result<(), Fail> {
+    let alloc = rt.alloc();
+    let numbers = "1 begin\n1 insert 7 0 20\n1 get 7\n";
+    let front = "1 begun 0\n1 ok\n";
+    let zero = "1 row 0 20\nhistory 0\n";
+    let null = "1 row null 20\nhistory 0\n";
+    is_judged_behind(&rt, alloc, numbers, front, zero, true)?;
+    is_judged_behind(&rt, alloc, numbers, front, null, false)?;
+    let with_null = "1 begin\n1 insert 7 null 20\n1 get 7\n";
+    is_judged_behind(&rt, alloc, with_null, front, null, true)?;
+    is_judged_behind(&rt, alloc, with_null, front, zero, false)
+}
+
 fn insert(session: u32, key: u64) -> Line {
     let mut cells = ArrayVec::new();
     cells.push(key);
@@ -534,7 +560,7 @@ fn insert(session: u32, key: u64) -> Line {
         session,
         call: Call::Insert {
             key,
-            row: Row::new(cells),
+            row: Row::of_numbers(cells),
         },
     }
 }

@@ -4,5 +4,6 @@ pub mod Reading
 pub mod Counting
 pub mod Inserting
 pub mod Written
+pub mod Checking
 pub mod Closing
 pub mod Choosing

@@ -1,6 +1,7 @@
 //! Packed pages: 256 values in as few words as one of five forms takes.
 #![tactic(auto)]
 
+mod checks;
 mod forms;
 mod laws;
 mod packing;
@@ -8,6 +9,7 @@ mod single;
 mod survey;
 mod whole;
 
+pub use checks::is_packed;
 pub use forms::Form;
 pub use laws::packed_words;
 pub use packing::pack;

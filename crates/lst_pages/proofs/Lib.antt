@@ -1,3 +1,4 @@
+pub mod Lists
 pub mod Folds
 pub mod Pages
 pub mod Rows

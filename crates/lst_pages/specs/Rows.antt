@@ -1,31 +1,24 @@
 -- What an entry says of a row.
-use Rattle.std.specs.Prelude.{◌≡◌, ℕ, suc, List, [], ◌∷◌, cond, eqb, Option, Some, None, length}
-use Rattle.std.specs.Int.{bit_at}
-use Rattle.lst_bits.specs.declared.encodings.Kind.{Kind}
-use Rattle.lst_bits.specs.declared.encodings.Kind.TheVariants.{Put, Set, Del}
+use Rattle.std.specs.Prelude.{◌≡◌, ℕ, List, Option, Some, None, length, slice_get}
+use Rattle.std.specs.Option.{option_flatten}
+use Rattle.lst_bits.specs.Encodings.{kind_code}
 use Rattle.lst_model.specs.declared.acts.Act.{Act}
-use Rattle.lst_model.specs.declared.acts.Act.TheVariants as act
-use Rattle.lst_model.specs.Cells.{Cell, number_at}
+use Rattle.lst_model.specs.Cells.{Cell}
+use Rattle.lst_core_state.specs.Cells.{act_with}
 use Rattle.lst_pages.specs.declared.tails.PageTail.{PageTail}
-
--- the cells from column c on that a mask holds
-abbrev pub patched : ℕ → ℕ → List Cell → List (Option Cell)
-patched mask c [] = []
-patched mask c (x ∷ xs) = cond (eqb (bit_at mask c) 1) (Some x) None ∷ patched mask (suc c) xs
-
-abbrev pub act_by : Kind → ℕ → List Cell → Act
-act_by Put mask values = act.Put values
-act_by Set mask values = act.Set (patched mask 0 values)
-act_by Del mask values = act.Del
 
 -- what a tail does to its record's row
 abbrev pub act_of : PageTail → Act
-act_of t = act_by t.kind t.mask t.values
+act_of t = act_with (kind_code t.kind) t.mask t.values
 
--- the cell of column c, where there is a row
+-- the cell of column c, null where the row has no such column
+abbrev pub cell_at : ℕ → List Cell → Cell
+cell_at c row = option_flatten (slice_get row c)
+
+-- the same, where there is a row
 abbrev pub column_of : ℕ → Option (List Cell) → Option Cell
 column_of c None = None
-column_of c (Some row) = Some (number_at c row)
+column_of c (Some row) = Some (cell_at c row)
 
 -- the row has n columns, if it is there
 abbrev pub HasColumns : ℕ → Option (List Cell) → Type 0

@@ -9,8 +9,8 @@ use lst_layout::RANGE_RECORDS;
 /// What a page says of one record.
 #[derive(Clone, Copy, PartialEq, Eq, Debug)]
 pub struct Entry {
-    /// The record's cell in the page's column, where the record is present.
-    pub cell: Option<u64>,
+    /// The record's cell in the page's column, where the record is present: a number, or None for null.
+    pub cell: Option<Option<u64>>,
     /// The time of the last commit that touched the column, or 0 where there is none.
     pub time: u64,
 }

@@ -1,6 +1,11 @@
 //! Laws of pages. Each function is a law: its contract holds at all values, and its body does nothing.
 ghost use Rattle.lst_pages.specs.Chains.{EntryIsSeen, EntryIsAnswer};
-ghost use Rattle.lst_pages.specs.Laws.{PageStaysRight, PageIsItsWords, FoldGoesOn, BuiltPageIsRight};
+ghost use Rattle.lst_pages.specs.Laws.{ZerosAreRight, PageStaysRight, PageIsItsWords, FoldGoesOn, BuiltPageIsRight};
+
+/// A frame of zeros is a right page without tails, which is where a store opens.
+pub fn zeros_are_a_right_page()
+    ensures { ZerosAreRight }
+{}
 
 /// A page that is right stays right while tails settle, and wherever its words are copied.
 pub fn pages_stay_right()

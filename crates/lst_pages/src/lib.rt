@@ -13,5 +13,5 @@ mod tests;
 
 pub use entries::{Entry, fold_tails};
 pub use frames::{entry_in, is_right};
-pub use laws::{entries_are_answers, pages_are_built_on, pages_stay_right};
+pub use laws::{entries_are_answers, pages_are_built_on, pages_stay_right, zeros_are_a_right_page};
 pub use tails::PageTail;

@@ -2,6 +2,7 @@
 ghost use Rattle.std.specs.Prelude.{◌≡◌, ◌<◌, nat_lt, ◌&&◌};
 ghost use Rattle.lst_pages.specs.Tails.{touches_column};
 ghost use Rattle.lst_pages.specs.Entries.{entry_by};
+ghost use Rattle.lst_pages.specs.Rows.{cell_at};
 
 use crate::entries::Entry;
 use lst_bits::{Kind, has_column};
@@ -15,7 +16,7 @@ pub struct PageTail {
     pub kind: Kind,
     /// Bit c is set where a set holds column c.
     pub mask: u8,
-    /// The value of each column; those that a set does not hold are not read.
+    /// The cell of each column, a number or null; those that a set does not hold are not read.
     pub values: Row,
     /// The time of the commit, or 0 where the transaction was closed.
     pub time: u64,
@@ -39,15 +40,23 @@ impl PageTail {
         ensures { result ≡ entry_by column self.now }
     {
         let cell = match self.kind {
-            Kind::Put | Kind::Set => {
-                let cells = self.values.cells();
-                Some(cells.get(column as usize).copied().unwrap_or(0))
-            }
+            Kind::Put | Kind::Set => Some(self.cell(column)),
             Kind::Del => None,
         };
         Entry {
             cell,
             time: self.time,
+        }
+    }
+
+    /// The cell that the tail holds of this column, null where it has no such column.
+    fn cell(&self, column: u32) -> Option<u64>
+        ensures { result ≡ cell_at column self.now.values }
+    {
+        if column < self.values.len() as u32 {
+            self.values.cell(column)
+        } else {
+            None
         }
     }
 }

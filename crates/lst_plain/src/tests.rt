@@ -15,14 +15,28 @@ fn row(first: u64, second: u64) -> Row {
     let mut cells = ArrayVec::new();
     cells.push(first);
     cells.push(second);
-    Row::new(cells)
+    Row::of_numbers(cells)
 }
 
 fn patch(first: Option<u64>, second: Option<u64>) -> Patch {
     let mut cells = ArrayVec::new();
     cells.push(first);
     cells.push(second);
-    Patch::new(cells)
+    Patch::of_numbers(cells)
+}
+
+fn row_of(first: Option<u64>, second: Option<u64>) -> Row {
+    let mut row = Row::of_numbers(ArrayVec::new());
+    row.push(first);
+    row.push(second);
+    row
+}
+
+fn change_of(first: Option<Option<u64>>, second: Option<Option<u64>>) -> Patch {
+    let mut patch = Patch::of_numbers(ArrayVec::new());
+    patch.push(first);
+    patch.push(second);
+    patch
 }
 
 fn insert(key: Key, first: u64, second: u64) -> Call {
@@ -75,9 +89,7 @@ fn fits(limits: &Limits, session: u32, call: &Call) -> bool
     let columns = limits.columns as usize;
     match call {
         Call::Insert { row, .. } => row.len() == columns,
-        Call::Update { patch, .. } => {
-            patch.len() == columns && patch.cells().iter().any(|cell| cell.is_some())
-        }
+        Call::Update { patch, .. } => patch.len() == columns && patch.sets_some(),
         Call::Sum { .. } | Call::Count | Call::Scan | Call::Find { .. } => false,
         _ => true,
     }
@@ -131,6 +143,48 @@ fn a_row_is_inserted_and_read(rt: HostRuntime) -> Result<(), Fail> {
             (0, Call::Commit, committed(1)),
             (1, Call::Begin, begun(1)),
             (1, get(7), found(10, 20)),
+        ],
+    )
+}
+
+#[test]
+fn a_cell_is_null_then_a_number_then_null(rt: HostRuntime) -> Result<(), Fail> {
+    let insert = Call::Insert {
+        key: 7,
+        row: row_of(None, Some(0)),
+    };
+    let swap = Call::Update {
+        key: 7,
+        patch: change_of(Some(Some(0)), Some(None)),
+    };
+    let keep = Call::Update {
+        key: 7,
+        patch: change_of(Some(None), None),
+    };
+    let seen = |first: Option<u64>, second: Option<u64>| Reply::Row {
+        row: row_of(first, second),
+    };
+    run(
+        &rt,
+        rt.alloc(),
+        Limits::default(),
+        [
+            (0, Call::Begin, begun(0)),
+            (0, insert, Reply::Done),
+            (0, get(7), seen(None, Some(0))),
+            (0, Call::Commit, committed(1)),
+            (0, Call::Begin, begun(1)),
+            (0, swap, Reply::Done),
+            (0, get(7), seen(Some(0), None)),
+            (0, Call::Commit, committed(2)),
+            (0, Call::Begin, begun(2)),
+            (0, keep, Reply::Done),
+            (0, get(7), seen(None, None)),
+            (1, Call::AsOf { time: 1 }, begun(1)),
+            (1, get(7), seen(None, Some(0))),
+            (0, Call::Abort, Reply::Aborted),
+            (0, Call::Begin, begun(2)),
+            (0, get(7), seen(Some(0), None)),
         ],
     )
 }

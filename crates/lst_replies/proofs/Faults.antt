@@ -1,8 +1,8 @@
 -- A report is read exactly where the lines are a report's, and else the fault is the first line that can't stand in its place.
-use Rattle.std.proofs.Common.{◌≡◌, ℕ, zero, suc, ◌+◌, ◌-◌, ◌<◌, ◌≤◌, ◌^◌, ◌⊎◌, inl, inr, Bool, true, false, ◌&&◌, eqb, cond, List, [], ◌∷◌, ◌++◌, length, take, drop, map, replicate, Option, Some, None, Result, Ok, Err, refl, sym, ap, ◌∙◌, subst, append_assoc, arith}
+use Rattle.std.proofs.Common.{◌≡◌, ℕ, zero, suc, ◌+◌, ◌-◌, ◌<◌, ◌≤◌, ◌^◌, Bool, true, false, ◌&&◌, eqb, cond, List, [], ◌∷◌, ◌++◌, length, take, drop, map, replicate, Option, Some, None, Result, Ok, Err, refl, sym, ap, ◌∙◌, subst, append_assoc, arith}
 use Rattle.std.specs.List.{All}
-use Rattle.std.proofs.lemmas.Bool.{and_parts, and_from, cond-true, cond-false, eq-eqb, eqb-true, ne_eqb}
-use Rattle.std.proofs.lemmas.List.{length-map, length-append, length-take, length-drop, take_all, length-replicate}
+use Rattle.std.proofs.lemmas.Bool.{and_parts, and_from, cond-true, eq-eqb, eqb-true}
+use Rattle.std.proofs.lemmas.List.{length-map, length-append, length-take, take_all, length-replicate}
 use Rattle.std.proofs.lemmas.List.Elements.{All-append, All-cons}
 use Rattle.std.proofs.Math.Seq.{take-append_seam, take-append-add, drop-append_seam}
 use Rattle.lst_model.specs.declared.replies.Reply.{Reply}
@@ -10,10 +10,9 @@ use Rattle.lst_replies.specs.declared.reports.Stamp.{Stamp}
 use Rattle.lst_replies.specs.declared.reports.Report.{Report}
 use Rattle.lst_replies.specs.ReportTexts.{reply_line, history_line, stamp_line, stamp_lines, lines_of, report_lines, ReplyFits, StampFits, ReportFits, CanBegin}
 use Rattle.lst_replies.specs.Reading.{reply_of, count_of, stamp_of, read_front, front_with, replies_front, stamps_front, after_stamps, after_count, after_replies, report_in}
-use Rattle.lst_replies.proofs.Chains.{Reads}
-use Rattle.lst_replies.proofs.Readings.{IsLineOf, reply_takes}
+use Rattle.lst_replies.proofs.Readings.{reply_takes}
 use Rattle.lst_replies.proofs.Spelled.{reply_again}
-use Rattle.lst_replies.proofs.Whole.{count_again, count_takes, history_no_reply, stamp_again, stamp_takes, texts_at, length-texts_at, texts_at-replies, texts_at-stamps, Front, front_takes, front_again}
+use Rattle.lst_replies.proofs.Whole.{count_again, count_takes, history_no_reply, stamp_again, stamp_takes, texts_at, texts_at-replies, texts_at-stamps, Front, front_takes, front_again}
 
 ends : {A : Type 0} (xs : List A) → xs ++ [] ≡ xs
 ends [] = refl

@@ -1,5 +1,5 @@
 -- Lines read from the first on, and the lines of a text.
-use Rattle.std.proofs.Common.{◌≡◌, ℕ, zero, suc, ◌+◌, ◌-◌, ◌<◌, ◌≤◌, Bool, true, false, cond, eqb, List, [], ◌∷◌, ◌++◌, length, take, drop, get_or, map, Option, Some, None, Bor, refl, sym, ap, ◌∙◌, subst, append_assoc, add-one, drop-cons, arith}
+use Rattle.std.proofs.Common.{◌≡◌, ℕ, zero, suc, ◌+◌, ◌-◌, ◌<◌, ◌≤◌, true, false, eqb, List, [], ◌∷◌, ◌++◌, length, take, drop, get_or, Option, Some, None, Bor, refl, sym, ap, ◌∙◌, subst, append_assoc, add-one, drop-cons, arith}
 use Rattle.std.specs.Prelude.{slice_get}
 use Rattle.std.proofs.lemmas.List.{drop_all}
 use Rattle.std.proofs.lemmas.Bool.{cond-true, cond-false}

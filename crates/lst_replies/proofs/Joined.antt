@@ -1,14 +1,13 @@
 -- Words joined by a byte that none of them has, and split there again.
-use Rattle.std.proofs.Common.{◌≡◌, ℕ, suc, ◌+◌, ◌<◌, ◌≤◌, ◌^◌, Bool, true, false, not, ◌&&◌, ◌||◌, nat_lt, cond, List, [], ◌∷◌, ◌++◌, length, get_or, take, drop, map, flat_map, decimal, bytes_eq, Option, Some, None, refl, sym, ap, ◌∙◌, subst, append_assoc, arith, eqb, add-one, drop-cons}
-use Rattle.std.specs.List.{All, AllByRecursion, list_any, slice_split, join_with_byte, position, position_or_len}
+use Rattle.std.proofs.Common.{◌≡◌, ℕ, ◌+◌, ◌<◌, ◌≤◌, ◌^◌, Bool, true, false, not, ◌&&◌, ◌||◌, cond, List, [], ◌∷◌, ◌++◌, length, get_or, take, drop, flat_map, decimal, bytes_eq, Some, refl, sym, ap, ◌∙◌, subst, arith, eqb, add-one, drop-cons}
+use Rattle.std.specs.List.{All, list_any, slice_split, join_with_byte, position, position_or_len}
 use Rattle.std.specs.Str.Parse.{AllDigits}
-use Rattle.std.proofs.lemmas.Bool.{or_parts, false≢true, ltb-true, lt-ltb, ne_eqb, cond-true, eqb-true, eqb-false}
+use Rattle.std.proofs.lemmas.Bool.{or_parts, ltb-true, lt-ltb, ne_eqb, cond-true, eqb-true, eqb-false}
 use Rattle.std.proofs.lemmas.List.Elements.{All-cons, All-nil}
 use Rattle.std.proofs.lemmas.List.Splits.{slice_split_at, slice_split_none}
 use Rattle.std.proofs.lemmas.List.Sums.{passes_at_first}
 use Rattle.std.proofs.lemmas.Str.Parse.{digit_from_value}
 use Rattle.std.proofs.lemmas.Fmt.{decimal_is_IsNumeral_wide}
-use Rattle.std.proofs.lemmas.Slice.Eq.{bytes_eq-Decides}
 use Rattle.std.proofs.lemmas.Option.{cond_some}
 use Rattle.std.proofs.lemmas.List.{take-append-drop, length-append}
 

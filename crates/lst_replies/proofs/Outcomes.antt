@@ -1,12 +1,12 @@
 -- What the outcome of reading says of a text.
-use Rattle.std.proofs.Common.{◌≡◌, ℕ, ◌<◌, List, Result, Ok, Err, refl, sym, ap, ◌∙◌, subst}
+use Rattle.std.proofs.Common.{◌≡◌, ℕ, ◌<◌, List, Result, Ok, Err, refl, sym, ◌∙◌, subst}
 use Rattle.std.specs.Prelude.{IfOk, MatchResult}
 use Rattle.lst_replies.specs.declared.reports.Report.{Report}
 use Rattle.lst_replies.specs.declared.parse.ReportFault.{ReportFault}
 use Rattle.lst_replies.specs.declared.parse.ReportFault.TheVariants.{Bad, OutOfMemory}
 use Rattle.lst_replies.specs.ReportTexts.{text_lines, IsReportText, IsFirstFault}
 use Rattle.lst_replies.specs.Reading.{report_in, Tells}
-use Rattle.lst_replies.proofs.Faults.{found, only, first_fault, StandsFirst}
+use Rattle.lst_replies.proofs.Faults.{found, only, first_fault}
 
 module _ (columns : ℕ) (some : 0 < columns) (text : List ℕ) where
   pub tells_found : (result : Result Report ReportFault) → Tells result (report_in columns (text_lines text)) → IfOk result (λ report. IsReportText columns text report)

@@ -1,7 +1,6 @@
 -- The text of a report has the report's lines, with or without its last newline.
-use Rattle.std.proofs.Common.{◌≡◌, ℕ, suc, ◌+◌, ◌-◌, ◌<◌, ◌≤◌, ◌^◌, Bool, true, false, ◌||◌, eqb, List, [], ◌∷◌, ◌++◌, length, map, flat_map, decimal, codes, Option, Some, None, refl, sym, ap, ◌∙◌, subst, append_assoc, arith}
-use Rattle.std.specs.List.{All, list_any, slice_split, onto_first}
-use Rattle.std.proofs.lemmas.Bool.{ne_eqb, cond-true, cond-false}
+use Rattle.std.proofs.Common.{◌≡◌, ℕ, suc, ◌+◌, ◌<◌, ◌≤◌, ◌^◌, false, List, [], ◌∷◌, ◌++◌, length, map, flat_map, decimal, Option, Some, None, refl, sym, ap, ◌∙◌, append_assoc, arith}
+use Rattle.std.specs.List.{All, list_any, slice_split}
 use Rattle.std.proofs.lemmas.List.Splits.{slice_split_at}
 use Rattle.lst_model.specs.Cells.{Cell}
 use Rattle.lst_model.specs.declared.replies.Reply.{Reply}
@@ -11,9 +10,8 @@ use Rattle.lst_model.specs.declared.replies.Cause.TheVariants.{Idle, Active, Rea
 use Rattle.lst_replies.specs.declared.reports.Stamp.{Stamp}
 use Rattle.lst_replies.specs.declared.reports.Report.{Report}
 use Rattle.lst_replies.specs.Texts.{cells_text, reply_word, reply_rest, cause_words, cause_numbers, entry_text, key_text}
-use Rattle.lst_replies.specs.ReportTexts.{is_newline, session_text, reply_line, told_text, history_line, stamp_line, stamp_lines, stamps_text, report_lines, report_text, CauseFits, RowFits, EntryFits, CallReplyFits, MergeReplyFits, ReplyFits, StampFits, ReportFits, without_empty_end, ends_empty, text_lines, IsReportText}
+use Rattle.lst_replies.specs.ReportTexts.{is_newline, reply_line, told_text, history_line, stamp_line, stamp_lines, stamps_text, report_lines, report_text, CauseFits, EntryFits, CallReplyFits, MergeReplyFits, ReplyFits, StampFits, ReportFits, without_empty_end, text_lines, IsReportText}
 use Rattle.lst_replies.proofs.Joined.{AreFree, free_all, any-append, any-decimal}
-use Rattle.lst_replies.proofs.Fronts.{end_stays}
 use Rattle.lst_replies.proofs.Spelling.{cells_free}
 
 ends : {A : Type 0} (xs : List A) → xs ++ [] ≡ xs

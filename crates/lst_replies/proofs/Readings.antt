@@ -1,23 +1,22 @@
 -- What is read of the words of a line is what they spell, and what is spelled is read.
-use Rattle.std.proofs.Common.{◌≡◌, ℕ, suc, ◌+◌, ◌<◌, ◌≤◌, ◌^◌, Bool, true, false, ◌&&◌, List, [], ◌∷◌, ◌++◌, length, map, take, drop, decimal, codes, bytes_eq, eqb, Option, Some, None, option_map, refl, sym, ap, ◌∙◌, subst, arith}
+use Rattle.std.proofs.Common.{◌≡◌, ℕ, suc, ◌+◌, ◌<◌, ◌^◌, Bool, true, false, ◌&&◌, List, [], ◌∷◌, ◌++◌, length, map, take, drop, decimal, codes, bytes_eq, eqb, Option, Some, None, option_map, refl, sym, ap, ◌∙◌, arith}
 use Rattle.std.specs.List.{All, list_any, slice_split, join_with_byte, position}
-use Rattle.std.specs.Prelude.{if◌then◌else◌}
-use Rattle.std.proofs.lemmas.Bool.{and_parts, cond-true, eq-eqb, eqb-true, lt-ltb}
+use Rattle.std.proofs.lemmas.Bool.{and_parts, cond-true, cond-false, false≢true, eq-eqb, eqb-true}
 use Rattle.std.proofs.lemmas.List.Elements.{All-cons, All-nil}
 use Rattle.std.proofs.lemmas.List.Splits.{join_with_byte-slice_split}
 use Rattle.std.proofs.Math.Seq.{take-append_seam, drop-append-add}
 use Rattle.lst_model.specs.Cells.{Cell}
 use Rattle.lst_model.specs.declared.replies.Reply.{Reply}
-use Rattle.lst_model.specs.declared.replies.Reply.TheVariants.{Begun, Done, Row, Absent, Committed, Ended, Aborted, Sum, Count, Rows, Keys, Refused, Merged, NothingNew, NoFrame, Silent}
+use Rattle.lst_model.specs.declared.replies.Reply.TheVariants.{Begun, Done, Row, Absent, Committed, Ended, Aborted, Sum, Count, Rows, Keys, Refused, Merged, NothingNew, NoFrame}
 use Rattle.lst_model.specs.declared.replies.Cause.{Cause}
 use Rattle.lst_model.specs.declared.replies.Cause.TheVariants.{Idle, Active, ReadOnly, Spent, Future, Missing, Exists, TableFull, Latched, Newer, Unfinished, TailFull, NotIndexed}
-use Rattle.lst_replies.specs.Texts.{cells_text}
-use Rattle.lst_replies.specs.ReportTexts.{reply_line, CauseFits, RowFits, EntryFits, CallReplyFits, MergeReplyFits, ReplyFits}
-use Rattle.lst_replies.specs.Reading.{is_comma, is_colon, words_of, read_all, or_else, with_both, number_of, number64, number32, cells_of, entry_at, entry_of, word_reply, refusal_named, fullness_named, cause_named, numbered_reply, timed_cause, open_cause, short_reply, list_reply, call_reply, merge_reply, told_by, reply_of}
+use Rattle.lst_replies.specs.Texts.{cell_text, cells_text}
+use Rattle.lst_replies.specs.ReportTexts.{reply_line, CauseFits, CellFits, RowFits, EntryFits, CallReplyFits, MergeReplyFits, ReplyFits}
+use Rattle.lst_replies.specs.Reading.{is_comma, is_colon, words_of, read_all, with_both, number_of, number64, number32, cell_of, cells_of, entry_at, entry_of, word_reply, refusal_named, fullness_named, cause_named, numbered_reply, timed_cause, open_cause, short_reply, list_reply, call_reply, merge_reply, told_by, reply_of}
 use Rattle.lst_replies.proofs.Decimals.{number_of-takes, number_of-decimal}
-use Rattle.lst_replies.proofs.Joined.{any-decimal-above, decimal-named, split-join, position-append, position-splits, AreFree, any-decimal}
+use Rattle.lst_replies.proofs.Joined.{any-decimal-above, split-join, position-append, position-splits}
 use Rattle.lst_replies.proofs.Chains.{Reads, named, reads_none, reads_some, reads_if, reads_or, reads_map, reads_both}
-use Rattle.lst_replies.proofs.Spelling.{entry_word, cause_words_of, words_in, words_told, cells-joined, words-line, line-words}
+use Rattle.lst_replies.proofs.Spelling.{entry_word, cause_words_of, words_in, words_told, row_free, cells-joined, line-words}
 
 -- ---- lists of words
 
@@ -54,30 +53,47 @@ takes32 word n e = number_of-takes (2 ^ 32) word n e
 pub again32 : (n : ℕ) → n < 2 ^ 32 → number32 (decimal n) ≡ Some n
 again32 n small = number_of-decimal (2 ^ 32) n small (omega arith)
 
-length-map_decimal : (row : List Cell) → length (map (λ cell. decimal cell) row) ≡ length row
-length-map_decimal [] = refl
-length-map_decimal (cell ∷ row) = ap suc (length-map_decimal row)
+-- the word for null is no number
+null_unread : (n : ℕ) → decimal n ≡ codes "null" → n < 2 ^ 64 → ⊥
+null_unread n e small = false≢true (sym (any-decimal-above 110 n (omega arith) (omega arith)) ∙ ap (list_any (λ c. eqb c 110)) e)
 
-cells_take : (columns : ℕ) (words : List (List ℕ)) → Reads (λ row. (words ≡ map (λ cell. decimal cell) row) × RowFits columns row) (cells_of columns words)
-cells_take columns words = reads_if (λ row. (words ≡ map (λ cell. decimal cell) row) × RowFits columns row) (eqb (length words) columns) (read_all number64 words) None
+not_so : (b : Bool) → (b ≡ true → ⊥) → b ≡ false
+not_so true other = absurd (other refl)
+not_so false _ = refl
+
+ne_bytes : (word text : List ℕ) → (word ≡ text → ⊥) → bytes_eq word text ≡ false
+ne_bytes word text other = not_so (bytes_eq word text) (λ e. other (named word text e))
+
+takes_cell : (word : List ℕ) → Reads (λ cell. (word ≡ cell_text cell) × CellFits cell) (cell_of word)
+takes_cell word = reads_if (λ cell. (word ≡ cell_text cell) × CellFits cell) (bytes_eq word (codes "null")) (Some None) (option_map (λ n. Some n) (number64 word))
+    (λ is. reads_some (λ cell. (word ≡ cell_text cell) × CellFits cell) None (named word (codes "null") is, tt))
+    (reads_map (λ cell. (word ≡ cell_text cell) × CellFits cell) (λ n. Some n) (number64 word) (λ n e. takes64 word n e))
+
+again_cell : (cell : Cell) → CellFits cell → cell_of (cell_text cell) ≡ Some cell
+again_cell None fits = refl
+again_cell (Some n) fits =
+    cond-false _ _ _ (ne_bytes (decimal n) (codes "null") (λ e. null_unread n e fits)) ∙ ap (option_map (λ m. Some m)) (again64 n fits)
+
+length-map_cells : (row : List Cell) → length (map cell_text row) ≡ length row
+length-map_cells [] = refl
+length-map_cells (cell ∷ row) = ap suc (length-map_cells row)
+
+cells_take : (columns : ℕ) (words : List (List ℕ)) → Reads (λ row. (words ≡ map cell_text row) × RowFits columns row) (cells_of columns words)
+cells_take columns words = reads_if (λ row. (words ≡ map cell_text row) × RowFits columns row) (eqb (length words) columns) (read_all cell_of words) None
     (λ width row e.
-    let spelled = all_take number64 (λ n. decimal n) (λ n. n < 2 ^ 64) takes64 words row e in
-    (spelled.words_are, record { width = sym (length-map_decimal row) ∙ sym (ap length spelled.words_are) ∙ eqb-true _ _ width; cells = spelled.each }))
-    (reads_none (λ row. (words ≡ map (λ cell. decimal cell) row) × RowFits columns row))
+    let spelled = all_take cell_of cell_text CellFits takes_cell words row e in
+    (spelled.words_are, record { width = sym (length-map_cells row) ∙ sym (ap length spelled.words_are) ∙ eqb-true _ _ width; cells = spelled.each }))
+    (reads_none (λ row. (words ≡ map cell_text row) × RowFits columns row))
 
-pub cells_again : (columns : ℕ) (row : List Cell) → RowFits columns row → cells_of columns (map (λ cell. decimal cell) row) ≡ Some row
+pub cells_again : (columns : ℕ) (row : List Cell) → RowFits columns row → cells_of columns (map cell_text row) ≡ Some row
 cells_again columns row fits =
-    cond-true _ _ _ (eq-eqb _ _ (length-map_decimal row ∙ fits.width)) ∙ all_again number64 (λ n. decimal n) (λ n. n < 2 ^ 64) again64 row fits.cells
+    cond-true _ _ _ (eq-eqb _ _ (length-map_cells row ∙ fits.width)) ∙ all_again cell_of cell_text CellFits again_cell row fits.cells
 
-commas_free : (row : List Cell) → All (λ cell. cell < 2 ^ 64) row → AreFree 44 (map (λ cell. decimal cell) row)
-commas_free [] fits = tt
-commas_free (cell ∷ row) fits = (any-decimal 44 cell (λ low. omega arith) (omega (arith, fits 0 0 (omega arith))), commas_free row (λ k d h. fits (suc k) d (omega arith)))
-
-split_cells : (columns : ℕ) (row : List Cell) → 0 < columns → RowFits columns row → slice_split is_comma (cells_text 44 row) ≡ map (λ cell. decimal cell) row
+split_cells : (columns : ℕ) (row : List Cell) → 0 < columns → RowFits columns row → slice_split is_comma (cells_text 44 row) ≡ map cell_text row
 split_cells columns [] some fits = absurd (omega (arith, fits.width))
 split_cells columns (cell ∷ row) some fits =
     ap (slice_split is_comma) (cells-joined 44 columns (cell ∷ row) some fits.width)
-    ∙ split-join 44 (decimal cell) (map (λ c. decimal c) row) (commas_free (cell ∷ row) fits.cells)
+    ∙ split-join 44 (cell_text cell) (map cell_text row) (row_free 44 (λ low. omega arith) (cell ∷ row) fits.cells)
 
 pub entry_again : (columns : ℕ) (entry : ℕ × List Cell) → 0 < columns → EntryFits columns entry → entry_of columns (entry_word entry) ≡ Some entry
 entry_again columns entry some fits =
@@ -90,7 +106,7 @@ entry_again columns entry some fits =
     ∙ ap (λ word. with_both (λ k row. (k, row)) (number64 word) (cells_of columns (slice_split is_comma (drop (length key + 1) (key ++ 58 ∷ cells))))) front
     ∙ ap (λ word. with_both (λ k row. (k, row)) (number64 key) (cells_of columns (slice_split is_comma word))) back
     ∙ ap (λ words. with_both (λ k row. (k, row)) (number64 key) (cells_of columns words)) (split_cells columns entry.1 some fits.row)
-    ∙ ap (λ o. with_both (λ k row. (k, row)) o (cells_of columns (map (λ cell. decimal cell) entry.1))) (again64 entry.0 fits.key)
+    ∙ ap (λ o. with_both (λ k row. (k, row)) o (cells_of columns (map cell_text entry.1))) (again64 entry.0 fits.key)
     ∙ ap (λ o. with_both (λ k row. (k, row)) (Some entry.0) o) (cells_again columns entry.1 fits.row)
 
 entry_take : (columns : ℕ) (word : List ℕ) → 0 < columns → Reads (λ entry. (word ≡ entry_word entry) × EntryFits columns entry) (entry_of columns word)
@@ -202,7 +218,7 @@ list_takes columns (name ∷ words) some =
     let P : Reply → Type 0 = IsSpelled columns (name ∷ words) in
     let spelled : (text : List ℕ) (rest : List (List ℕ)) → bytes_eq name text ≡ true → words ≡ rest → name ∷ words ≡ text ∷ rest
     = λ text rest e f. ap (λ w. w ∷ words) (named name text e) ∙ ap (λ ws. text ∷ ws) f in
-    reads_if P (bytes_eq name (codes "row")) _ _ (λ e. reads_map P (λ row. Row row) (cells_of columns words) (λ row f. let takes = cells_take columns words row f in record { words_are = spelled (codes "row") (map (λ cell. decimal cell) row) e takes.0; fits = takes.1 }))
+    reads_if P (bytes_eq name (codes "row")) _ _ (λ e. reads_map P (λ row. Row row) (cells_of columns words) (λ row f. let takes = cells_take columns words row f in record { words_are = spelled (codes "row") (map cell_text row) e takes.0; fits = takes.1 }))
     (reads_if P (bytes_eq name (codes "rows")) _ _ (λ e. reads_map P (λ list. Rows list) (read_all (entry_of columns) words) (λ list f.
     let takes = all_take (entry_of columns) entry_word (EntryFits columns) (λ word. entry_take columns word some) words list f in record { words_are = spelled (codes "rows") (map entry_word list) e takes.words_are; fits = takes.each }))
     (reads_if P (bytes_eq name (codes "keys")) _ None (λ e. reads_map P (λ list. Keys list) (read_all number64 words) (λ list f.

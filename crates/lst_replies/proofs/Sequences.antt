@@ -1,5 +1,5 @@
 -- Words read one after another.
-use Rattle.std.proofs.Common.{◌≡◌, ℕ, suc, ◌+◌, ◌<◌, ◌≤◌, List, [], ◌∷◌, ◌++◌, length, drop, get_or, map, Option, Some, None, option_map, Bor, refl, sym, ap, ◌∙◌, append_assoc, add-one, drop-cons, arith}
+use Rattle.std.proofs.Common.{◌≡◌, ℕ, zero, suc, ◌+◌, ◌<◌, ◌≤◌, List, [], ◌∷◌, ◌++◌, length, drop, get_or, flat_map, slice_get, Option, Some, None, option_map, Bor, refl, sym, ap, ◌∙◌, append_assoc, add-one, drop-cons}
 use Rattle.std.proofs.lemmas.List.{drop_all}
 use Rattle.lst_replies.specs.Reading.{texts, read_all, with_both}
 
@@ -45,3 +45,24 @@ module _ {X : Type 0} (read : List ℕ → Option X) (words : List (Bor (List �
 
 pub both_read : {X Y Z : Type 0} (make : X → Y → Z) (first : Option X) (second : Option Y) (x : X) (y : Y) → first ≡ Some x → second ≡ Some y → with_both make first second ≡ Some (make x y)
 both_read make first second x y e f = ap (λ o. with_both make o second) e ∙ ap (λ o. with_both make (Some x) o) f
+
+-- what stands from a place on is the item there and what follows
+drop_next : {X : Type 0} (xs : List X) (i : ℕ) (x : X) → slice_get xs i ≡ Some x → drop i xs ≡ x ∷ drop (suc i) xs
+drop_next [] i x e = absurd cc
+drop_next (y ∷ xs) zero x e = let same : y ≡ x = cc in ap (λ z. z ∷ xs) same
+drop_next (y ∷ xs) (suc i) x e = drop_next xs i x e
+
+-- one more item is written, each behind a byte
+pub item_written : {X : Type 0} (text_of : X → List ℕ) (between : ℕ) (xs : List X) (i : ℕ) (x : X) (before after whole : List ℕ) → slice_get xs i ≡ Some x
+    → after ≡ (before ++ between ∷ []) ++ text_of x → before ++ flat_map (λ y. between ∷ text_of y) (drop i xs) ≡ whole
+    → after ++ flat_map (λ y. between ∷ text_of y) (drop (i + 1) xs) ≡ whole
+item_written text_of between xs i x before after whole is written so_far =
+    ap (λ t. t ++ rest) written
+    ∙ append_assoc (before ++ between ∷ []) (text_of x) rest
+    ∙ append_assoc before (between ∷ []) (text_of x ++ rest)
+    ∙ ap (λ n. before ++ between ∷ (text_of x ++ flat_map (λ y. between ∷ text_of y) (drop n xs))) (add-one i)
+    ∙ sym (ap (λ ys. before ++ flat_map (λ y. between ∷ text_of y) ys) (drop_next xs i x is))
+    ∙ so_far
+  where
+    rest : List ℕ
+    rest = flat_map (λ y. between ∷ text_of y) (drop (i + 1) xs)

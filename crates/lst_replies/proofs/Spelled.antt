@@ -1,13 +1,13 @@
 -- What is spelled is read.
-use Rattle.std.proofs.Common.{◌≡◌, ℕ, suc, ◌+◌, ◌<◌, ◌≤◌, ◌^◌, Bool, true, false, ◌&&◌, List, [], ◌∷◌, ◌++◌, length, map, decimal, codes, bytes_eq, Option, Some, None, option_map, refl, sym, ap, ◌∙◌, subst, arith}
-use Rattle.std.specs.List.{All}
+use Rattle.std.proofs.Common.{◌≡◌, ℕ, ◌<◌, ◌^◌, Bool, List, [], ◌∷◌, map, decimal, codes, bytes_eq, Option, Some, None, option_map, refl, ap, ◌∙◌, arith}
 use Rattle.std.specs.Prelude.{if◌then◌else◌}
 use Rattle.lst_model.specs.declared.replies.Reply.{Reply}
 use Rattle.lst_model.specs.declared.replies.Reply.TheVariants.{Begun, Done, Row, Absent, Committed, Ended, Aborted, Sum, Count, Rows, Keys, Refused, Merged, NothingNew, NoFrame, Silent}
 use Rattle.lst_model.specs.declared.replies.Cause.{Cause}
 use Rattle.lst_model.specs.declared.replies.Cause.TheVariants.{Idle, Active, ReadOnly, Spent, Future, Missing, Exists, TableFull, Latched, Newer, Unfinished, TailFull, NotIndexed}
-use Rattle.lst_replies.specs.ReportTexts.{reply_line, CauseFits, RowFits, EntryFits, CallReplyFits, MergeReplyFits, ReplyFits}
-use Rattle.lst_replies.specs.Reading.{words_of, read_all, or_else, with_both, number64, number32, cells_of, entry_of, short_reply, list_reply, call_reply, merge_reply, told_by, reply_of}
+use Rattle.lst_replies.specs.ReportTexts.{reply_line, CauseFits, EntryFits, CallReplyFits, MergeReplyFits, ReplyFits}
+use Rattle.lst_replies.specs.Texts.{cell_text}
+use Rattle.lst_replies.specs.Reading.{or_else, with_both, number64, number32, entry_of, short_reply, list_reply, call_reply, merge_reply, told_by, reply_of}
 use Rattle.lst_replies.proofs.Decimals.{number_of-decimal}
 use Rattle.lst_replies.proofs.Joined.{decimal-named}
 use Rattle.lst_replies.proofs.Spelling.{entry_word, cause_words_of, words_in, words_told, words-line}
@@ -58,7 +58,7 @@ call_again : (columns : ℕ) (reply : Reply) → 0 < columns → CallReplyFits c
 call_again columns (Begun time) some fits = ap (λ o. or_else (option_map (λ n. Begun n) o) (list_reply columns (words_in (Begun time)))) (again64 time fits)
 call_again columns Done some fits = refl
 call_again columns (Row row) some fits =
-    let words = map (λ cell. decimal cell) row in
+    let words = map cell_text row in
     ap (λ o. or_else o (list_reply columns (codes "row" ∷ words))) (row_long words) ∙ ap (λ o. option_map (λ cells. Row cells) o) (cells_again columns row fits)
 call_again columns Absent some fits = refl
 call_again columns (Committed time) some fits = ap (λ o. or_else (option_map (λ n. Committed n) o) (list_reply columns (words_in (Committed time)))) (again64 time fits)

@@ -1,7 +1,6 @@
 -- The words of a reply, which its line is made of.
-use Rattle.std.proofs.Common.{◌≡◌, ℕ, suc, ◌+◌, ◌<◌, ◌≤◌, ◌^◌, Bool, true, false, ◌&&◌, ◌||◌, List, [], ◌∷◌, ◌++◌, length, map, take, drop, flat_map, decimal, codes, bytes_eq, Option, Some, None, option_map, refl, sym, ap, ◌∙◌, subst, append_assoc, arith, eqb}
-use Rattle.std.specs.List.{All, list_any, slice_split, join_with_byte}
-use Rattle.std.proofs.lemmas.List.Elements.{All-cons, All-nil}
+use Rattle.std.proofs.Common.{◌≡◌, ℕ, suc, ◌<◌, ◌≤◌, ◌^◌, false, ◌||◌, List, [], ◌∷◌, ◌++◌, length, map, flat_map, decimal, codes, Option, Some, None, refl, sym, ap, ◌∙◌, append_assoc, arith, eqb}
+use Rattle.std.specs.List.{All, list_any, join_with_byte}
 use Rattle.std.proofs.lemmas.Bool.{ne_eqb}
 use Rattle.std.proofs.lemmas.List.Splits.{join_with_byte-slice_split}
 use Rattle.lst_model.specs.Cells.{Cell}
@@ -9,8 +8,8 @@ use Rattle.lst_model.specs.declared.replies.Reply.{Reply}
 use Rattle.lst_model.specs.declared.replies.Reply.TheVariants.{Begun, Done, Row, Absent, Committed, Ended, Aborted, Sum, Count, Rows, Keys, Refused, Merged, NothingNew, NoFrame, Silent}
 use Rattle.lst_model.specs.declared.replies.Cause.{Cause}
 use Rattle.lst_model.specs.declared.replies.Cause.TheVariants.{Idle, Active, ReadOnly, Spent, Future, Missing, Exists, TableFull, Latched, Newer, Unfinished, TailFull, NotIndexed}
-use Rattle.lst_replies.specs.Texts.{cells_text, reply_word, reply_rest, entry_text, key_text}
-use Rattle.lst_replies.specs.ReportTexts.{session_text, reply_line, CauseFits, RowFits, EntryFits, CallReplyFits, MergeReplyFits, ReplyFits}
+use Rattle.lst_replies.specs.Texts.{cell_text, cells_text, reply_word, reply_rest, entry_text, key_text}
+use Rattle.lst_replies.specs.ReportTexts.{reply_line, CauseFits, CellFits, EntryFits, CallReplyFits, MergeReplyFits, ReplyFits}
 use Rattle.lst_replies.specs.Reading.{words_of}
 use Rattle.lst_replies.proofs.Joined.{AreFree, join-flat, split-join, any-append, any-decimal}
 
@@ -35,7 +34,7 @@ cause_words_of NotIndexed = codes "refused" ∷ codes "noindex" ∷ []
 abbrev pub words_in : Reply → List (List ℕ)
 words_in (Begun time) = codes "begun" ∷ decimal time ∷ []
 words_in Done = codes "ok" ∷ []
-words_in (Row row) = codes "row" ∷ map (λ cell. decimal cell) row
+words_in (Row row) = codes "row" ∷ map cell_text row
 words_in Absent = codes "none" ∷ []
 words_in (Committed time) = codes "committed" ∷ decimal time ∷ []
 words_in (Ended time) = codes "ended" ∷ decimal time ∷ []
@@ -59,18 +58,18 @@ words_told told = session_words told.0 ++ words_in told.1
 
 -- ---- the line is its words, with a space between two of them
 
-cells-join : (between : ℕ) (cell : Cell) (cells : List Cell) → cells_text between (cell ∷ cells) ≡ join_with_byte between (map (λ c. decimal c) (cell ∷ cells))
-cells-join between cell cells = ap (λ rest. decimal cell ++ rest) (each cells) ∙ sym (join-flat between (decimal cell) (map (λ c. decimal c) cells))
+cells-join : (between : ℕ) (cell : Cell) (cells : List Cell) → cells_text between (cell ∷ cells) ≡ join_with_byte between (map cell_text (cell ∷ cells))
+cells-join between cell cells = ap (λ rest. cell_text cell ++ rest) (each cells) ∙ sym (join-flat between (cell_text cell) (map cell_text cells))
   where
-    each : (xs : List Cell) → flat_map (λ next. between ∷ decimal next) xs ≡ flat_map (λ word. between ∷ word) (map (λ c. decimal c) xs)
+    each : (xs : List Cell) → flat_map (λ next. between ∷ cell_text next) xs ≡ flat_map (λ word. between ∷ word) (map cell_text xs)
     each [] = refl
-    each (x ∷ xs) = ap (λ rest. (between ∷ decimal x) ++ rest) (each xs)
+    each (x ∷ xs) = ap (λ rest. (between ∷ cell_text x) ++ rest) (each xs)
 
-pub cells-joined : (between columns : ℕ) (row : List Cell) → 0 < columns → length row ≡ columns → cells_text between row ≡ join_with_byte between (map (λ c. decimal c) row)
+pub cells-joined : (between columns : ℕ) (row : List Cell) → 0 < columns → length row ≡ columns → cells_text between row ≡ join_with_byte between (map cell_text row)
 cells-joined between columns [] some width = absurd (omega arith)
 cells-joined between columns (cell ∷ row) some width = cells-join between cell row
 
-row-line : (columns : ℕ) (row : List Cell) → 0 < columns → length row ≡ columns → codes "row " ++ cells_text 32 row ≡ join_with_byte 32 (codes "row" ∷ map (λ c. decimal c) row)
+row-line : (columns : ℕ) (row : List Cell) → 0 < columns → length row ≡ columns → codes "row " ++ cells_text 32 row ≡ join_with_byte 32 (codes "row" ∷ map cell_text row)
 row-line columns [] some width = absurd (omega arith)
 row-line columns (cell ∷ row) some width = ap (λ rest. codes "row " ++ rest) (cells-join 32 cell row)
 
@@ -186,16 +185,25 @@ numbers-free : (byte : ℕ) → ¬ (48 ≤ byte) → (numbers : List ℕ) → Al
 numbers-free byte low [] fits = tt
 numbers-free byte low (n ∷ numbers) fits = (any-decimal byte n low (omega (arith, fits 0 0 (omega arith))), numbers-free byte low numbers (λ k d h. fits (suc k) d (omega arith)))
 
-pub cells_free : (byte between : ℕ) → ¬ (48 ≤ byte) → ¬ (byte ≡ between) → (row : List Cell) → All (λ cell. cell < 2 ^ 64) row → list_any (λ c. eqb c byte) (cells_text between row) ≡ false
+-- a cell has no byte below the digits: the letters of the word for null lie above them
+pub cell_free : (byte : ℕ) → ¬ (48 ≤ byte) → (cell : Cell) → CellFits cell → list_any (λ c. eqb c byte) (cell_text cell) ≡ false
+cell_free byte low None fits = rw (ne_eqb 110 byte (λ e. low (omega arith)), ne_eqb 117 byte (λ e. low (omega arith)), ne_eqb 108 byte (λ e. low (omega arith))) refl
+cell_free byte low (Some number) fits = any-decimal byte number low (omega arith)
+
+pub row_free : (byte : ℕ) → ¬ (48 ≤ byte) → (row : List Cell) → All CellFits row → AreFree byte (map cell_text row)
+row_free byte low [] fits = tt
+row_free byte low (cell ∷ row) fits = (cell_free byte low cell (fits 0 None (omega arith)), row_free byte low row (λ k d h. fits (suc k) d (omega arith)))
+
+pub cells_free : (byte between : ℕ) → ¬ (48 ≤ byte) → ¬ (byte ≡ between) → (row : List Cell) → All CellFits row → list_any (λ c. eqb c byte) (cells_text between row) ≡ false
 cells_free byte between low apart [] fits = refl
 cells_free byte between low apart (cell ∷ row) fits =
-    any-append (λ c. eqb c byte) (decimal cell) (flat_map (λ next. between ∷ decimal next) row) (any-decimal byte cell low (omega (arith, fits 0 0 (omega arith)))) (each row (λ k d h. fits (suc k) d (omega arith)))
+    any-append (λ c. eqb c byte) (cell_text cell) (flat_map (λ next. between ∷ cell_text next) row) (cell_free byte low cell (fits 0 None (omega arith))) (each row (λ k d h. fits (suc k) d (omega arith)))
   where
-    each : (xs : List Cell) → All (λ x. x < 2 ^ 64) xs → list_any (λ c. eqb c byte) (flat_map (λ next. between ∷ decimal next) xs) ≡ false
+    each : (xs : List Cell) → All CellFits xs → list_any (λ c. eqb c byte) (flat_map (λ next. between ∷ cell_text next) xs) ≡ false
     each [] small = refl
     each (x ∷ xs) small =
-        ap (λ b. b || list_any (λ c. eqb c byte) (decimal x ++ flat_map (λ next. between ∷ decimal next) xs)) (ne_eqb between byte (λ e. apart (sym e)))
-        ∙ any-append (λ c. eqb c byte) (decimal x) (flat_map (λ next. between ∷ decimal next) xs) (any-decimal byte x low (omega (arith, small 0 0 (omega arith)))) (each xs (λ k d h. small (suc k) d (omega arith)))
+        ap (λ b. b || list_any (λ c. eqb c byte) (cell_text x ++ flat_map (λ next. between ∷ cell_text next) xs)) (ne_eqb between byte (λ e. apart (sym e)))
+        ∙ any-append (λ c. eqb c byte) (cell_text x) (flat_map (λ next. between ∷ cell_text next) xs) (cell_free byte low x (small 0 None (omega arith))) (each xs (λ k d h. small (suc k) d (omega arith)))
 
 entries-free : (columns : ℕ) (list : List (ℕ × List Cell)) → All (EntryFits columns) list → AreFree 32 (map entry_word list)
 entries-free columns [] fits = tt
@@ -227,7 +235,7 @@ causes-free NotIndexed fits = (refl, (refl, tt))
 words-free : (columns : ℕ) (reply : Reply) → CallReplyFits columns reply → AreFree 32 (words_in reply)
 words-free columns (Begun time) fits = (refl, one_number time (omega arith))
 words-free columns Done fits = (refl, tt)
-words-free columns (Row row) fits = (refl, numbers-free 32 (λ low. omega arith) row fits.cells)
+words-free columns (Row row) fits = (refl, row_free 32 (λ low. omega arith) row fits.cells)
 words-free columns Absent fits = (refl, tt)
 words-free columns (Committed time) fits = (refl, one_number time (omega arith))
 words-free columns (Ended time) fits = (refl, one_number time (omega arith))

@@ -1,23 +1,18 @@
 -- Whole reports: what is read of their lines, and which line is the first that can't stand in its place.
-use Rattle.std.proofs.Common.{◌≡◌, ℕ, zero, suc, ◌+◌, ◌-◌, ◌<◌, ◌≤◌, ◌^◌, ◌⊎◌, inl, inr, Bool, true, false, ◌&&◌, not, eqb, cond, List, [], ◌∷◌, ◌++◌, length, take, drop, get_or, map, replicate, decimal, codes, bytes_eq, Option, Some, None, Result, Ok, Err, option_map, refl, sym, ap, ◌∙◌, subst, append_assoc, arith}
+use Rattle.std.proofs.Common.{◌≡◌, ℕ, suc, ◌+◌, ◌<◌, ◌≤◌, ◌^◌, true, false, eqb, List, [], ◌∷◌, ◌++◌, length, map, decimal, codes, bytes_eq, Option, Some, None, refl, sym, ap, ◌∙◌, subst, arith}
 use Rattle.std.specs.List.{All, list_any}
-use Rattle.std.specs.Prelude.{if◌then◌else◌}
-use Rattle.std.proofs.lemmas.Bool.{and_parts, and_from, cond-true, cond-false, eq-eqb, eqb-true, false≢true}
-use Rattle.std.proofs.lemmas.List.{length-map, length-append, length-take, length-drop, take_all, length-replicate}
-use Rattle.std.proofs.lemmas.List.Elements.{All-cons, All-nil, All-append}
+use Rattle.std.proofs.lemmas.Bool.{cond-true, false≢true}
+use Rattle.std.proofs.lemmas.List.Elements.{All-cons, All-nil}
 use Rattle.std.proofs.lemmas.Slice.Eq.{bytes_eq-Decides}
-use Rattle.std.proofs.Math.Seq.{take-append_seam, take-append-add, drop-append_seam, drop-append-add}
 use Rattle.lst_model.specs.declared.replies.Reply.{Reply}
 use Rattle.lst_replies.specs.declared.reports.Stamp.{Stamp}
-use Rattle.lst_replies.specs.declared.reports.Report.{Report}
-use Rattle.lst_replies.specs.ReportTexts.{reply_line, history_line, stamp_line, stamp_lines, lines_of, report_lines, ReplyFits, StampFits, ReportFits, CanBegin}
-use Rattle.lst_replies.specs.Reading.{words_of, or_else, with_both, number_of, number32, number64, call_reply, merge_reply, told_by, reply_of, count_in, count_of, stamp_in, stamp_of, read_front, front_with, replies_front, stamps_front, after_stamps, after_count, after_replies, report_in}
+use Rattle.lst_replies.specs.ReportTexts.{reply_line, history_line, stamp_line, stamp_lines, StampFits}
+use Rattle.lst_replies.specs.Reading.{words_of, with_both, number32, number64, call_reply, told_by, reply_of, count_in, count_of, stamp_in, stamp_of, read_front, front_with}
 use Rattle.lst_replies.proofs.Decimals.{number_of-none}
-use Rattle.lst_replies.proofs.Joined.{AreFree, any-decimal, decimal-named}
-use Rattle.lst_replies.proofs.Chains.{Reads, named, reads_none, reads_some, reads_if, reads_map, reads_both}
+use Rattle.lst_replies.proofs.Joined.{any-decimal, decimal-named}
+use Rattle.lst_replies.proofs.Chains.{Reads, named, reads_none, reads_if, reads_both}
 use Rattle.lst_replies.proofs.Spelling.{split-words}
-use Rattle.lst_replies.proofs.Readings.{takes64, again64, takes32, again32, IsLineOf, reply_takes}
-use Rattle.lst_replies.proofs.Spelled.{reply_again}
+use Rattle.lst_replies.proofs.Readings.{takes64, again64, takes32, again32}
 use Rattle.std.proofs.lemmas.List.Splits.{join_with_byte-slice_split}
 use Rattle.std.specs.List.{join_with_byte}
 

@@ -1,11 +1,11 @@
 -- What a reply needs at its place in a run, under a commit history.
-use Rattle.std.specs.Prelude.{◌≡◌, ◌≢◌, ℕ, ◌-◌, ◌*◌, ◌<◌, ◌≤◌, List, [], ◌∷◌, ◌++◌, Bool, true, false, not, ◌&&◌, ◌||◌, ◌==◌, nat_le, if◌then◌else◌, cond, Option, Some, None, is_some, IsSome, IsNone, IfSome, IsSomeAnd, IsTrue, IsFalse, length, take, slice_get}
+use Rattle.std.specs.Prelude.{◌≡◌, ◌≢◌, ℕ, ◌-◌, ◌*◌, ◌<◌, ◌≤◌, List, [], ◌∷◌, ◌++◌, Bool, true, false, not, ◌&&◌, ◌==◌, nat_le, if◌then◌else◌, cond, Option, Some, None, is_some, IsSome, IsNone, IfSome, IsSomeAnd, IsTrue, IsFalse, length, take, slice_get}
 use Rattle.std.specs.List.{list_any, count_by, fold}
 use Rattle.lst_layout.specs.declared.limits.Limits.{Limits}
 use Rattle.lst_model.specs.declared.acts.Write.{Write}
 use Rattle.lst_model.specs.declared.commits.Commit.{Commit}
 use Rattle.lst_model.specs.declared.lines.Line.{Line}
-use Rattle.lst_model.specs.declared.lines.Line.TheVariants.{Phase, Merge, Call}
+use Rattle.lst_model.specs.declared.lines.Line.TheVariants.{Merge, Call}
 use Rattle.lst_model.specs.declared.lines.Call.{Call as CallKind}
 use Rattle.lst_model.specs.declared.lines.Call.TheVariants.{Begin, AsOf, Get, Sum, Count, Scan, Find, Commit as CommitCall}
 use Rattle.lst_model.specs.declared.replies.Reply.{Reply}
@@ -17,8 +17,8 @@ use Rattle.lst_model.specs.Soundness.{Fits}
 use Rattle.lst_machine.specs.Calls.{first_of, where_true, is_indexed}
 use Rattle.lst_replies.specs.declared.states.Transaction.{Transaction}
 use Rattle.lst_replies.specs.declared.states.SessionState.{SessionState}
-use Rattle.lst_replies.specs.Runs.{Answered, answered, names, write_of, key_written, key_of, is_by, is_begun, is_merged, is_accepted, is_accepted_on, may_take_record, may_take_latch}
-use Rattle.lst_replies.specs.States.{state_of, sight_of, floor_of}
+use Rattle.lst_replies.specs.Runs.{Answered, answered, names, write_of, key_of, is_by, is_begun, is_merged, is_accepted, is_accepted_on, may_take_record, may_take_latch}
+use Rattle.lst_replies.specs.States.{state_of, sight_of}
 
 -- ---- commits
 

@@ -1,6 +1,6 @@
 -- Legal reports: what a store may answer to a script, whatever the schedule. There are nine rules, and a commit history under which all of
 -- them hold. The second rule leaves no choice of that history.
-use Rattle.std.specs.Prelude.{◌≡◌, ◌≢◌, ℕ, ◌<◌, ◌≤◌, List, map, length, Option, Some, IfSome, IsSomeAnd}
+use Rattle.std.specs.Prelude.{◌≡◌, ◌≢◌, ℕ, ◌<◌, ◌≤◌, List, map, length, Some, IfSome, IsSomeAnd}
 use Rattle.std.specs.List.{Contains, AllPairs}
 use Rattle.lst_layout.specs.declared.limits.Limits.{Limits}
 use Rattle.lst_model.specs.declared.acts.Write.{Write}
@@ -8,7 +8,6 @@ use Rattle.lst_model.specs.declared.commits.Commit.{Commit}
 use Rattle.lst_model.specs.declared.lines.Line.{Line}
 use Rattle.lst_model.specs.declared.lines.Call.{Call as CallKind}
 use Rattle.lst_model.specs.declared.replies.Reply.{Reply}
-use Rattle.lst_model.specs.declared.replies.Reply.TheVariants.{Committed}
 use Rattle.lst_model.specs.Soundness.{IsSound}
 use Rattle.lst_replies.specs.declared.reports.Stamp.{Stamp}
 use Rattle.lst_replies.specs.declared.reports.Report.{Report}

@@ -1,5 +1,5 @@
 -- How the words of a line of a report are read.
-use Rattle.std.specs.Prelude.{◌≡◌, ℕ, ◌+◌, ◌^◌, List, [], ◌∷◌, Bool, true, false, ◌&&◌, ◌==◌, nat_lt, Option, Some, None, option_map, Result, Ok, Err, length, map, take, drop, position, if◌then◌else◌, codes, decimal, bytes_eq}
+use Rattle.std.specs.Prelude.{◌≡◌, ℕ, ◌+◌, ◌^◌, List, [], ◌∷◌, Bool, false, ◌&&◌, ◌==◌, nat_lt, Option, Some, None, option_map, Result, Ok, Err, length, map, take, drop, position, if◌then◌else◌, codes, decimal, bytes_eq}
 use Rattle.std.specs.List.{slice_split}
 use Rattle.std.specs.Str.Parse.{digits_value}
 use denote.Ref.{Bor}
@@ -59,9 +59,13 @@ number64 word = number_of (2 ^ 64) word
 abbrev pub number32 : List ℕ → Option ℕ
 number32 word = number_of (2 ^ 32) word
 
+-- a number, or the word for null
+abbrev pub cell_of : List ℕ → Option Cell
+cell_of word = if bytes_eq word (codes "null") then Some None else option_map Some (number64 word)
+
 -- a cell for each column
 abbrev pub cells_of : ℕ → List (List ℕ) → Option (List Cell)
-cells_of columns words = if length words == columns then read_all number64 words else None
+cells_of columns words = if length words == columns then read_all cell_of words else None
 
 abbrev pub entry_at : ℕ → List ℕ → Option ℕ → Option (ℕ × List Cell)
 entry_at columns word None = None

@@ -62,10 +62,14 @@ CauseFits (Newer time) = time < 2 ^ 64
 CauseFits (Unfinished session number) = (session < 2 ^ 32) × (number < 2 ^ 32)
 CauseFits cause = Unit {0}
 
+abbrev pub CellFits : Cell → Type 0
+CellFits None = Unit {0}
+CellFits (Some number) = number < 2 ^ 64
+
 -- as many cells as the table has columns
 pub record RowFits (columns : ℕ) (row : List Cell) : Type 0 where
   pub width : length row ≡ columns
-  pub cells : All (λ cell. cell < 2 ^ 64) row
+  pub cells : All CellFits row
 
 pub record EntryFits (columns : ℕ) (entry : ℕ × List Cell) : Type 0 where
   pub key : entry.0 < 2 ^ 64

@@ -1,5 +1,5 @@
 -- A run: the lines of a script, each with the reply to it.
-use Rattle.std.specs.Prelude.{◌≡◌, ℕ, List, [], ◌∷◌, ◌++◌, Bool, true, false, cond, not, ◌&&◌, ◌==◌, Option, Some, None, is_some}
+use Rattle.std.specs.Prelude.{◌≡◌, ℕ, List, [], ◌∷◌, ◌++◌, Bool, true, false, not, ◌&&◌, ◌==◌, Option, Some, None, is_some}
 use Rattle.std.specs.List.{filter_map}
 use Rattle.lst_model.specs.declared.acts.Act.TheVariants.{Put, Set, Del}
 use Rattle.lst_model.specs.declared.acts.Write.{Write}

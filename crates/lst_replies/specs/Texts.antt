@@ -1,5 +1,5 @@
 -- The texts of replies.
-use Rattle.std.specs.Prelude.{◌≡◌, ℕ, List, [], ◌∷◌, ◌++◌, Bool, true, false, cond, flat_map, codes, decimal}
+use Rattle.std.specs.Prelude.{ℕ, List, [], ◌∷◌, ◌++◌, Bool, true, false, cond, flat_map, codes, decimal, Some, None}
 use Rattle.lst_model.specs.declared.lines.Line.{Line}
 use Rattle.lst_model.specs.declared.lines.Line.TheVariants.{Phase, Merge, Call}
 use Rattle.lst_model.specs.declared.replies.Reply.{Reply}
@@ -8,9 +8,10 @@ use Rattle.lst_model.specs.declared.replies.Cause.{Cause}
 use Rattle.lst_model.specs.declared.replies.Cause.TheVariants.{Idle, Active, ReadOnly, Spent, Future, Missing, Exists, TableFull, Latched, Newer, Unfinished, TailFull, NotIndexed}
 use Rattle.lst_model.specs.Cells.{Cell}
 
--- a cell as it is written
+-- a cell as it is written: its number, or the word for null
 abbrev pub cell_text : Cell → List ℕ
-cell_text cell = decimal cell
+cell_text None = codes "null"
+cell_text (Some number) = decimal number
 
 -- the cells of a row, with one byte between two of them
 abbrev pub cells_text : ℕ → List Cell → List ℕ

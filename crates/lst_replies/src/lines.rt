@@ -1,6 +1,6 @@
 //! The text of the reply to one line.
-ghost use Rattle.std.specs.Prelude.{◌≡◌, ℕ, ◌++◌, ◌∷◌, [], IfOk, OnOk, OnErr, decimal, flat_map};
-ghost use Rattle.lst_replies.specs.Texts.{line_text, speaker_text, is_silent, reply_word, reply_rest, cause_words, cause_numbers, cells_text, entry_text, key_text};
+ghost use Rattle.std.specs.Prelude.{◌≡◌, ℕ, ◌++◌, ◌∷◌, [], IfOk, OnOk, OnErr, ◌<◌, decimal, drop, flat_map, length};
+ghost use Rattle.lst_replies.specs.Texts.{line_text, speaker_text, is_silent, reply_word, reply_rest, cause_words, cause_numbers, cell_text, cells_text, entry_text, key_text};
 
 use lst_model::{Cause, Key, Line, OutOfMemory, Reply, Row, Text};
 use std::alloc::Global;
@@ -88,7 +88,7 @@ fn push_rest(text: &mut Text, reply: &Reply) -> Result<(), OutOfMemory>
             text,
             u128::from(*time),
         ),
-        Reply::Row { row } => push_cells(text, b' ', row.cells()),
+        Reply::Row { row } => push_cells(text, b' ', row),
         Reply::Sum { total } => push_number(text, *total),
         Reply::Count { rows } => push_number(text, u128::from(*rows)),
         Reply::Rows { list } => push_rows(text, list.items()),
@@ -147,7 +147,7 @@ fn push_rows(text: &mut Text, rows: &[(Key, Row)]) -> Result<(), OutOfMemory>
     for entry in rows {
         push_behind(text, b" ", u128::from(entry.0))?;
         text.push_bytes(b":")?;
-        push_cells(text, b',', entry.1.cells())?;
+        push_cells(text, b',', &entry.1)?;
     }
     Ok(())
 }
@@ -161,23 +161,34 @@ fn push_keys(text: &mut Text, keys: &[Key]) -> Result<(), OutOfMemory>
     Ok(())
 }
 
-fn push_cells(text: &mut Text, between: u8, cells: &[u64]) -> Result<(), OutOfMemory>
-    ensures { OnOk result (text.new ≡ text.old ++ cells_text between cells.now) }
+fn push_cells(text: &mut Text, between: u8, row: &Row) -> Result<(), OutOfMemory>
+    ensures { OnOk result (text.new ≡ text.old ++ cells_text between row.now) }
 {
-    let Some((first, rest)) = cells.split_first() else {
+    if row.len() == 0 {
         return Ok(());
-    };
-    push_number(text, u128::from(*first))?;
-    push_further(text, between, rest)
+    }
+    push_cell(text, row.cell(0))?;
+    push_further(text, between, row)
 }
 
-fn push_further(text: &mut Text, between: u8, cells: &[u64]) -> Result<(), OutOfMemory>
-    ensures { OnOk result (text.new ≡ text.old ++ flat_map (λ cell. between ∷ decimal cell) cells.now) }
+fn push_further(text: &mut Text, between: u8, row: &Row) -> Result<(), OutOfMemory>
+    requires { 0 < length row.now }
+    ensures { OnOk result (text.new ≡ text.old ++ flat_map (λ cell. between ∷ cell_text cell) (drop 1 row.now)) }
 {
-    for cell in cells {
-        push_behind(text, &[between], u128::from(*cell))?;
+    for column in 1..row.len() {
+        text.push_bytes(&[between])?;
+        push_cell(text, row.cell(column as u32))?;
     }
     Ok(())
+}
+
+fn push_cell(text: &mut Text, cell: Option<u64>) -> Result<(), OutOfMemory>
+    ensures { OnOk result (text.new ≡ text.old ++ cell_text cell) }
+{
+    match cell {
+        Some(number) => push_number(text, u128::from(number)),
+        None => text.push_bytes(b"null"),
+    }
 }
 
 fn push_behind(text: &mut Text, before: &[u8], number: u128) -> Result<(), OutOfMemory>
@@ -219,7 +230,14 @@ mod tests {
         let mut cells = ArrayVec::new();
         cells.push(10);
         cells.push(18446744073709551615);
-        Row::new(cells)
+        Row::of_numbers(cells)
+    }
+
+    fn row_with_null() -> Row {
+        let mut row = Row::of_numbers(ArrayVec::new());
+        row.push(Some(5));
+        row.push(None);
+        row
     }
 
     #[test]
@@ -242,8 +260,8 @@ mod tests {
         )?;
         let mut rows = RowList::new(alloc);
         rows.push(7, row())?;
-        rows.push(9, row())?;
-        let wanted = "3 rows 7:10,18446744073709551615 9:10,18446744073709551615\n";
+        rows.push(9, row_with_null())?;
+        let wanted = "3 rows 7:10,18446744073709551615 9:5,null\n";
         text_is(&rt, alloc, &call, &Reply::Rows { list: rows }, wanted)?;
         let mut keys = KeyList::new(alloc);
         keys.push(7)?;

@@ -1,6 +1,6 @@
 //! Replies with rows and keys.
 ghost use Rattle.std.specs.Prelude.{◌≡◌, ◌≤◌, IfOk, position};
-ghost use Rattle.lst_replies.specs.Reading.{texts, is_colon, number64, cells_of, entry_of, read_all, list_reply, call_reply, told_by, reply_of};
+ghost use Rattle.lst_replies.specs.Reading.{texts, is_colon, number64, cell_of, cells_of, entry_of, read_all, list_reply, call_reply, told_by, reply_of};
 
 use crate::numbers::{read_u32, read_u64};
 use crate::short::{merge_reply, short_reply};
@@ -8,6 +8,19 @@ use crate::words::{split_cells, split_words};
 use arrayvec::ArrayVec;
 use lst_model::{Key, KeyList, OutOfMemory, Reply, Row, RowList};
 use std::alloc::Global;
+
+/// The word for null.
+const NULL: &[u8] = b"null";
+
+/// A number, or the word for null.
+fn read_cell(word: &[u8]) -> Option<Option<u64>>
+    ensures { result ≡ cell_of word.now }
+{
+    if word == NULL {
+        return Some(None);
+    }
+    read_u64(word).map(Some)
+}
 
 /// A row with a cell for each column, one a word.
 fn read_cells(words: &[&[u8]], columns: usize) -> Option<Row>
@@ -17,11 +30,11 @@ fn read_cells(words: &[&[u8]], columns: usize) -> Option<Row>
     if words.len() != columns {
         return None;
     }
-    let mut cells = ArrayVec::new();
+    let mut row = Row::of_numbers(ArrayVec::new());
     for word in words {
-        cells.push(read_u64(word)?);
+        row.push(read_cell(word)?);
     }
-    Some(Row::new(cells))
+    Some(row)
 }
 
 /// Keys, one a word.

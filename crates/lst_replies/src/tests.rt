@@ -32,7 +32,7 @@ fn a_report_is_read_and_printed_again(rt: HostRuntime) -> Result<(), Fail> {
     is_read_again(
         &rt,
         alloc,
-        "0 begun 0\n0 ok\n0 committed 1\n1 begun 1\n1 sum 10\n1 rows 7:10,20 9:30,20\n1 conflict open 0 2\nmerged 3\n1 ended 1\nhistory 1\n1 0 1 0\n",
+        "0 begun 0\n0 ok\n0 committed 1\n1 begun 1\n1 sum 10\n1 row 5 null\n1 rows 7:10,null 9:null,20\n1 conflict open 0 2\nmerged 3\n1 ended 1\nhistory 1\n1 0 1 0\n",
     )
 }
 
@@ -42,6 +42,7 @@ fn the_first_line_that_cannot_stand_is_named(rt: HostRuntime) -> Result<(), Fail
     is_refused(&rt, alloc, "", 1)?;
     is_refused(&rt, alloc, "0 begun 00\nhistory 0\n", 1)?;
     is_refused(&rt, alloc, "0 ok\n0 fine\nhistory 0\n", 2)?;
+    is_refused(&rt, alloc, "0 row 5 nil\nhistory 0\n", 1)?;
     is_refused(&rt, alloc, "0 ok\n", 2)?;
     is_refused(&rt, alloc, "history 1\n", 2)?;
     is_refused(&rt, alloc, "history 0\n0 ok\n", 2)

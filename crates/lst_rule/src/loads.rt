@@ -9,7 +9,7 @@ ghost use Rattle.lst_rule.specs.Stores.{IsSeatOf, Looked, Clocked};
 use crate::load_word;
 use crate::seat::Seat;
 use crate::store::Store;
-use lst_core_state::{Event, cell_address, look};
+use lst_core_state::{Event, look};
 use lst_layout::Place;
 
 /// A load that changes no number of the session.
@@ -156,7 +156,7 @@ pub fn load_head(store: &Store, seat: &mut Seat, s: u32, rec: u32) -> u64
     load_quietly(store, seat, s, Place::HeadWord { rec }, address)
 }
 
-/// Loads a word of a tail, which is named by its number through all ranges. Place 0 is its start word, 1 its encoding word, 2
+/// Loads a word of a tail, which is named by its identifier. Place 0 is its start word, 1 its encoding word, 2
 /// its back word, and 3 + c the value of column c.
 pub fn load_cell(store: &Store, seat: &mut Seat, s: u32, tail: u32, place: u32) -> u64
     requires seat { IsSeatOf store.now seat.old }
@@ -165,6 +165,6 @@ pub fn load_cell(store: &Store, seat: &mut Seat, s: u32, tail: u32, place: u32) 
     ensures seat { IsSeatOf store.now seat.new }
     ensures looked { Looked seat.old.view seat.new.view s (CellWord tail place) result }
 {
-    let address = cell_address(&store.layout, tail, place);
+    let address = store.layout.cell_address(tail, place);
     load_quietly(store, seat, s, Place::CellWord { tail, place }, address)
 }

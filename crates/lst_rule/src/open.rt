@@ -8,8 +8,8 @@ ghost use Rattle.lst_rule.specs.Stores.{IsSeatOf};
 use crate::seat::Seat;
 use crate::store::Store;
 use atomic_table::Table;
-use lst_core_state::{newcomers, opening_words};
-use lst_layout::Layout;
+use lst_core_state::newcomers;
+use lst_layout::{Layout, opening_words};
 use lst_model::OutOfMemory;
 use std::alloc::Global;
 

@@ -134,8 +134,8 @@ impl Seat {
         one_less(self.numbers[s as usize].hold.latch)
     }
 
-    /// The tail in hand of a session, by its number through all ranges: its number within the range, from 1 on, after the tails of all
-    /// ranges before it.
+    /// The tail in hand of a session, by its identifier: its number within the range, from 1 on, after the tails of all ranges
+    /// before it.
     pub fn tail(&self, s: u32) -> Option<u32>
         requires { hosts self.now.view s ≡ true }
         ensures { MatchOption result ((knows self.now.view s).hold.tail ≡ 0) (λ t. (0 < t) × ((knows self.now.view s).hold.tail ≡ t)) }

@@ -144,7 +144,7 @@ pub fn step_release(store: &Store, seat: &mut Seat, s: u32)
 }
 
 /// Stores the commit time of a tail's transaction into its start word. The tail is named by its number within the range, from 1 on, and not
-/// by its number through all ranges. Allowed where the transaction is known to be committed, at this time.
+/// by its identifier. Allowed where the transaction is known to be committed, at this time.
 pub fn step_stamp(store: &Store, seat: &mut Seat, s: u32, range: u32, tail: u32, time: u64)
     requires seat { IsSeatOf store.now seat.old }
     requires host { hosts seat.old.view s ≡ true }
@@ -163,7 +163,7 @@ pub fn step_stamp(store: &Store, seat: &mut Seat, s: u32, range: u32, tail: u32,
         Event::Stamp {
             session: s,
             range,
-            tail,
+            number: tail,
         },
         time,
     );

@@ -9,11 +9,12 @@ use Rattle.lst_layout.specs.declared.limits.Limits.{Limits}
 use Rattle.lst_model.specs.declared.lines.Line.{Line}
 use Rattle.lst_model.specs.declared.lines.Line.TheVariants as lines
 use Rattle.lst_script.specs.declared.faults.FaultKind.TheVariants.{UnknownWord, BadNumber, BadSession, BadCount, BadRange, BadColumn, NothingToSet}
-use Rattle.lst_script.specs.Numbers.{number_of, keeps_column, change_of}
+use Rattle.lst_model.specs.Cells.{Cell}
+use Rattle.lst_script.specs.Numbers.{number_of, cell_of, keeps_column, change_of}
 use Rattle.lst_script.specs.Table.{Form, phase, begin, as_of, get, insert, update, delete, commit, abort, first_forms, session_forms, form_named, name_of, number, change, places_of}
 use Rattle.lst_script.specs.Grammar.{form_of_call, AreArguments, IsLine}
 use Rattle.lst_script.specs.Faults.{first_fault, is_skipped, is_call, all_pass, is_readable, is_range, is_column, sets_nothing, argument_checks, word_checks}
-use Rattle.lst_script.proofs.Places.{all_pass-replicate, changes_readable}
+use Rattle.lst_script.proofs.Places.{all_pass-replicate, cells_readable, changes_readable}
 use Rattle.lst_script.proofs.OneReading.{call_as}
 
 -- a check that is passed, and those behind it
@@ -59,7 +60,7 @@ values_of read d (word ∷ words) e =
     let parts = and_parts (is_some (read word)) (list_all (λ word. is_some (read word)) words) e in
     ap (λ o. o ∷ map read words) (some_value (read word) d parts.0) ∙ ap (λ os. Some (unwrap_or (read word) d) ∷ os) (values_of read d words parts.1)
 
-set_one : (keeps : Bool) (found : Option ℕ) → is_some (cond keeps (Some None) (option_map (λ n. Some n) found)) ≡ true → keeps ≡ false → is_some (unwrap_or (cond keeps (Some None) (option_map (λ n. Some n) found)) None) ≡ true
+set_one : (keeps : Bool) (found : Option Cell) → is_some (cond keeps (Some None) (option_map (λ n. Some n) found)) ≡ true → keeps ≡ false → is_some (unwrap_or (cond keeps (Some None) (option_map (λ n. Some n) found)) None) ≡ true
 set_one true found e other = absurd (true≢false other)
 set_one false None e other = absurd (false≢true e)
 set_one false (Some n) e other = refl
@@ -74,7 +75,7 @@ sets_some (word ∷ words) e not_all =
       | inl keeps ↦
           let rest : list_all keeps_column words ≡ false = rw keeps at not_all in
           or_right here later (sets_some words parts.1 rest)
-      | inr sets ↦ or_left here later (set_one (keeps_column word) (number_of word) parts.0 sets)
+      | inr sets ↦ or_left here later (set_one (keeps_column word) (cell_of word) parts.0 sets)
     ]
 
 one_number : (word : List ℕ) → (is_some (number_of word) && true) ≡ true → number_of word ≡ Some (unwrap_or (number_of word) 0)
@@ -90,8 +91,8 @@ insert_told limits [] p = absurd (omega (arith, p.as_many))
 insert_told limits (key ∷ cells) p =
     let len : length cells ≡ limits.columns = omega (arith, p.as_many, length-replicate limits.columns number) in
     let parts = and_parts (is_some (number_of key)) (all_pass is_readable (replicate limits.columns number) cells) p.readable in
-    let read : list_all (λ word. is_some (number_of word)) cells ≡ true = sym (all_pass-replicate is_readable number limits.columns cells len) ∙ parts.1 in
-    (key, cells, refl, some_value (number_of key) 0 parts.0, record { cells = values_of number_of 0 cells read; as_many = length-map cells (λ word. unwrap_or (number_of word) 0) ∙ len })
+    let read : list_all (λ word. is_some (cell_of word)) cells ≡ true = sym (cells_readable cells) ∙ (sym (all_pass-replicate is_readable number limits.columns cells len) ∙ parts.1) in
+    (key, cells, refl, some_value (number_of key) 0 parts.0, record { cells = values_of cell_of None cells read; as_many = length-map cells (λ word. unwrap_or (cell_of word) None) ∙ len })
 
 update_told : (limits : Limits) (words : List (List ℕ)) → Passes limits update words → AreArguments limits (call_as update words) words
 update_told limits [] p = absurd (omega (arith, p.as_many))

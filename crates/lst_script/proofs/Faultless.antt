@@ -12,11 +12,12 @@ use Rattle.lst_model.specs.declared.lines.Line.{Line}
 use Rattle.lst_model.specs.declared.lines.Line.TheVariants as lines
 use Rattle.lst_model.specs.declared.lines.Call.{Call}
 use Rattle.lst_model.specs.declared.lines.Call.TheVariants.{Begin, AsOf, Get, Insert, Update, Delete, Sum, Count, Scan, Find, Commit, Abort}
-use Rattle.lst_script.specs.Numbers.{number_of, keeps_column, change_of}
+use Rattle.lst_model.specs.Cells.{Cell}
+use Rattle.lst_script.specs.Numbers.{number_of, cell_of, keeps_column, change_of}
 use Rattle.lst_script.specs.Table.{number, change, phase, merge, insert, update}
 use Rattle.lst_script.specs.Grammar.{form_of_call, AreCells, AreChanges, AreArguments, IsCall, IsLine}
 use Rattle.lst_script.specs.Faults.{first_fault, all_pass, is_readable, is_range, is_column, argument_checks, word_checks}
-use Rattle.lst_script.proofs.Places.{all_pass-replicate, all_true, count_is, changes_readable, all_read}
+use Rattle.lst_script.proofs.Places.{all_pass-replicate, all_true, count_is, cell_readable, changes_readable, all_read}
 
 -- ---- numbers
 
@@ -30,25 +31,25 @@ first_digit (byte ∷ word) n e =
 
 -- ---- the words behind a key
 
-cells_read : (words : List (List ℕ)) (row : List ℕ) → map number_of words ≡ map (λ cell. Some cell) row → list_all (is_readable number) words ≡ true
+cells_read : (words : List (List ℕ)) (row : List Cell) → map cell_of words ≡ map (λ cell. Some cell) row → list_all (is_readable number) words ≡ true
 cells_read [] row e = refl
 cells_read (word ∷ words) [] e = absurd cc
 cells_read (word ∷ words) (cell ∷ row) e =
-    let first : number_of word ≡ Some cell = cc in
-    let rest : map number_of words ≡ map (λ cell. Some cell) row = cc in
-    rw (first, cells_read words row rest) refl
+    let first : cell_of word ≡ Some cell = cc in
+    let rest : map cell_of words ≡ map (λ cell. Some cell) row = cc in
+    rw (cell_readable word, first, cells_read words row rest) refl
 
 as_many_words : {X : Type 0} (read : List ℕ → Option X) (words : List (List ℕ)) (values : List X) → map read words ≡ map (λ value. Some value) values → length words ≡ length values
 as_many_words read words values e = sym (length-map words read) ∙ (ap length e ∙ length-map values (λ value. Some value))
 
-not_kept : (keeps : Bool) (found : Option ℕ) (cell : Option ℕ) → cond keeps (Some None) (option_map (λ n. Some n) found) ≡ Some cell → is_some cell ≡ true → keeps ≡ false
+not_kept : (keeps : Bool) (found : Option Cell) (cell : Option Cell) → cond keeps (Some None) (option_map (λ n. Some n) found) ≡ Some cell → is_some cell ≡ true → keeps ≡ false
 not_kept true found cell e some =
     let same : None ≡ cell = cc in
     absurd (false≢true (ap (λ o. is_some o) same ∙ some))
 not_kept false found cell e some = refl
 
 -- a patch that sets some column isn't spelled by words that all keep their columns
-some_set : (words : List (List ℕ)) (patch : List (Option ℕ)) → map change_of words ≡ map (λ cell. Some cell) patch → list_any is_some patch ≡ true → list_all keeps_column words ≡ false
+some_set : (words : List (List ℕ)) (patch : List (Option Cell)) → map change_of words ≡ map (λ cell. Some cell) patch → list_any is_some patch ≡ true → list_all keeps_column words ≡ false
 some_set [] [] e sets = absurd (false≢true sets)
 some_set [] (cell ∷ patch) e sets = absurd cc
 some_set (word ∷ words) [] e sets = absurd cc
@@ -56,19 +57,19 @@ some_set (word ∷ words) (cell ∷ patch) e sets =
     let first : change_of word ≡ Some cell = cc in
     let rest : map change_of words ≡ map (λ cell. Some cell) patch = cc in
     elim (or_cases (is_some cell) (list_any is_some patch) sets) [
-      | inl here ↦ and_left (keeps_column word) (list_all keeps_column words) (not_kept (keeps_column word) (number_of word) cell first here)
+      | inl here ↦ and_left (keeps_column word) (list_all keeps_column words) (not_kept (keeps_column word) (cell_of word) cell first here)
       | inr later ↦ and_right (keeps_column word) (list_all keeps_column words) (some_set words patch rest later)
     ]
 
-insert_faultless : (limits : Limits) (key : List ℕ) (n : ℕ) (cells : List (List ℕ)) (row : List ℕ) → number_of key ≡ Some n → AreCells limits.columns cells row → first_fault (argument_checks limits insert (key ∷ cells)) ≡ None
+insert_faultless : (limits : Limits) (key : List ℕ) (n : ℕ) (cells : List (List ℕ)) (row : List Cell) → number_of key ≡ Some n → AreCells limits.columns cells row → first_fault (argument_checks limits insert (key ∷ cells)) ≡ None
 insert_faultless limits key n cells row key_is are =
-    let len : length cells ≡ limits.columns = as_many_words number_of cells row are.cells ∙ are.as_many in
+    let len : length cells ≡ limits.columns = as_many_words cell_of cells row are.cells ∙ are.as_many in
     let read : all_pass is_readable (replicate limits.columns number) cells ≡ true = all_pass-replicate is_readable number limits.columns cells len ∙ cells_read cells row are.cells in
     let ranged : all_pass (is_range limits) (replicate limits.columns number) cells ≡ true = all_pass-replicate (is_range limits) number limits.columns cells len ∙ all_true cells in
     let columned : all_pass (is_column limits) (replicate limits.columns number) cells ≡ true = all_pass-replicate (is_column limits) number limits.columns cells len ∙ all_true cells in
     rw (count_is key cells number limits.columns len, key_is, read, ranged, columned) refl
 
-update_faultless : (limits : Limits) (key : List ℕ) (n : ℕ) (changes : List (List ℕ)) (patch : List (Option ℕ)) → number_of key ≡ Some n → AreChanges limits.columns changes patch → first_fault (argument_checks limits update (key ∷ changes)) ≡ None
+update_faultless : (limits : Limits) (key : List ℕ) (n : ℕ) (changes : List (List ℕ)) (patch : List (Option Cell)) → number_of key ≡ Some n → AreChanges limits.columns changes patch → first_fault (argument_checks limits update (key ∷ changes)) ≡ None
 update_faultless limits key n changes patch key_is are =
     let len : length changes ≡ limits.columns = as_many_words change_of changes patch are.changes ∙ are.as_many in
     let read : all_pass is_readable (replicate limits.columns change) changes ≡ true = all_pass-replicate is_readable change limits.columns changes len ∙ (changes_readable changes ∙ all_read changes patch are.changes) in

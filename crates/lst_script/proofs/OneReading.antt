@@ -13,7 +13,7 @@ use Rattle.lst_script.specs.declared.faults.FaultKind.{FaultKind}
 use Rattle.lst_script.specs.declared.faults.ScriptFault.{ScriptFault}
 use Rattle.lst_script.specs.declared.faults.ScriptFault.TheVariants as faults
 use Rattle.lst_script.specs.Texts.{text_lines, line_words}
-use Rattle.lst_script.specs.Numbers.{number_of, change_of}
+use Rattle.lst_script.specs.Numbers.{number_of, cell_of, change_of}
 use Rattle.lst_script.specs.Table.{Form, phase, merge, begin, as_of, get, insert, update, delete, sum, count, scan, find_keys, commit, abort, first_forms, session_forms, form_named}
 use Rattle.lst_script.specs.Grammar.{form_of_call, AreArguments, IsCall, IsLine}
 use Rattle.lst_script.specs.Scripts.{AreScript, IsScript, text_fault, Explains, AnswersUnlessMemory}
@@ -27,7 +27,7 @@ call_as merge words = Begin
 call_as begin words = Begin
 call_as as_of words = AsOf (unwrap_or (number_of (get_or words 0 [])) 0)
 call_as get words = Get (unwrap_or (number_of (get_or words 0 [])) 0)
-call_as insert words = Insert (unwrap_or (number_of (get_or words 0 [])) 0) (map (λ word. unwrap_or (number_of word) 0) (drop 1 words))
+call_as insert words = Insert (unwrap_or (number_of (get_or words 0 [])) 0) (map (λ word. unwrap_or (cell_of word) None) (drop 1 words))
 call_as update words = Update (unwrap_or (number_of (get_or words 0 [])) 0) (map (λ word. unwrap_or (change_of word) None) (drop 1 words))
 call_as delete words = Delete (unwrap_or (number_of (get_or words 0 [])) 0)
 call_as sum words = Sum (unwrap_or (number_of (get_or words 0 [])) 0)
@@ -50,7 +50,7 @@ call_is : (limits : Limits) (call : Call) (words : List (List ℕ)) → AreArgum
 call_is limits Begin words are = refl
 call_is limits (AsOf time) words are = rw (are.1, are.2) refl
 call_is limits (Get key) words are = rw (are.1, are.2) refl
-call_is limits (Insert key row) words are = rw (are.2, are.3, values_are number_of 0 are.1 row are.4.cells) refl
+call_is limits (Insert key row) words are = rw (are.2, are.3, values_are cell_of None are.1 row are.4.cells) refl
 call_is limits (Update key patch) words are = rw (are.2, are.3, values_are change_of None are.1 patch are.4.changes) refl
 call_is limits (Delete key) words are = rw (are.1, are.2) refl
 call_is limits (Sum at) words are = rw (are.1, are.2) refl

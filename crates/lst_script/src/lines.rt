@@ -5,13 +5,13 @@ ghost use Rattle.std.specs.List.{list_any};
 ghost use Rattle.lst_layout.specs.Limits.{IsValid};
 ghost use Rattle.lst_layout.specs.declared.limits.Limits.{Limits};
 ghost use Rattle.lst_script.specs.Texts.{texts};
-ghost use Rattle.lst_script.specs.Numbers.{number_of, change_of};
+ghost use Rattle.lst_script.specs.Numbers.{cell_of, change_of};
 ghost use Rattle.lst_script.specs.Table.{begin, get, insert, update};
 ghost use Rattle.lst_script.specs.Reading.{ReadsEach, ReadsArguments, ReadsNothing, ReadsOneNumber, ReadsSession, ReadsWords, ReadsLine};
 ghost use Rattle.lst_script.specs.Verbs.{form_of_verb};
 
 use crate::faults::FaultKind;
-use crate::numbers::{change, number};
+use crate::numbers::{cell, change, number};
 use crate::verbs::{Verb, verb_of};
 use arrayvec::ArrayVec;
 use lst_layout::Limits;
@@ -20,13 +20,13 @@ use lst_model::{Call, Line, Patch, Row};
 /// The cells of a row, one a word.
 fn read_row(words: &[&[u8]]) -> Option<Row>
     requires { length words.now ≤ 8 }
-    ensures { ReadsEach number_of (texts words.now) result }
+    ensures { ReadsEach cell_of (texts words.now) result }
 {
-    let mut cells = ArrayVec::new();
+    let mut row = Row::of_numbers(ArrayVec::new());
     for word in words {
-        cells.push(number(word)?);
+        row.push(cell(word)?);
     }
-    Some(Row::new(cells))
+    Some(row)
 }
 
 /// The changes of a patch, one a word.
@@ -34,11 +34,11 @@ fn read_patch(words: &[&[u8]]) -> Option<Patch>
     requires { length words.now ≤ 8 }
     ensures { ReadsEach change_of (texts words.now) result }
 {
-    let mut changes = ArrayVec::new();
+    let mut patch = Patch::of_numbers(ArrayVec::new());
     for word in words {
-        changes.push(change(word)?);
+        patch.push(change(word)?);
     }
-    Some(Patch::new(changes))
+    Some(patch)
 }
 
 /// A key, and the cells of its row.
@@ -61,13 +61,6 @@ fn read_insert(arguments: &[&[u8]], limits: &Limits) -> Result<Call, FaultKind>
     Ok(Call::Insert { key, row })
 }
 
-/// Whether a patch sets a column.
-fn sets_some(patch: &Patch) -> bool
-    ensures { result ≡ list_any is_some patch.now }
-{
-    patch.cells().iter().any(|change| change.is_some())
-}
-
 /// A key, and what becomes of each column.
 fn read_update(arguments: &[&[u8]], limits: &Limits) -> Result<Call, FaultKind>
     requires { IsValid limits.now }
@@ -85,7 +78,7 @@ fn read_update(arguments: &[&[u8]], limits: &Limits) -> Result<Call, FaultKind>
     let Some(patch) = read_patch(changes) else {
         return Err(FaultKind::BadNumber);
     };
-    if !sets_some(&patch) {
+    if !patch.sets_some() {
         return Err(FaultKind::NothingToSet);
     }
     Ok(Call::Update { key, patch })

@@ -11,14 +11,14 @@ fn row(first: u64, second: u64) -> Row {
     let mut cells = ArrayVec::new();
     cells.push(first);
     cells.push(second);
-    Row::new(cells)
+    Row::of_numbers(cells)
 }
 
 fn patch(first: Option<u64>, second: Option<u64>) -> Patch {
     let mut cells = ArrayVec::new();
     cells.push(first);
     cells.push(second);
-    Patch::new(cells)
+    Patch::of_numbers(cells)
 }
 
 fn call(session: u32, call: Call) -> Line {

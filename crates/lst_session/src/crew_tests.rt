@@ -36,14 +36,14 @@ fn row(first: u64, second: u64) -> Row {
     let mut cells = ArrayVec::new();
     cells.push(first);
     cells.push(second);
-    Row::new(cells)
+    Row::of_numbers(cells)
 }
 
 fn patch(first: Option<u64>, second: Option<u64>) -> Patch {
     let mut cells = ArrayVec::new();
     cells.push(first);
     cells.push(second);
-    Patch::new(cells)
+    Patch::of_numbers(cells)
 }
 
 fn insert(key: Key, first: u64, second: u64) -> Call {
@@ -96,9 +96,7 @@ fn fits(limits: &Limits, session: u32, call: &Call) -> bool
     let columns = limits.columns as usize;
     match call {
         Call::Insert { row, .. } => row.len() == columns,
-        Call::Update { patch, .. } => {
-            patch.len() == columns && patch.cells().iter().any(|cell| cell.is_some())
-        }
+        Call::Update { patch, .. } => { patch.len() == columns && patch.sets_some() }
         Call::Sum { .. } | Call::Count | Call::Scan | Call::Find { .. } => false,
         _ => true,
     }

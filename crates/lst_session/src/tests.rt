@@ -44,7 +44,7 @@ fn row(first: u64, second: u64) -> Row
     let mut cells = ArrayVec::new();
     cells.push(first);
     cells.push(second);
-    Row::new(cells)
+    Row::of_numbers(cells)
 }
 
 /// Sets the first column alone.
@@ -54,7 +54,7 @@ fn patch(first: u64) -> Patch
     let mut cells = ArrayVec::new();
     cells.push(Some(first));
     cells.push(None);
-    Patch::new(cells)
+    Patch::of_numbers(cells)
 }
 
 fn begin(on: &mut Opened) -> Result<Time, BeginRefusal> {

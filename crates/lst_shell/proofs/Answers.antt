@@ -1,9 +1,7 @@
 -- What the statuses say, taken together.
-use Rattle.std.proofs.Common.{◌≡◌, ◌↔◌, ℕ, ◌<◌, ◌≤◌, List, [], ◌∷◌, ◌++◌, length, length-append, Option, Some, None, IfSome, refl, sym, ap, ◌∙◌, subst, arith, inl, inr, append-nil}
-use Rattle.std.specs.List.{AllZip}
+use Rattle.std.proofs.Common.{◌≡◌, ◌↔◌, ℕ, ◌<◌, ◌≤◌, List, ◌++◌, length, length-append, Option, Some, None, IfSome, refl, sym, ap, ◌∙◌, subst, arith, inl, inr, append-nil}
 use Rattle.lst_io.specs.Inputs.{IsWholeInput, ReadsBeyond}
 use Rattle.lst_model.specs.declared.lines.Line.{Line}
-use Rattle.lst_model.specs.declared.lines.Line.TheVariants.{Phase, Merge, Call as CallLine}
 use Rattle.lst_script.specs.declared.faults.FaultKind.{FaultKind}
 use Rattle.lst_shell.specs.declared.status.Status.{Status}
 use Rattle.lst_shell.specs.declared.status.Status.TheVariants.{Done, Illegal, Usage, BadScript, TooLong, ReadFault, WriteFault, OutOfMemory}

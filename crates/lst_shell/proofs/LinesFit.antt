@@ -1,16 +1,16 @@
 -- The lines of a script are lines that the store can take.
-use Rattle.std.proofs.Common.{◌≡◌, ℕ, zero, suc, ◌<◌, ◌≤◌, Bool, true, false, cond, List, [], ◌∷◌, length, Option, Some, None, ◌⊎◌, inl, inr, refl, sym, ap, ◌∙◌, subst, arith}
-use Rattle.std.specs.Prelude.{All, Any, find, is_some, IsSome, slice_index_or, bytes_eq}
+use Rattle.std.proofs.Common.{◌≡◌, ℕ, zero, suc, Bool, true, false, cond, List, [], ◌∷◌, length, Some, ◌⊎◌, inl, inr, sym, ap, subst, arith}
+use Rattle.std.specs.Prelude.{All, find, is_some, bytes_eq}
 use Rattle.std.proofs.lemmas.List.Folds.{Any-from_list_any}
 use Rattle.lst_layout.specs.declared.limits.Limits.{Limits}
 use Rattle.lst_model.specs.declared.lines.Line.{Line}
 use Rattle.lst_model.specs.declared.lines.Line.TheVariants as lines
 use Rattle.lst_model.specs.declared.lines.Call.{Call}
 use Rattle.lst_model.specs.declared.lines.Call.TheVariants.{Begin, AsOf, Get, Insert, Update, Delete, Sum, Count, Scan, Find, Commit, Abort}
-use Rattle.lst_model.specs.Lines.{CallFits, LineFits}
+use Rattle.lst_model.specs.Lines.{CallFits}
 use Rattle.lst_session.specs.Replies.{IsCrewCall}
-use Rattle.lst_script.specs.Table.{Form, phase, merge, sum, count, scan, find_keys, first_forms, session_forms, form_named, name_of}
-use Rattle.lst_script.specs.Grammar.{AreArguments, IsCall, IsLine, form_of_call}
+use Rattle.lst_script.specs.Table.{Form, merge, sum, count, scan, find_keys, first_forms, session_forms, form_named, name_of}
+use Rattle.lst_script.specs.Grammar.{AreArguments, IsLine, form_of_call}
 use Rattle.lst_script.specs.Scripts.{AreScript, IsScript}
 use Rattle.lst_script.specs.Texts.{text_lines, line_words}
 use Rattle.lst_script.proofs.Scanning.{first_cases}

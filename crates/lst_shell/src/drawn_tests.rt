@@ -78,7 +78,7 @@ impl Drawer {
         let mut cells = ArrayVec::new();
         cells.push(self.draw(9));
         cells.push(self.draw(9));
-        Row::new(cells)
+        Row::of_numbers(cells)
     }
 
     fn draw_patch(&mut self) -> Patch
@@ -100,7 +100,7 @@ impl Drawer {
                 cells.push(Some(9));
             }
         }
-        Patch::new(cells)
+        Patch::of_numbers(cells)
     }
 
     fn draw_call(&mut self) -> Call

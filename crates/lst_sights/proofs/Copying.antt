@@ -9,7 +9,7 @@ use Rattle.lst_core_state.specs.Lists.{Has, Links}
 use Rattle.lst_core_state.proofs.Lists.{links_positive}
 use Rattle.lst_core_state.specs.declared.facts.Fact.{Fact}
 use Rattle.lst_core_state.specs.declared.facts.Fact.TheVariants.{ChainEnds}
-use Rattle.lst_core_state.specs.Cells.{record_count, range_of, tail_at, listed}
+use Rattle.lst_core_state.specs.Cells.{record_count, range_of, tail_at, listed, IsColumn}
 use Rattle.lst_core_state.specs.Facts.{cell_fact, cell_facts, chain_facts}
 use Rattle.lst_core_state.specs.State.{Words, Core, writer_at, line, back_in, head_of, record_in}
 use Rattle.lst_core_state.specs.Sound.{Sound, StoredOf}
@@ -99,7 +99,7 @@ stored_is c sound t some stored = let l : Limits = c.limits in let w : Words = c
   number = let a = k.begun.2 in let b = (sound.each (writer_at w t % 16) k.begun.0).few in omega arith;
   here = refl;
   wide = length-listed (w.cells t) 3 l.columns;
-  cell = record { slot = image.slot; kind = image.kind; else = λ column below none. listed_at (w.cells t) 3 l.columns column below ∙ image.else column below none };
+  cell = record { nulls = image.nulls; kind = image.kind; each = λ column below. subst (IsColumn (w.cells t 1) column) (sym (listed_at (w.cells t) 3 l.columns column below)) (image.each column below) };
 }
 
 module _ (c : Core) (sound : Sound c) (rec : ℕ) (low : rec < record_count c.limits) where

@@ -10,3 +10,4 @@ pub mod Committed
 pub mod Keying
 pub mod Asking
 pub mod Backs
+pub mod Encoded

@@ -6,7 +6,7 @@ use Rattle.lst_core_state.specs.declared.facts.Fact.{Fact}
 use Rattle.lst_core_state.specs.declared.facts.Fact.TheVariants.{CellIs, ChainEnds}
 use Rattle.lst_core_state.specs.Cells.{record_count, tail_count, range_of, record_of, IsCell}
 
--- a version: its tail, by its number among all tails, the name of its transaction, and its words. The back word is the number in its
+-- a version: its tail, by its identifier, the name of its transaction, and its words. The back word is the number in its
 -- range of the version below, or 0
 pub record Version : Type 0 where
   pub tail : ℕ

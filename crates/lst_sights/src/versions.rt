@@ -8,7 +8,7 @@ ghost use Rattle.lst_sights.specs.Watching.{Watched};
 
 use lst_rule::{Seat, Store, load_cell};
 
-/// The number among all tail records of a range's tail record, which has this number in the range.
+/// The identifier of a range's tail record, which has this number in the range.
 pub fn tail_of(store: &Store, range: u32, number: u32) -> u32
     requires range { range < store.now.layout.limits.ranges }
     requires number { number ≤ store.now.layout.limits.tails }
@@ -25,7 +25,7 @@ pub fn is_own(seat: &Seat, s: u32, session: u32, number: u32) -> bool
     session == s && number == seat.number(s)
 }
 
-/// The number in its range of the version below one, or 0. The version is named by the number of its tail record among all.
+/// The number in its range of the version below one, or 0. The version is named by the identifier of its tail record.
 pub fn version_below(store: &Store, seat: &mut Seat, s: u32, tail: u32) -> u32
     requires seat { IsSeatOf store.now seat.old }
     requires host { hosts seat.old.view s ≡ true }

@@ -4,6 +4,7 @@ ghost use Rattle.std.specs.Ordering.{nat_cmp};
 ghost use Rattle.std.specs.BTreeMap.{get, is_at, keys, IsOrdered};
 ghost use Rattle.lst_model.specs.declared.commits.Commit.{Commit};
 ghost use Rattle.lst_model.specs.Histories.{row_after};
+ghost use Rattle.lst_model.specs.Cells.{Cell};
 ghost use Rattle.lst_snapshots.specs.Versions.{RisesFrom, row_at, last_time, last_row, struck, noted};
 ghost use Rattle.lst_snapshots.specs.Indexes.{versions_in, AreRising, IsIndexOf, IsIndexBehind};
 ghost use Rattle.lst_snapshots.specs.Written.{is_by, time_from_versions};
@@ -85,7 +86,7 @@ impl Index {
     ) -> u128
         requires { AreRising self.now.versions }
         ensures total { result ≡ sum_by (λ key. measured_row measure.now (row_beside_own self.now.versions own.now time key)) (keys self.now.versions) }
-        ensures few { (most : ℕ) → ((row : List ℕ) → measured measure.now row ≤ most) → result ≤ (2 ^ 63 - 1) * most }
+        ensures few { (most : ℕ) → ((row : List Cell) → measured measure.now row ≤ most) → result ≤ (2 ^ 63 - 1) * most }
         ensures low { result ≤ (2 ^ 63 - 1) * (2 ^ 64 - 1) }
         ensures ordered { IsOrdered nat_cmp self.now.versions }
     {

@@ -4,6 +4,7 @@ ghost use Rattle.std.specs.FinMap as finite;
 ghost use Rattle.std.specs.Ordering.{nat_cmp};
 ghost use Rattle.std.specs.BTreeMap as tree;
 ghost use Rattle.lst_model.specs.declared.commits.Commit.{Commit};
+ghost use Rattle.lst_model.specs.Cells.{Cell};
 ghost use Rattle.lst_model.specs.Tables.{applied, row_of, sum_of, count_of};
 ghost use Rattle.lst_model.specs.Histories.{table_at};
 
@@ -73,14 +74,14 @@ impl Sight {
     /// A measure added over all rows.
     pub(crate) fn total(&self, snapshots: &Snapshots, measure: &Measure) -> u128
         ensures total { result ≡ sum_by (λ entry. measured measure.now entry.1) (finite.entries (seen snapshots.now self.now)) }
-        ensures few { (most : ℕ) → ((row : List ℕ) → measured measure.now row ≤ most) → result ≤ (2 ^ 64 - 2) * most }
+        ensures few { (most : ℕ) → ((row : List Cell) → measured measure.now row ≤ most) → result ≤ (2 ^ 64 - 2) * most }
     {
         snapshots.index.total_beside(&self.own, self.begin, measure) + self.own_total(measure)
     }
 
     fn own_total(&self, measure: &Measure) -> u128
         ensures total { result ≡ sum_by (measured_row measure.now) (tree.values self.now.own) }
-        ensures few { (most : ℕ) → ((row : List ℕ) → measured measure.now row ≤ most) → result ≤ (2 ^ 63 - 1) * most }
+        ensures few { (most : ℕ) → ((row : List Cell) → measured measure.now row ≤ most) → result ≤ (2 ^ 63 - 1) * most }
         ensures low { result ≤ (2 ^ 63 - 1) * (2 ^ 64 - 1) }
         ensures ordered { tree.IsOrdered nat_cmp self.now.own }
     {

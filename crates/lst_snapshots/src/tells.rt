@@ -57,7 +57,7 @@ fn is_row(seen: &Option<Row>, row: &Row) -> bool
     ensures { result ≡ is_row seen.now row.now }
 {
     match seen {
-        Some(seen) => seen.cells() == row.cells(),
+        Some(seen) => seen == row,
         None => false,
     }
 }

@@ -10,14 +10,28 @@ fn row(first: u64, second: u64) -> Row {
     let mut cells = ArrayVec::new();
     cells.push(first);
     cells.push(second);
-    Row::new(cells)
+    Row::of_numbers(cells)
 }
 
 fn patch(first: Option<u64>, second: Option<u64>) -> Patch {
     let mut cells = ArrayVec::new();
     cells.push(first);
     cells.push(second);
-    Patch::new(cells)
+    Patch::of_numbers(cells)
+}
+
+fn row_of(first: Option<u64>, second: Option<u64>) -> Row {
+    let mut row = Row::of_numbers(ArrayVec::new());
+    row.push(first);
+    row.push(second);
+    row
+}
+
+fn change_of(first: Option<Option<u64>>, second: Option<Option<u64>>) -> Patch {
+    let mut patch = Patch::of_numbers(ArrayVec::new());
+    patch.push(first);
+    patch.push(second);
+    patch
 }
 
 fn write(key: u64, act: Act) -> Write {
@@ -76,6 +90,31 @@ fn a_sight_shows_its_time_and_its_own_writes(rt: HostRuntime) -> Result<(), Fail
     Ok(())
 }
 
+#[test]
+fn null_adds_nothing_and_is_never_found(rt: HostRuntime) -> Result<(), Fail> {
+    let alloc = rt.alloc();
+    let mut snapshots = Snapshots::new(alloc);
+    snapshots.push(commit(alloc, 0, 1, 0, write(7, Act::Put(row_of(None, Some(20)))))?)?;
+    let to_null = Act::Set(change_of(None, Some(None)));
+    snapshots.push(commit(alloc, 1, 1, 1, write(7, to_null))?)?;
+    let mut sight = Sight::new(alloc, 2);
+    assert_eq!(rt; sight.row(&snapshots, 7), Some(row_of(None, None)));
+    sight.write(&snapshots, &write(9, Act::Put(row(0, 5))))?;
+    assert_eq!(rt; sight.count(&snapshots), 2);
+    assert_eq!(rt; sight.sum(&snapshots, 0), 0);
+    assert_eq!(rt; sight.sum(&snapshots, 1), 5);
+    assert!(rt; sight.tells_keys(&snapshots, &[9], 0, 0));
+    assert!(rt; !sight.tells_keys(&snapshots, &[7, 9], 0, 0));
+    assert!(rt; sight.tells_rows(&snapshots, &[(7, row_of(None, None)), (9, row(0, 5))]));
+    assert!(rt; !sight.tells_rows(&snapshots, &[(7, row(0, 0)), (9, row(0, 5))]));
+    let before = Sight::new(alloc, 1);
+    assert_eq!(rt; before.row(&snapshots, 7), Some(row_of(None, Some(20))));
+    assert!(rt; before.tells_keys(&snapshots, &[7], 1, 20));
+    sight.write(&snapshots, &write(7, Act::Set(patch(Some(0), None))))?;
+    assert!(rt; sight.tells_keys(&snapshots, &[7, 9], 0, 0));
+    Ok(())
+}
+
 fn answer(alloc: Global, first: Commit, second: Commit) -> Result<Option<Snapshots>, OutOfMemory> {
     let mut history = History::new(alloc);
     history.push(first)?;
@@ -112,16 +151,56 @@ fn drawn(state: &mut u64) -> u64 {
     next >> 33
 }
 
+fn drawn_cell(state: &mut u64) -> Option<u64> {
+    match drawn(state) % 5 {
+        4 => None,
+        number => Some(number),
+    }
+}
+
 fn random_write(state: &mut u64) -> Write {
     let key = drawn(state) % 6;
-    let cell = drawn(state) % 4;
+    let cell = drawn_cell(state);
     let act = match drawn(state) % 4 {
         0 => Act::Del,
-        1 => Act::Put(row(cell, 1)),
-        2 => Act::Set(patch(Some(cell), None)),
-        _ => Act::Set(patch(None, Some(cell))),
+        1 => Act::Put(row_of(cell, Some(1))),
+        2 => Act::Set(change_of(Some(cell), None)),
+        _ => Act::Set(change_of(None, Some(cell))),
     };
     write(key, act)
+}
+
+/// The number of a row's first column, or None for null.
+fn first_number(row: &Row) -> Option<u64> {
+    if row.nulls() & 1 == 1 {
+        None
+    } else {
+        row.numbers().first().copied()
+    }
+}
+
+/// The keys below 6, rising, with this number in the first column.
+fn holders(alloc: Global, table: &Table, number: u64) -> Result<Vec<u64>, OutOfMemory> {
+    let mut keys = Vec::new(alloc);
+    for key in 0..6u64 {
+        if let Some(row) = table.row(key) {
+            if first_number(&row) == Some(number) {
+                keys.push(key)?;
+            }
+        }
+    }
+    Ok(keys)
+}
+
+/// The sum of the first column.
+fn first_sum(table: &Table) -> u128 {
+    let mut total = 0u128;
+    for key in 0..6u64 {
+        if let Some(row) = table.row(key) {
+            total = total.wrapping_add(u128::from(first_number(&row).unwrap_or(0)));
+        }
+    }
+    total
 }
 
 #[test]
@@ -162,6 +241,9 @@ fn each_time_shows_the_table_replayed(rt: HostRuntime) -> Result<(), Fail> {
         }
         let present = (0..6u64).filter(|key| table.row(*key).is_some()).count();
         assert_eq!(rt; sight.count(&snapshots), present as u64);
+        assert_eq!(rt; sight.sum(&snapshots, 0), first_sum(&table));
+        let zeros = holders(alloc, &table, 0)?;
+        assert!(rt; sight.tells_keys(&snapshots, zeros.as_slice(), 0, 0));
     }
     Ok(())
 }

@@ -1,23 +1,20 @@
 -- The row of a chain, version by version.
-use Rattle.std.proofs.Common.{◌≡◌, ℕ, List, [], ◌∷◌, ◌++◌, Bool, true, false, cond, length, refl, sym, subst, ◌∙◌, true≢false}
+use Rattle.std.proofs.Common.{◌≡◌, ℕ, List, [], ◌∷◌, ◌++◌, Bool, true, false, cond, eqb, length, refl, sym, subst, ◌∙◌, true≢false}
 use Rattle.std.specs.Prelude.{Option, None, Some, is_some}
 use Rattle.lst_layout.specs.declared.limits.Limits.{Limits}
 use Rattle.lst_model.specs.declared.acts.Act.{Act}
-use Rattle.lst_model.specs.declared.acts.Act.TheVariants.{Set}
-use Rattle.lst_model.specs.Cells.{Cell}
+use Rattle.lst_model.specs.declared.acts.Act.TheVariants.{Put, Set, Del}
+use Rattle.lst_model.specs.Cells.{Cell, cells_of, patched}
 use Rattle.lst_model.specs.Histories.{row_after, row_from}
 use Rattle.lst_model.specs.Soundness.{Fits, FitInTurn}
 use Rattle.lst_model.proofs.Folds.{row_from-append}
 use Rattle.lst_core_state.specs.declared.known.Known.{Known}
-use Rattle.lst_bits.specs.declared.encodings.Kind.{Kind}
-use Rattle.lst_bits.specs.declared.encodings.Kind.TheVariants as kinds
-use Rattle.lst_bits.specs.Encodings.{encoding_of}
 use Rattle.lst_sights.specs.Copies.{Version, AreVersionsOf}
 use Rattle.lst_sights.specs.Seen.{sees, act_by, seen_acts}
-use Rattle.lst_walk.specs.Patches.{act_for, seen_after, IsWide}
-use Rattle.lst_walk.proofs.Lists.{length-overlaid}
-use Rattle.lst_walk.proofs.Meanings.{act_is}
-use Rattle.std.specs.Prelude.{slice_index}
+use Rattle.lst_walk.specs.Patches.{seen_after, IsWide}
+use Rattle.lst_model.specs.CellLaws.{length-cells_of}
+use Rattle.lst_model.proofs.Overlays.{length-overlaid}
+use Rattle.lst_core_state.specs.Cells.{act_of, act_with, mask_of, kind_of, nulls_of}
 
 -- the newest version acts on the row of the older ones
 pub row_step : (v : Known) (s : ℕ) (c : Version) (cs : List Version) → row_from None (seen_acts v s (c ∷ cs)) ≡ seen_after v s c (row_from None (seen_acts v s cs))
@@ -44,22 +41,27 @@ fit_step v s c cs = choose (sees v s c.writer)
     choose false turn = (turn, λ e. absurd (true≢false (sym e)))
 
 -- a set fits a row only
-pub set_fits : (row : Option (List Cell)) (patch : List (Option ℕ)) → Fits row (Set patch) → is_some row ≡ true
+pub set_fits : (row : Option (List Cell)) (patch : List (Option Cell)) → Fits row (Set patch) → is_some row ≡ true
 set_fits None patch fit = absurd fit
 set_fits (Some row) patch fit = refl
 
+-- the act of an encoding word
+act_words : (e : ℕ) (values : List ℕ) → act_of e values ≡ act_with (kind_of e) (mask_of e) (cells_of (nulls_of e) 0 values)
+unfolding act_of
+act_words e values = refl
+
 -- rows have as many columns as the table
-wide_for : (columns mask : ℕ) (kind : Kind) (values : List ℕ) (row : Option (List Cell)) → length values ≡ columns → IsWide columns row → IsWide columns (row_after row (act_for kind mask values))
-wide_for columns mask kinds.Put values row wide is = wide
-wide_for columns mask kinds.Set values None wide is = tt
-wide_for columns mask kinds.Set values (Some row) wide is = length-overlaid row _ ∙ is
-wide_for columns mask kinds.Del values row wide is = tt
+wide_for : (columns mask : ℕ) (put set : Bool) (cells : List Cell) (row : Option (List Cell)) → length cells ≡ columns → IsWide columns row → IsWide columns (row_after row (cond put (Put cells) (cond set (Set (patched mask 0 cells)) Del)))
+wide_for columns mask true set cells row wide is = wide
+wide_for columns mask false true cells None wide is = tt
+wide_for columns mask false true cells (Some row) wide is = length-overlaid row _ ∙ is
+wide_for columns mask false false cells row wide is = tt
 
 pub wide_row : (l : Limits) (rec : ℕ) (v : Known) (s : ℕ) (cs : List Version) → AreVersionsOf l rec cs → IsWide l.columns (row_from None (seen_acts v s cs))
 wide_row l rec v s [] are = tt
 wide_row l rec v s (c ∷ cs) are = subst (λ (r : Option (List Cell)). IsWide l.columns r) (sym (row_step v s c cs)) (choose (sees v s c.writer) (wide_row l rec v s cs are.1))
   where
     choose : (b : Bool) → IsWide l.columns (row_from None (seen_acts v s cs)) → IsWide l.columns (cond b (row_after (row_from None (seen_acts v s cs)) (act_by c)) (row_from None (seen_acts v s cs)))
-    choose true is = subst (λ (a : Act). IsWide l.columns (row_after (row_from None (seen_acts v s cs)) a)) (sym (act_is l.columns c.encoding (λ i. slice_index c.values i) c.values are.0.cell))
-        (wide_for l.columns (encoding_of c.encoding).mask (encoding_of c.encoding).kind c.values (row_from None (seen_acts v s cs)) are.0.wide is)
+    choose true is = subst (λ (a : Act). IsWide l.columns (row_after (row_from None (seen_acts v s cs)) a)) (sym (act_words c.encoding c.values))
+        (wide_for l.columns (mask_of c.encoding) (eqb (kind_of c.encoding) 1) (eqb (kind_of c.encoding) 2) (cells_of (nulls_of c.encoding) 0 c.values) (row_from None (seen_acts v s cs)) (length-cells_of (nulls_of c.encoding) 0 c.values ∙ are.0.wide) is)
     choose false is = is

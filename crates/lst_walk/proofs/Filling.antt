@@ -6,6 +6,7 @@ use Rattle.std.proofs.lemmas.Option.{get_or_from_slice_get}
 use mathlib.Core.Logic.{dite}
 use native.Mathlib.Decide.{dec_lt}
 use Rattle.std.specs.Prelude.{Option, Some, None, slice_get, slice_set}
+use Rattle.lst_model.specs.Cells.{Cell}
 use Rattle.lst_rule.specs.declared.view.View.{View}
 use Rattle.lst_rule.specs.declared.store.Store.{Store}
 use Rattle.lst_rule.specs.Seats.{Sitting}
@@ -33,11 +34,11 @@ module _ {A : Type 0} (store : Store) (s tail : ℕ) (target : Version → List 
   pub fills_whole : (v : View) (seat : Sitting) (k : ℕ) (items : List A) → Fills store v seat s tail k items target → (c : Version) → IsAt v s tail c → length (target c) ≤ k → items ≡ target c
   fills_whole v seat k items fills c at high = fills.made c at ∙ take_whole (target c) k high
 
-module _ (store : Store) (s tail : ℕ) (target : Version → List (Option ℕ)) where
-  pub merges_start : (seat : Sitting) (patch : List (Option ℕ)) → IsReader store seat s → Merges store seat.view seat s tail 0 patch patch target
+module _ (store : Store) (s tail : ℕ) (target : Version → List (Option Cell)) where
+  pub merges_start : (seat : Sitting) (patch : List (Option Cell)) → IsReader store seat s → Merges store seat.view seat s tail 0 patch patch target
   merges_start seat patch reader = record { reader = reader; watched = watched_same seat.view s; count = refl; made = λ c at i low. absurd (omega arith); rest = λ i low. refl }
 
-  pub merges_next : (v : View) (a b : Sitting) (k : ℕ) (patch now : List (Option ℕ)) (x : Option ℕ) → Merges store v a s tail k patch now target → IsReader store b s → Watched a.view b.view s → k < length patch → ((c : Version) → IsAt v s tail c → slice_get (target c) k ≡ Some x)
+  pub merges_next : (v : View) (a b : Sitting) (k : ℕ) (patch now : List (Option Cell)) (x : Option Cell) → Merges store v a s tail k patch now target → IsReader store b s → Watched a.view b.view s → k < length patch → ((c : Version) → IsAt v s tail c → slice_get (target c) k ≡ Some x)
       → Merges store v b s tail (k + 1) patch (slice_set now k x) target
   merges_next v a b k patch now x merges reader watched low at = record {
     reader = reader;
@@ -48,5 +49,16 @@ module _ (store : Store) (s tail : ℕ) (target : Version → List (Option ℕ))
     rest = λ i above. get_or-set_other now k i x None (omega arith) ∙ merges.rest i (omega arith);
   }
 
-  pub merges_whole : (v : View) (seat : Sitting) (k : ℕ) (patch now : List (Option ℕ)) → Merges store v seat s tail k patch now target → (c : Version) → IsAt v s tail c → length (target c) ≡ length patch → length patch ≤ k → now ≡ target c
+  -- it leaves the next cell as it was
+  pub merges_same : (v : View) (seat : Sitting) (k : ℕ) (patch now : List (Option Cell)) → Merges store v seat s tail k patch now target → ((c : Version) → IsAt v s tail c → slice_get (target c) k ≡ Some (get_or now k None)) → Merges store v seat s tail (k + 1) patch now target
+  merges_same v seat k patch now merges at = record {
+    reader = merges.reader;
+    watched = merges.watched;
+    count = merges.count;
+    made = λ c here i below. dite (dec_lt i k) (λ before. merges.made c here i before)
+        (λ after. let e : i ≡ k = omega arith in ap (λ (j : ℕ). get_or now j None) e ∙ (sym (get_or_from_slice_get (target c) k (get_or now k None) None (at c here)) ∙ ap (λ (j : ℕ). get_or (target c) j None) (sym e)));
+    rest = λ i above. merges.rest i (omega arith);
+  }
+
+  pub merges_whole : (v : View) (seat : Sitting) (k : ℕ) (patch now : List (Option Cell)) → Merges store v seat s tail k patch now target → (c : Version) → IsAt v s tail c → length (target c) ≡ length patch → length patch ≤ k → now ≡ target c
   merges_whole v seat k patch now merges c at wide high = ext_get_or None now (target c) (merges.count ∙ sym wide) (λ i low. merges.made c at i (let n = merges.count in omega arith))

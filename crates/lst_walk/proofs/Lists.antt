@@ -1,11 +1,10 @@
 -- Rows and patches as lists.
-use Rattle.std.proofs.Common.{◌≡◌, ℕ, zero, suc, ◌+◌, ◌<◌, ◌≤◌, List, [], ◌∷◌, ◌++◌, true, cond, length, take, refl, sym, ap, ◌∙◌, arith, true≢false}
+use Rattle.std.proofs.Common.{◌≡◌, ℕ, zero, suc, ◌+◌, ◌<◌, ◌≤◌, List, [], ◌∷◌, ◌++◌, Bool, true, false, cond, length, get_or, take, refl, sym, ap, ◌∙◌, arith, true≢false}
 use Rattle.std.specs.Prelude.{Option, None, Some, is_some, slice_index, slice_get, unwrap_or, replicate}
 use Rattle.std.specs.List.{list_all}
 use Rattle.lst_model.specs.declared.acts.Act.TheVariants.{Set}
-use Rattle.lst_model.specs.Cells.{Cell, overlaid}
+use Rattle.lst_model.specs.Cells.{Cell, number_of, number_at, cell_of, cells_of, overlaid, patched, has_bit}
 use Rattle.lst_model.specs.Histories.{row_after}
-use Rattle.lst_core_state.specs.Cells.{patched, has_bit}
 use Rattle.lst_walk.specs.Patches.{newest, merged, cell_in, IsWide}
 
 none_some : {A B : Type 0} (x : A) → None ≡ Some x → B
@@ -30,106 +29,130 @@ take_whole (y ∷ ys) (suc n) low = ap (λ zs. y ∷ zs) (take_whole ys n (omega
 
 -- ---- lengths
 
-pub length-overlaid : (row : List ℕ) (patch : List (Option ℕ)) → length (overlaid row patch) ≡ length row
-length-overlaid [] patch = refl
-length-overlaid (cell ∷ row) [] = refl
-length-overlaid (cell ∷ row) (x ∷ patch) = ap suc (length-overlaid row patch)
-
-pub length-merged : (newer older : List (Option ℕ)) → length (merged newer older) ≡ length newer
+pub length-merged : (newer older : List (Option Cell)) → length (merged newer older) ≡ length newer
 length-merged [] older = refl
 length-merged (x ∷ newer) [] = refl
 length-merged (x ∷ newer) (y ∷ older) = ap suc (length-merged newer older)
 
-pub length-patched : (mask c : ℕ) (values : List ℕ) → length (patched mask c values) ≡ length values
+pub length-patched : (mask c : ℕ) (values : List Cell) → length (patched mask c values) ≡ length values
 length-patched mask c [] = refl
 length-patched mask c (x ∷ values) = ap suc (length-patched mask (suc c) values)
 
-pub length-unset : (n : ℕ) → length {A = Option ℕ} (replicate n None) ≡ n
+pub length-unset : (n : ℕ) → length {A = Option Cell} (replicate n None) ≡ n
 length-unset zero = refl
 length-unset (suc n) = ap suc (length-unset n)
 
 -- ---- elements
 
-pub overlaid_at : (row : List ℕ) (patch : List (Option ℕ)) (k : ℕ) (o : Option ℕ) → k < length row → slice_get patch k ≡ Some o → slice_get (overlaid row patch) k ≡ Some (unwrap_or o (slice_index row k))
+pub overlaid_at : (row : List Cell) (patch : List (Option Cell)) (k : ℕ) (o : Option Cell) → k < length row → slice_get patch k ≡ Some o → slice_get (overlaid row patch) k ≡ Some (unwrap_or o (get_or row k None))
 overlaid_at [] patch k o low at = absurd (omega arith)
 overlaid_at (cell ∷ row) [] zero o low at = none_some o at
 overlaid_at (cell ∷ row) [] (suc k) o low at = none_some o at
 overlaid_at (cell ∷ row) (x ∷ patch) zero o low at = ap (λ y. Some (unwrap_or y cell)) (ap (λ p. unwrap_or p o) at)
 overlaid_at (cell ∷ row) (x ∷ patch) (suc k) o low at = overlaid_at row patch k o (omega arith) at
 
-pub merged_at : (newer older : List (Option ℕ)) (k : ℕ) (a b : Option ℕ) → slice_get newer k ≡ Some a → slice_get older k ≡ Some b → slice_get (merged newer older) k ≡ Some (newest a b)
+pub merged_at : (newer older : List (Option Cell)) (k : ℕ) (a b : Option Cell) → slice_get newer k ≡ Some a → slice_get older k ≡ Some b → slice_get (merged newer older) k ≡ Some (newest a b)
 merged_at [] older k a b at below = none_some a at
 merged_at (x ∷ newer) [] zero a b at below = none_some b below
 merged_at (x ∷ newer) [] (suc k) a b at below = none_some b below
 merged_at (x ∷ newer) (y ∷ older) zero a b at below = λ i. Some (newest (ap (λ p. unwrap_or p a) at i) (ap (λ p. unwrap_or p b) below i))
 merged_at (x ∷ newer) (y ∷ older) (suc k) a b at below = merged_at newer older k a b at below
 
-pub patched_at : (mask c : ℕ) (values : List ℕ) (k : ℕ) → k < length values → slice_get (patched mask c values) k ≡ Some (cond (has_bit mask (c + k)) (Some (slice_index values k)) None)
+pub patched_at : (mask c : ℕ) (values : List Cell) (k : ℕ) → k < length values → slice_get (patched mask c values) k ≡ Some (cond (has_bit mask (c + k)) (Some (get_or values k None)) None)
 patched_at mask c [] k low = absurd (omega arith)
 patched_at mask c (x ∷ values) zero low = ap (λ (n : ℕ). Some (cond (has_bit mask n) (Some x) None)) (let e : c ≡ c + zero = omega arith in e)
-patched_at mask c (x ∷ values) (suc k) low = patched_at mask (suc c) values k (omega arith) ∙ ap (λ (n : ℕ). Some (cond (has_bit mask n) (Some (slice_index values k)) None)) (let e : suc c + k ≡ c + suc k = omega arith in e)
+patched_at mask c (x ∷ values) (suc k) low = patched_at mask (suc c) values k (omega arith) ∙ ap (λ (n : ℕ). Some (cond (has_bit mask n) (Some (get_or values k None)) None)) (let e : suc c + k ≡ c + suc k = omega arith in e)
 
 -- ---- rows under patches
 
-newest_cell : (a b : Option ℕ) (cell : ℕ) → unwrap_or b (unwrap_or a cell) ≡ unwrap_or (newest b a) cell
+newest_cell : (a b : Option Cell) (cell : Cell) → unwrap_or b (unwrap_or a cell) ≡ unwrap_or (newest b a) cell
 newest_cell a None cell = refl
 newest_cell a (Some x) cell = refl
 
-overlaid_twice : (row : List ℕ) (newer older : List (Option ℕ)) → length newer ≡ length older → overlaid (overlaid row older) newer ≡ overlaid row (merged newer older)
+-- a set puts its cell where no newer one stands, and else leaves what is there
+pub newest_set : (a : Option Cell) (set : Bool) (x : Cell) → is_some a ≡ false → set ≡ true → newest a (cond set (Some x) None) ≡ Some x
+newest_set None true x none is = refl
+newest_set None false x none is = absurd (true≢false (sym is))
+newest_set (Some y) set x none is = absurd (true≢false none)
+
+pub newest_held : (a : Option Cell) (set : Bool) (x : Cell) → is_some a ≡ true → newest a (cond set (Some x) None) ≡ a
+newest_held None set x held = absurd (true≢false (sym held))
+newest_held (Some y) set x held = refl
+
+pub newest_left : (a : Option Cell) (set : Bool) (x : Cell) → set ≡ false → newest a (cond set (Some x) None) ≡ a
+newest_left None true x is = absurd (true≢false is)
+newest_left None false x is = refl
+newest_left (Some y) set x is = refl
+
+overlaid_twice : (row : List Cell) (newer older : List (Option Cell)) → length newer ≡ length older → overlaid (overlaid row older) newer ≡ overlaid row (merged newer older)
 overlaid_twice [] newer older same = refl
 overlaid_twice (cell ∷ row) [] [] same = refl
 overlaid_twice (cell ∷ row) [] (a ∷ older) same = absurd (omega arith)
 overlaid_twice (cell ∷ row) (b ∷ newer) [] same = absurd (omega arith)
 overlaid_twice (cell ∷ row) (b ∷ newer) (a ∷ older) same = λ i. newest_cell a b cell i ∷ overlaid_twice row newer older (let e : length newer ≡ length older = omega arith in e) i
 
-pub set_twice : (row : Option (List Cell)) (newer older : List (Option ℕ)) → length newer ≡ length older → row_after (row_after row (Set older)) (Set newer) ≡ row_after row (Set (merged newer older))
+pub set_twice : (row : Option (List Cell)) (newer older : List (Option Cell)) → length newer ≡ length older → row_after (row_after row (Set older)) (Set newer) ≡ row_after row (Set (merged newer older))
 set_twice None newer older same = refl
-set_twice (Some row) newer older same = ap (λ (r : List ℕ). Some r) (overlaid_twice row newer older same)
+set_twice (Some row) newer older same = ap (λ (r : List Cell). Some r) (overlaid_twice row newer older same)
 
-overlaid_unset : (row : List ℕ) (n : ℕ) → overlaid row (replicate n None) ≡ row
+overlaid_unset : (row : List Cell) (n : ℕ) → overlaid row (replicate n None) ≡ row
 overlaid_unset [] n = refl
 overlaid_unset (cell ∷ row) zero = refl
-overlaid_unset (cell ∷ row) (suc n) = ap (λ (r : List ℕ). cell ∷ r) (overlaid_unset row n)
+overlaid_unset (cell ∷ row) (suc n) = ap (λ (r : List Cell). cell ∷ r) (overlaid_unset row n)
 
 pub set_unset : (row : Option (List Cell)) (n : ℕ) → row_after row (Set (replicate n None)) ≡ row
 set_unset None n = refl
-set_unset (Some row) n = ap (λ (r : List ℕ). Some r) (overlaid_unset row n)
+set_unset (Some row) n = ap (λ (r : List Cell). Some r) (overlaid_unset row n)
 
 -- a patch that sets each column leaves no cell of the row
-overlaid_whole : (row values : List ℕ) (patch : List (Option ℕ)) → length row ≡ length patch → length values ≡ length patch → list_all is_some patch ≡ true → overlaid row patch ≡ overlaid values patch
+overlaid_whole : (row values : List Cell) (patch : List (Option Cell)) → length row ≡ length patch → length values ≡ length patch → list_all is_some patch ≡ true → overlaid row patch ≡ overlaid values patch
 overlaid_whole [] [] patch wide same all = refl
 overlaid_whole [] (x ∷ values) patch wide same all = absurd (omega arith)
 overlaid_whole (cell ∷ row) [] patch wide same all = absurd (omega arith)
 overlaid_whole (cell ∷ row) (x ∷ values) [] wide same all = absurd (omega arith)
 overlaid_whole (cell ∷ row) (x ∷ values) (None ∷ patch) wide same all = absurd (true≢false (sym all))
-overlaid_whole (cell ∷ row) (x ∷ values) (Some y ∷ patch) wide same all = ap (λ (r : List ℕ). y ∷ r) (overlaid_whole row values patch (let e : length row ≡ length patch = omega arith in e) (let e : length values ≡ length patch = omega arith in e) all)
+overlaid_whole (cell ∷ row) (x ∷ values) (Some y ∷ patch) wide same all = ap (λ (r : List Cell). y ∷ r) (overlaid_whole row values patch (let e : length row ≡ length patch = omega arith in e) (let e : length values ≡ length patch = omega arith in e) all)
 
-pub whole_row : (columns : ℕ) (row : Option (List Cell)) (values : List ℕ) (patch : List (Option ℕ)) → IsWide columns row → length values ≡ columns → length patch ≡ columns → is_some row ≡ true → list_all is_some patch ≡ true → row_after row (Set patch) ≡ Some (overlaid values patch)
+pub whole_row : (columns : ℕ) (row : Option (List Cell)) (values : List Cell) (patch : List (Option Cell)) → IsWide columns row → length values ≡ columns → length patch ≡ columns → is_some row ≡ true → list_all is_some patch ≡ true → row_after row (Set patch) ≡ Some (overlaid values patch)
 whole_row columns None values patch wide same few some all = absurd (true≢false (sym some))
-whole_row columns (Some row) values patch wide same few some all = let w : length row ≡ columns = wide in ap (λ (r : List ℕ). Some r) (overlaid_whole row values patch (omega arith) (omega arith) all)
+whole_row columns (Some row) values patch wide same few some all = let w : length row ≡ columns = wide in ap (λ (r : List Cell). Some r) (overlaid_whole row values patch (omega arith) (omega arith) all)
 
 -- ---- one column
 
-index_unset : (row : List ℕ) (patch : List (Option ℕ)) (k : ℕ) → slice_get patch k ≡ Some None → slice_index (overlaid row patch) k ≡ slice_index row k
-index_unset [] patch k at = refl
-index_unset (cell ∷ row) [] k at = refl
-index_unset (cell ∷ row) (x ∷ patch) zero at = ap (λ o. unwrap_or o cell) (ap (λ p. unwrap_or p x) at)
-index_unset (cell ∷ row) (x ∷ patch) (suc k) at = index_unset row patch k at
+number_unset : (row : List Cell) (patch : List (Option Cell)) (k : ℕ) → slice_get patch k ≡ Some None → number_at k (overlaid row patch) ≡ number_at k row
+number_unset [] patch k at = refl
+number_unset (cell ∷ row) [] k at = refl
+number_unset (cell ∷ row) (x ∷ patch) zero at = ap (λ o. number_of (unwrap_or o cell)) (ap (λ p. unwrap_or p x) at)
+number_unset (cell ∷ row) (x ∷ patch) (suc k) at = number_unset row patch k at
 
-index_set : (row : List ℕ) (patch : List (Option ℕ)) (k x : ℕ) → k < length row → slice_get patch k ≡ Some (Some x) → slice_index (overlaid row patch) k ≡ x
-index_set [] patch k x low at = absurd (omega arith)
-index_set (cell ∷ row) [] zero x low at = none_some (Some x) at
-index_set (cell ∷ row) [] (suc k) x low at = none_some (Some x) at
-index_set (cell ∷ row) (y ∷ patch) zero x low at = ap (λ o. unwrap_or o cell) (ap (λ p. unwrap_or p y) at)
-index_set (cell ∷ row) (y ∷ patch) (suc k) x low at = index_set row patch k x (omega arith) at
+number_set : (row : List Cell) (patch : List (Option Cell)) (k : ℕ) (x : Cell) → k < length row → slice_get patch k ≡ Some (Some x) → number_at k (overlaid row patch) ≡ number_of x
+number_set [] patch k x low at = absurd (omega arith)
+number_set (cell ∷ row) [] zero x low at = none_some (Some x) at
+number_set (cell ∷ row) [] (suc k) x low at = none_some (Some x) at
+number_set (cell ∷ row) (y ∷ patch) zero x low at = ap (λ o. number_of (unwrap_or o cell)) (ap (λ p. unwrap_or p y) at)
+number_set (cell ∷ row) (y ∷ patch) (suc k) x low at = number_set row patch k x (omega arith) at
 
-pub cell_unset : (row : Option (List Cell)) (patch : List (Option ℕ)) (k : ℕ) → slice_get patch k ≡ Some None → cell_in k (row_after row (Set patch)) ≡ cell_in k row
+pub cell_unset : (row : Option (List Cell)) (patch : List (Option Cell)) (k : ℕ) → slice_get patch k ≡ Some None → cell_in k (row_after row (Set patch)) ≡ cell_in k row
 cell_unset None patch k at = refl
-cell_unset (Some row) patch k at = ap (λ (n : ℕ). Some n) (index_unset row patch k at)
+cell_unset (Some row) patch k at = ap (λ (n : ℕ). Some n) (number_unset row patch k at)
 
-pub cell_set : (row : Option (List Cell)) (patch : List (Option ℕ)) (columns k x : ℕ) → IsWide columns row → k < columns → is_some row ≡ true → slice_get patch k ≡ Some (Some x) → cell_in k (row_after row (Set patch)) ≡ Some x
+pub cell_set : (row : Option (List Cell)) (patch : List (Option Cell)) (columns k : ℕ) (x : Cell) → IsWide columns row → k < columns → is_some row ≡ true → slice_get patch k ≡ Some (Some x) → cell_in k (row_after row (Set patch)) ≡ Some (number_of x)
 cell_set None patch columns k x wide low some at = absurd (true≢false (sym some))
-cell_set (Some row) patch columns k x wide low some at = let w : length row ≡ columns = wide in ap (λ (n : ℕ). Some n) (index_set row patch k x (omega arith) at)
+cell_set (Some row) patch columns k x wide low some at = let w : length row ≡ columns = wide in ap (λ (n : ℕ). Some n) (number_set row patch k x (omega arith) at)
+
+-- the number of a cell, and the cell that a value word stands for
+pub number_here : (row : List Cell) (k : ℕ) → k < length row → number_of (get_or row k None) ≡ number_at k row
+number_here [] k low = absurd (omega arith)
+number_here (cell ∷ row) zero low = refl
+number_here (cell ∷ row) (suc k) low = number_here row k (omega arith)
+
+cell_here : (nulls c : ℕ) (values : List ℕ) (k : ℕ) → k < length values → get_or (cells_of nulls c values) k None ≡ cell_of nulls (c + k) (slice_index values k)
+cell_here nulls c [] k low = absurd (omega arith)
+cell_here nulls c (x ∷ values) zero low = ap (λ (n : ℕ). cell_of nulls n x) (let e : c ≡ c + zero = omega arith in e)
+cell_here nulls c (x ∷ values) (suc k) low = cell_here nulls (suc c) values k (omega arith) ∙ ap (λ (n : ℕ). cell_of nulls n (slice_index values k)) (let e : suc c + k ≡ c + suc k = omega arith in e)
+
+pub cell_first : (nulls : ℕ) (values : List ℕ) (k : ℕ) → k < length values → get_or (cells_of nulls 0 values) k None ≡ cell_of nulls k (slice_index values k)
+cell_first nulls values k low = cell_here nulls 0 values k low ∙ ap (λ (n : ℕ). cell_of nulls n (slice_index values k)) (let e : 0 + k ≡ k = omega arith in e)
 
 pub take_same : {A : Type 0} (n m : ℕ) (x : A) → n ≤ m → take n (replicate m x) ≡ replicate n x
 take_same zero zero x low = refl
@@ -137,5 +160,5 @@ take_same zero (suc m) x low = refl
 take_same (suc n) zero x low = absurd (omega arith)
 take_same (suc n) (suc m) x low = ap (λ xs. x ∷ xs) (take_same n m x (omega arith))
 
-pub patched_first : (mask : ℕ) (values : List ℕ) (k : ℕ) → k < length values → slice_get (patched mask 0 values) k ≡ Some (cond (has_bit mask k) (Some (slice_index values k)) None)
-patched_first mask values k low = patched_at mask 0 values k low ∙ ap (λ (n : ℕ). Some (cond (has_bit mask n) (Some (slice_index values k)) None)) (let f : 0 + k ≡ k = omega arith in f)
+pub patched_first : (mask : ℕ) (values : List Cell) (k : ℕ) → k < length values → slice_get (patched mask 0 values) k ≡ Some (cond (has_bit mask k) (Some (get_or values k None)) None)
+patched_first mask values k low = patched_at mask 0 values k low ∙ ap (λ (n : ℕ). Some (cond (has_bit mask n) (Some (get_or values k None)) None)) (let f : 0 + k ≡ k = omega arith in f)

@@ -6,7 +6,7 @@ use Rattle.lst_layout.specs.declared.limits.Limits.{Limits}
 use Rattle.lst_layout.specs.Words.{shown}
 use Rattle.lst_model.specs.declared.acts.Act.{Act}
 use Rattle.lst_model.specs.declared.acts.Act.TheVariants.{Set}
-use Rattle.lst_model.specs.Cells.{Cell, overlaid}
+use Rattle.lst_model.specs.Cells.{Cell, overlaid, cells_of}
 use Rattle.lst_model.specs.Histories.{row_after, row_from}
 use Rattle.lst_model.specs.Soundness.{Fits, FitInTurn}
 use Rattle.lst_core_state.specs.declared.known.Known.{Known}
@@ -67,12 +67,12 @@ range_low l rec range low e = omega arith
 
 -- ---- seen or not
 
-pub seen_visited : (v : Known) (s : ℕ) (c : Version) (columns : ℕ) (patch more : List (Option ℕ)) (r : Visit) → sees v s c.writer ≡ true → Acted c columns patch more r → Visited v s c columns patch more r
-seen_visited v s c columns patch more Row seen acted = λ older wide fits. ap (λ (b : Bool). row_after (cond b (row_after older (act_by c)) older) (Set patch)) seen ∙ acted older wide (fits seen)
+pub seen_visited : (v : Known) (s : ℕ) (c : Version) (columns : ℕ) (patch more : List (Option Cell)) (r : Visit) → sees v s c.writer ≡ true → Acted c columns patch more r → Visited v s c columns patch more r
+seen_visited v s c columns patch more (Row nulls) seen acted = λ older wide fits. ap (λ (b : Bool). row_after (cond b (row_after older (act_by c)) older) (Set patch)) seen ∙ acted older wide (fits seen)
 seen_visited v s c columns patch more NoRow seen acted = λ older. ap (λ (b : Bool). row_after (cond b (row_after older (act_by c)) older) (Set patch)) seen ∙ acted older
 seen_visited v s c columns patch more Older seen acted = λ older. ap (λ (b : Bool). row_after (cond b (row_after older (act_by c)) older) (Set patch)) seen ∙ acted older
 
-pub unseen_visited : (v : Known) (s : ℕ) (c : Version) (columns : ℕ) (patch : List (Option ℕ)) → sees v s c.writer ≡ false → Visited v s c columns patch patch Older
+pub unseen_visited : (v : Known) (s : ℕ) (c : Version) (columns : ℕ) (patch : List (Option Cell)) → sees v s c.writer ≡ false → Visited v s c columns patch patch Older
 unseen_visited v s c columns patch unseen = λ older. ap (λ (b : Bool). row_after (cond b (row_after older (act_by c)) older) (Set patch)) unseen
 
 pub seen_tells : (v : Known) (s : ℕ) (c : Version) (columns column : ℕ) (r : Option (Option ℕ)) → sees v s c.writer ≡ true → Told c columns column r → Tells v s c columns column r
@@ -137,7 +137,7 @@ module _ (store : Store) (v : View) (seat : Sitting) (s rec head : ℕ) (p : Pos
     stamped = λ whole. All-nil (IsStampedIn (shown seat.view.limits seat.view.words) (name_of s (knows v s).number));
   }
 
-  pub row_start : (patch : List (Option ℕ)) → patch ≡ replicate store.layout.limits.columns None → RowWalk store v seat s rec head patch
+  pub row_start : (patch : List (Option Cell)) → patch ≡ replicate store.layout.limits.columns None → RowWalk store v seat s rec head patch
   row_start patch is = record {
     reader = reader;
     possible = p;
@@ -146,12 +146,12 @@ module _ (store : Store) (v : View) (seat : Sitting) (s rec head : ℕ) (p : Pos
     passed = [];
     versions = found.copy;
     passes = passes_start;
-    made = λ older. sym (set_unset older store.layout.limits.columns) ∙ ap (λ (q : List (Option ℕ)). row_after older (Set q)) (sym is);
+    made = λ older. sym (set_unset older store.layout.limits.columns) ∙ ap (λ (q : List (Option Cell)). row_after older (Set q)) (sym is);
     chain = found.is.chain;
     fits = copy_fits;
     acts = seen_acts (knows v s) s found.copy;
     sees = copy_seen;
-    answers = sym (set_unset (row_from None (seen_acts (knows v s) s found.copy)) store.layout.limits.columns) ∙ ap (λ (q : List (Option ℕ)). row_after (row_from None (seen_acts (knows v s) s found.copy)) (Set q)) (sym is);
+    answers = sym (set_unset (row_from None (seen_acts (knows v s) s found.copy)) store.layout.limits.columns) ∙ ap (λ (q : List (Option Cell)). row_after (row_from None (seen_acts (knows v s) s found.copy)) (Set q)) (sym is);
   }
 
   pub cell_start : (column : ℕ) → CellWalk store v seat s rec column head
@@ -195,7 +195,7 @@ module _ (store : Store) (v : View) (a b d : Sitting) (s rec n range t m : ℕ) 
       (subst (λ (cs : List Version). Passes v a.view s rec passed cs) is passes) (resolved_here c reader watched at resolves bd) (stamped_here c reader watched at resolves bd)
 
   -- what is seen of it, and of those that were passed, makes this of a row of older ones
-  made_here : (passed : List Version) (c : Version) (patch : List (Option ℕ)) → Possible v → Watched v a.view s → ((older : Option (List Cell)) → row_from older (seen_acts (knows v s) s passed) ≡ row_after older (Set patch)) → (older : Option (List Cell))
+  made_here : (passed : List Version) (c : Version) (patch : List (Option Cell)) → Possible v → Watched v a.view s → ((older : Option (List Cell)) → row_from older (seen_acts (knows v s) s passed) ≡ row_after older (Set patch)) → (older : Option (List Cell))
       → row_from older (seen_acts (knows v s) s (passed ++ c ∷ [])) ≡ row_after (seen_after (knows a.view s) s c older) (Set patch)
   made_here passed c patch p watched made older = row_passed (knows v s) s passed c older ∙ (made (seen_after (knows v s) s c older) ∙ ap (λ (r : Option (List Cell)). row_after r (Set patch)) (sym (seen_same p watched c older)))
 
@@ -211,12 +211,12 @@ module _ (store : Store) (v : View) (a b d : Sitting) (s rec n range t m : ℕ) 
   wide_here reader watched older wide = subst (λ (l : Limits). IsWide l.columns older) (sym watched.learns.limits ∙ reader.seat_of.limits) wide
 
   -- the row, by its newest version and the patch
-  newest_after : (c : Version) (cs : List Version) (patch : List (Option ℕ)) (walk : RowWalk store v a s rec n patch) → walk.versions ≡ c ∷ cs
+  newest_after : (c : Version) (cs : List Version) (patch : List (Option Cell)) (walk : RowWalk store v a s rec n patch) → walk.versions ≡ c ∷ cs
       → row_from None walk.acts ≡ row_after (seen_after (knows a.view s) s c (row_from None (seen_acts (knows v s) s cs))) (Set patch)
   newest_after c cs patch walk is = walk.answers ∙ (ap (λ (ds : List Version). row_after (row_from None (seen_acts (knows v s) s ds)) (Set patch)) is
       ∙ ap (λ (r : Option (List Cell)). row_after r (Set patch)) (row_step (knows v s) s c cs ∙ sym (seen_same walk.possible walk.watched c (row_from None (seen_acts (knows v s) s cs)))))
 
-  pub row_next : (patch more : List (Option ℕ)) → RowWalk store v a s rec n patch → Watched a.view b.view s → length more ≡ store.layout.limits.columns → ((c : Version) → IsAt a.view s t c → Visited (knows a.view s) s c store.layout.limits.columns patch more Older)
+  pub row_next : (patch more : List (Option Cell)) → RowWalk store v a s rec n patch → Watched a.view b.view s → length more ≡ store.layout.limits.columns → ((c : Version) → IsAt a.view s t c → Visited (knows a.view s) s c store.layout.limits.columns patch more Older)
       → Resolves a.view b.view s range n → IsReader store d s → Watched b.view d.view s → ((c : Version) → IsAt a.view s t c → m ≡ c.back) → RowWalk store v d s rec m more
   row_next patch more walk ab wide visited resolves reader bd back = let q = at_number store a s rec n walk.reader walk.versions walk.chain some range t range_is tail_is in let ad = watched_on a.view b.view d.view s ab bd in record {
     reader = reader;
@@ -234,9 +234,9 @@ module _ (store : Store) (v : View) (a b d : Sitting) (s rec n range t m : ℕ) 
     answers = newest_after q.0 q.1 patch walk q.2 ∙ visited q.0 q.3 (row_from None (seen_acts (knows v s) s q.1));
   }
 
-  pub row_done : (patch more : List (Option ℕ)) (row : List Cell) → RowWalk store v a s rec n patch → ((c : Version) → IsAt a.view s t c → Visited (knows a.view s) s c store.layout.limits.columns patch more Row)
-      → ((c : Version) → IsAt a.view s t c → row ≡ overlaid c.values more) → IsRowOf v s rec (Some row)
-  row_done patch more row walk visited is = let q = at_number store a s rec n walk.reader walk.versions walk.chain some range t range_is tail_is in
+  pub row_done : (nulls : ℕ) (patch more : List (Option Cell)) (row : List Cell) → RowWalk store v a s rec n patch → ((c : Version) → IsAt a.view s t c → Visited (knows a.view s) s c store.layout.limits.columns patch more (Row nulls))
+      → ((c : Version) → IsAt a.view s t c → row ≡ overlaid (cells_of nulls 0 c.values) more) → IsRowOf v s rec (Some row)
+  row_done nulls patch more row walk visited is = let q = at_number store a s rec n walk.reader walk.versions walk.chain some range t range_is tail_is in
       let fits = (fit_step (knows v s) s q.0 q.1 (subst (λ (cs : List Version). FitInTurn None (seen_acts (knows v s) s cs)) q.2 walk.fits)).1 in (
         walk.acts,
         walk.sees,
@@ -244,14 +244,14 @@ module _ (store : Store) (v : View) (a b d : Sitting) (s rec n range t m : ℕ) 
             ∙ visited q.0 q.3 (row_from None (seen_acts (knows v s) s q.1)) (wide_row store.layout.limits rec (knows v s) s q.1 q.5.whole) (λ e. fits (sym (sees_on v a.view s q.0.writer walk.possible host opened walk.watched) ∙ e))),
       )
 
-  pub row_gone : (patch more : List (Option ℕ)) → RowWalk store v a s rec n patch → ((c : Version) → IsAt a.view s t c → Visited (knows a.view s) s c store.layout.limits.columns patch more NoRow) → IsRowOf v s rec None
+  pub row_gone : (patch more : List (Option Cell)) → RowWalk store v a s rec n patch → ((c : Version) → IsAt a.view s t c → Visited (knows a.view s) s c store.layout.limits.columns patch more NoRow) → IsRowOf v s rec None
   row_gone patch more walk visited = let q = at_number store a s rec n walk.reader walk.versions walk.chain some range t range_is tail_is in
       (walk.acts, walk.sees, sym (newest_after q.0 q.1 patch walk q.2 ∙ visited q.0 q.3 (row_from None (seen_acts (knows v s) s q.1))))
 
   -- the walk has come to the version that decides
-  pub row_walked : (patch more : List (Option ℕ)) (row : List Cell) → RowWalk store v a s rec n patch → Watched a.view b.view s → ((c : Version) → IsAt a.view s t c → Visited (knows a.view s) s c store.layout.limits.columns patch more Row) → Resolves a.view b.view s range n
-      → Watched b.view d.view s → ((c : Version) → IsAt a.view s t c → row ≡ overlaid c.values more) → WalksRow v d.view s rec (Some row)
-  row_walked patch more row walk ab visited resolves bd is = let q = at_number store a s rec n walk.reader walk.versions walk.chain some range t range_is tail_is in (
+  pub row_walked : (nulls : ℕ) (patch more : List (Option Cell)) (row : List Cell) → RowWalk store v a s rec n patch → Watched a.view b.view s → ((c : Version) → IsAt a.view s t c → Visited (knows a.view s) s c store.layout.limits.columns patch more (Row nulls)) → Resolves a.view b.view s range n
+      → Watched b.view d.view s → ((c : Version) → IsAt a.view s t c → row ≡ overlaid (cells_of nulls 0 c.values) more) → WalksRow v d.view s rec (Some row)
+  row_walked nulls patch more row walk ab visited resolves bd is = let q = at_number store a s rec n walk.reader walk.versions walk.chain some range t range_is tail_is in (
     walk.passed ++ q.0 ∷ [],
     q.1,
     passed_here walk.passed q.0 q.1 walk.versions q.2 walk.reader walk.watched walk.passes q.3 ab resolves bd,
@@ -259,7 +259,7 @@ module _ (store : Store) (v : View) (a b d : Sitting) (s rec n range t m : ℕ) 
         ∙ (visited q.0 q.3 older (wide_here walk.reader walk.watched older wide) (fits_here walk.passed q.0 older walk.possible walk.watched turn) ∙ ap (λ (r : List Cell). Some r) (sym (is q.0 q.3)))),
   )
 
-  pub gone_walked : (patch more : List (Option ℕ)) → RowWalk store v a s rec n patch → Watched a.view b.view s → ((c : Version) → IsAt a.view s t c → Visited (knows a.view s) s c store.layout.limits.columns patch more NoRow) → Resolves a.view b.view s range n
+  pub gone_walked : (patch more : List (Option Cell)) → RowWalk store v a s rec n patch → Watched a.view b.view s → ((c : Version) → IsAt a.view s t c → Visited (knows a.view s) s c store.layout.limits.columns patch more NoRow) → Resolves a.view b.view s range n
       → Watched b.view d.view s → WalksRow v d.view s rec None
   gone_walked patch more walk ab visited resolves bd = let q = at_number store a s rec n walk.reader walk.versions walk.chain some range t range_is tail_is in (
     walk.passed ++ q.0 ∷ [],
@@ -307,7 +307,7 @@ module _ (store : Store) (v : View) (a b d : Sitting) (s rec n range t m : ℕ) 
       )
 
 -- the chain's end
-pub row_over : (store : Store) (v : View) (a : Sitting) (s rec n : ℕ) (patch : List (Option ℕ)) → n ≤ 0 → RowWalk store v a s rec n patch → IsRowOf v s rec None
+pub row_over : (store : Store) (v : View) (a : Sitting) (s rec n : ℕ) (patch : List (Option Cell)) → n ≤ 0 → RowWalk store v a s rec n patch → IsRowOf v s rec None
 row_over store v a s rec n patch none walk = let empty = (chains_are_walked store.layout.limits (knows a.view s).facts rec n walk.versions walk.chain).none (omega arith) in
     (walk.acts, walk.sees, sym (walk.answers ∙ ap (λ (cs : List Version). row_after (row_from None (seen_acts (knows v s) s cs)) (Set patch)) empty))
 
@@ -315,7 +315,7 @@ pub cell_over : (store : Store) (v : View) (a : Sitting) (s rec column n : ℕ) 
 cell_over store v a s rec column n none walk = let empty = (chains_are_walked store.layout.limits (knows a.view s).facts rec n walk.versions walk.chain).none (omega arith) in
     (walk.acts, walk.sees, sym (walk.answers ∙ ap (λ (cs : List Version). cell_in column (row_from None (seen_acts (knows v s) s cs))) empty))
 
-pub row_ended : (store : Store) (v : View) (a : Sitting) (s rec n : ℕ) (patch : List (Option ℕ)) → n ≤ 0 → RowWalk store v a s rec n patch → WalksRow v a.view s rec None
+pub row_ended : (store : Store) (v : View) (a : Sitting) (s rec n : ℕ) (patch : List (Option Cell)) → n ≤ 0 → RowWalk store v a s rec n patch → WalksRow v a.view s rec None
 row_ended store v a s rec n patch none walk = (walk.passed, walk.versions, walk.passes, inl ((chains_are_walked store.layout.limits (knows a.view s).facts rec n walk.versions walk.chain).none (omega arith)))
 
 pub cell_ended : (store : Store) (v : View) (a : Sitting) (s rec column n : ℕ) → n ≤ 0 → CellWalk store v a s rec column n → WalksCell v a.view s rec column None

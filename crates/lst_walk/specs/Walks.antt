@@ -3,7 +3,7 @@ use Rattle.std.specs.Prelude.{◌≡◌, ◌≢◌, ◌⊎◌, ℕ, ◌+◌, ◌
 use Rattle.std.specs.List.{All}
 use Rattle.lst_model.specs.declared.acts.Act.{Act}
 use Rattle.lst_model.specs.declared.acts.Act.TheVariants.{Set}
-use Rattle.lst_model.specs.Cells.{Cell, overlaid}
+use Rattle.lst_model.specs.Cells.{Cell, overlaid, cells_of}
 use Rattle.lst_model.specs.Histories.{row_after, row_from}
 use Rattle.lst_model.specs.Soundness.{Fits, FitInTurn}
 use Rattle.lst_core_state.specs.Cells.{range_of}
@@ -33,7 +33,7 @@ abbrev pub IsRowOf : View → ℕ → ℕ → Option (List Cell) → Type 0
 IsRowOf v s rec row = (acts : List Act) × IsSightOf (knows v s) rec acts × (row ≡ row_from None acts)
 
 -- and the cell of a column in it
-abbrev pub IsCellOf : View → ℕ → ℕ → ℕ → Option Cell → Type 0
+abbrev pub IsCellOf : View → ℕ → ℕ → ℕ → Option ℕ → Type 0
 IsCellOf v s rec column cell = (acts : List Act) × IsSightOf (knows v s) rec acts × (cell ≡ cell_in column (row_from None acts))
 
 -- in these words, the version is stamped where its transaction is committed, if that isn't the one of this name
@@ -53,7 +53,7 @@ abbrev pub DecideRow : Known → ℕ → ℕ → List Version → Option (List C
 DecideRow k s columns passed row = (older : Option (List Cell)) → IsWide columns older → FitInTurn older (seen_acts k s passed) → row_from older (seen_acts k s passed) ≡ row
 
 -- and its cell of the column is this
-abbrev pub DecideCell : Known → ℕ → ℕ → ℕ → List Version → Option Cell → Type 0
+abbrev pub DecideCell : Known → ℕ → ℕ → ℕ → List Version → Option ℕ → Type 0
 DecideCell k s columns column passed cell = (older : Option (List Cell)) → IsWide columns older → FitInTurn older (seen_acts k s passed) → cell_in column (row_from older (seen_acts k s passed)) ≡ cell
 
 -- the walk went on until the versions that it passed decided the row, or none was left
@@ -61,18 +61,18 @@ abbrev pub WalksRow : View → View → ℕ → ℕ → Option (List Cell) → T
 WalksRow v w s rec row = (passed : List Version) × (rest : List Version) × Passes v w s rec passed rest × ((rest ≡ []) ⊎ DecideRow (knows v s) s v.limits.columns passed row)
 
 -- or the cell of the column
-abbrev pub WalksCell : View → View → ℕ → ℕ → ℕ → Option Cell → Type 0
+abbrev pub WalksCell : View → View → ℕ → ℕ → ℕ → Option ℕ → Type 0
 WalksCell v w s rec column cell = (passed : List Version) × (rest : List Version) × Passes v w s rec passed rest × ((rest ≡ []) ⊎ DecideCell (knows v s) s v.limits.columns column passed cell)
 
 -- what a visit of the version c makes of the patch of the newer versions, whatever row the older ones leave that the version fits
-abbrev pub Visited : Known → ℕ → Version → ℕ → List (Option ℕ) → List (Option ℕ) → Visit → Type 0
-Visited v s c columns patch more Row = (older : Option (List Cell)) → IsWide columns older → (sees v s c.writer ≡ true → Fits older (act_by c)) → row_after (seen_after v s c older) (Set patch) ≡ Some (overlaid c.values more)
+abbrev pub Visited : Known → ℕ → Version → ℕ → List (Option Cell) → List (Option Cell) → Visit → Type 0
+Visited v s c columns patch more (Row nulls) = (older : Option (List Cell)) → IsWide columns older → (sees v s c.writer ≡ true → Fits older (act_by c)) → row_after (seen_after v s c older) (Set patch) ≡ Some (overlaid (cells_of nulls 0 c.values) more)
 Visited v s c columns patch more NoRow = (older : Option (List Cell)) → row_after (seen_after v s c older) (Set patch) ≡ None
 Visited v s c columns patch more Older = (older : Option (List Cell)) → row_after (seen_after v s c older) (Set patch) ≡ row_after older (Set more)
 
 -- the same where it is seen
-abbrev pub Acted : Version → ℕ → List (Option ℕ) → List (Option ℕ) → Visit → Type 0
-Acted c columns patch more Row = (older : Option (List Cell)) → IsWide columns older → Fits older (act_by c) → row_after (row_after older (act_by c)) (Set patch) ≡ Some (overlaid c.values more)
+abbrev pub Acted : Version → ℕ → List (Option Cell) → List (Option Cell) → Visit → Type 0
+Acted c columns patch more (Row nulls) = (older : Option (List Cell)) → IsWide columns older → Fits older (act_by c) → row_after (row_after older (act_by c)) (Set patch) ≡ Some (overlaid (cells_of nulls 0 c.values) more)
 Acted c columns patch more NoRow = (older : Option (List Cell)) → row_after (row_after older (act_by c)) (Set patch) ≡ None
 Acted c columns patch more Older = (older : Option (List Cell)) → row_after (row_after older (act_by c)) (Set patch) ≡ row_after older (Set more)
 
@@ -87,7 +87,7 @@ Told c columns column None = (older : Option (List Cell)) → cell_in column (ro
 Told c columns column (Some held) = (older : Option (List Cell)) → IsWide columns older → Fits older (act_by c) → cell_in column (row_after older (act_by c)) ≡ held
 
 -- the walk for a row from v has come to the number n of the record's range: the newer versions made the patch
-pub record RowWalk (store : Store) (v : View) (seat : Sitting) (s rec n : ℕ) (patch : List (Option ℕ)) : Type 0 where
+pub record RowWalk (store : Store) (v : View) (seat : Sitting) (s rec n : ℕ) (patch : List (Option Cell)) : Type 0 where
   pub reader : IsReader store seat s
   pub possible : Possible v
   pub watched : Watched v seat.view s
@@ -125,7 +125,7 @@ pub record Fills {A : Type 0} (store : Store) (v : View) (seat : Sitting) (s tai
   pub made : (c : Version) → IsAt v s tail c → items ≡ take k (target c)
 
 -- the first k cells of the patch are those that the version at the tail makes of it, and the others are as before
-pub record Merges (store : Store) (v : View) (seat : Sitting) (s tail k : ℕ) (before now : List (Option ℕ)) (target : Version → List (Option ℕ)) : Type 0 where
+pub record Merges (store : Store) (v : View) (seat : Sitting) (s tail k : ℕ) (before now : List (Option Cell)) (target : Version → List (Option Cell)) : Type 0 where
   pub reader : IsReader store seat s
   pub watched : Watched v seat.view s
   pub count : length now ≡ length before

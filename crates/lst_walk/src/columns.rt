@@ -14,10 +14,10 @@ use lst_bits::{Kind, has_column};
 use lst_rule::{RecordId, Seat, Store};
 use lst_sights::{tail_of, version_below};
 
-/// The number in a column of the row that the open transaction sees of a record: of the snapshot at its begin, with its own writes on
-/// it. None comes exactly where it sees no row, of a record without a seen key too. The walk goes along the chain from the newest version, to
-/// the first one that is seen and tells of the column. It resolves each version that it passes, this one included: where it finds the
-/// transaction committed and the start word not stamped, it stores the commit time there.
+/// The number in a column, 0 for null, of the row that the open transaction sees of a record: of the snapshot at its begin, with its own
+/// writes on it. None comes exactly where it sees no row, of a record without a seen key too. The walk goes along the chain from the newest
+/// version, to the first one that is seen and tells of the column. It resolves each version that it passes, this one included: where it finds
+/// the transaction committed and the start word not stamped, it stores the commit time there.
 pub fn column(store: &Store, seat: &mut Seat, s: u32, rec: RecordId, c: u32) -> Option<u64>
     requires seat { IsSeatOf store.now seat.old }
     requires host { hosts seat.old.view s ≡ true }
@@ -42,8 +42,8 @@ pub fn column(store: &Store, seat: &mut Seat, s: u32, rec: RecordId, c: u32) -> 
     None
 }
 
-/// What a version of a range, by the number of its tail record, tells of a column: its number, or with None in it that there is no row. None
-/// comes where the version isn't seen, or tells nothing of the column.
+/// What a version of a range, by the number of its tail record, tells of a column: its number, 0 for null, or with None in it that there is
+/// no row. None comes where the version isn't seen, or tells nothing of the column.
 fn held(
     store: &Store,
     seat: &mut Seat,

@@ -1,28 +1,28 @@
 //! A record's row.
-ghost use Rattle.std.specs.Prelude.{◌≡◌, ℕ, ◌+◌, ◌*◌, ◌<◌, ◌≤◌, true, length, slice_index, unwrap_or, cond, is_some, None, Some};
+ghost use Rattle.std.specs.Prelude.{◌≡◌, ℕ, ◌+◌, ◌*◌, ◌<◌, ◌≤◌, true, length, slice_index, unwrap_or, is_some};
 ghost use Rattle.std.specs.List.{list_all};
-ghost use Rattle.lst_model.specs.Cells.{overlaid};
-ghost use Rattle.lst_core_state.specs.Cells.{record_count, patched, has_bit};
+ghost use Rattle.lst_model.specs.Cells.{overlaid, cell_of, cells_of, patched};
+ghost use Rattle.lst_core_state.specs.Cells.{record_count};
 ghost use Rattle.lst_rule.specs.Rule.{knows, hosts};
 ghost use Rattle.lst_rule.specs.Stores.{IsSeatOf};
 ghost use Rattle.lst_sights.specs.Copies.{Version};
 ghost use Rattle.lst_sights.specs.Watching.{Watched};
 ghost use Rattle.lst_walk.specs.Readers.{IsReader, IsAt, HasVersion, Resolves};
-ghost use Rattle.lst_walk.specs.Patches.{newest, merged};
+ghost use Rattle.lst_walk.specs.Patches.{merged};
 ghost use Rattle.lst_walk.specs.Walks.{IsRowOf, WalksRow, Visited, Acted};
 
 use crate::stamps::is_seen;
-use crate::words::{encoding, head, value};
+use crate::words::{cell, encoding, head};
 use arrayvec::ArrayVec;
-use lst_bits::{Kind, has_column};
+use lst_bits::{Encoding, Kind, has_column};
 use lst_model::Row;
 use lst_rule::{RecordId, Seat, Store};
 use lst_sights::{tail_of, version_below};
 
 /// What a visit of a version comes to.
 pub(crate) enum Visit {
-    /// The row is that of the version's values, with the patch on it.
-    Row,
+    /// The row is that of the version's values, null where the bits say so, with the patch on it.
+    Row { nulls: u8 },
     /// There is no row.
     NoRow,
     /// The row is that of the older versions, with the patch on it.
@@ -52,7 +52,7 @@ pub fn row(store: &Store, seat: &mut Seat, s: u32, rec: RecordId) -> Option<Row>
     while number > 0 {
         let tail = tail_of(store, range, number);
         match look(store, seat, s, range, number, patch) {
-            Visit::Row => return Some(row_under(store, seat, s, tail, patch)),
+            Visit::Row { nulls } => return Some(row_under(store, seat, s, tail, nulls, patch)),
             Visit::NoRow => return None,
             Visit::Older => number = version_below(store, seat, s, tail),
         }
@@ -67,7 +67,7 @@ fn look(
     s: u32,
     range: u32,
     number: u32,
-    patch: &mut [Option<u64>],
+    patch: &mut [Option<Option<u64>>],
 ) -> Visit
     requires reader { IsReader store.now seat.old s }
     requires range { range < store.now.layout.limits.ranges }
@@ -87,7 +87,13 @@ fn look(
 }
 
 /// Looks at a version that is seen, under a patch of newer versions.
-fn acted(store: &Store, seat: &mut Seat, s: u32, tail: u32, patch: &mut [Option<u64>]) -> Visit
+fn acted(
+    store: &Store,
+    seat: &mut Seat,
+    s: u32,
+    tail: u32,
+    patch: &mut [Option<Option<u64>>],
+) -> Visit
     requires reader { IsReader store.now seat.old s }
     requires version { HasVersion seat.old.view s tail }
     requires wide { length patch.old ≡ store.now.layout.limits.columns }
@@ -97,11 +103,15 @@ fn acted(store: &Store, seat: &mut Seat, s: u32, tail: u32, patch: &mut [Option<
 {
     let encoding = encoding(store, seat, s, tail);
     match encoding.kind {
-        Kind::Put => Visit::Row,
+        Kind::Put => Visit::Row {
+            nulls: encoding.nulls,
+        },
         Kind::Set => {
-            set_under(store, seat, s, tail, encoding.mask, patch);
+            set_under(store, seat, s, tail, encoding, patch);
             if is_whole(patch) {
-                Visit::Row
+                Visit::Row {
+                    nulls: encoding.nulls,
+                }
             } else {
                 Visit::Older
             }
@@ -111,108 +121,78 @@ fn acted(store: &Store, seat: &mut Seat, s: u32, tail: u32, patch: &mut [Option<
 }
 
 /// Whether a patch sets each column.
-fn is_whole(patch: &[Option<u64>]) -> bool
+fn is_whole(patch: &[Option<Option<u64>>]) -> bool
     ensures { result ≡ list_all is_some patch.now }
 {
     patch.iter().all(|cell| cell.is_some())
 }
 
-/// The row of a version's values, with a patch of newer versions on it.
-fn row_under(store: &Store, seat: &mut Seat, s: u32, tail: u32, patch: &[Option<u64>]) -> Row
+/// The row of a version's values, null where the bits say so, with a patch of newer versions on it.
+fn row_under(
+    store: &Store,
+    seat: &mut Seat,
+    s: u32,
+    tail: u32,
+    nulls: u8,
+    patch: &[Option<Option<u64>>],
+) -> Row
     requires reader { IsReader store.now seat.old s }
     requires version { HasVersion seat.old.view s tail }
     requires wide { length patch.now ≡ store.now.layout.limits.columns }
     ensures reader { IsReader store.now seat.new s }
     ensures watched { Watched seat.old.view seat.new.view s }
-    ensures row { (c : Version) → IsAt seat.old.view s tail c → result ≡ overlaid c.values patch.now }
+    ensures row { (c : Version) → IsAt seat.old.view s tail c → result ≡ overlaid (cells_of nulls 0 c.values) patch.now }
 {
-    let mut cells = ArrayVec::new();
+    let mut row = Row::of_numbers(ArrayVec::new());
     for column in 0..store.layout().limits.columns {
         let newer = patch[column as usize];
-        cells.push(value_under(store, seat, s, tail, column, newer));
+        row.push(cell_under(store, seat, s, tail, nulls, column, newer));
     }
-    Row::new(cells)
+    row
 }
 
-/// The value of a column of a version, or the cell of newer versions, where there is one.
-fn value_under(
+/// The cell of a column of a version, under the bits of its null columns, or the cell of newer versions, where there is one.
+fn cell_under(
     store: &Store,
     seat: &mut Seat,
     s: u32,
     tail: u32,
+    nulls: u8,
     column: u32,
-    newer: Option<u64>,
-) -> u64
+    newer: Option<Option<u64>>,
+) -> Option<u64>
     requires reader { IsReader store.now seat.old s }
     requires version { HasVersion seat.old.view s tail }
     requires column { column < store.now.layout.limits.columns }
     ensures reader { IsReader store.now seat.new s }
     ensures watched { Watched seat.old.view seat.new.view s }
-    ensures cell { (c : Version) → IsAt seat.old.view s tail c → result ≡ unwrap_or newer (slice_index c.values column) }
+    ensures cell { (c : Version) → IsAt seat.old.view s tail c → result ≡ unwrap_or newer (cell_of nulls column (slice_index c.values column)) }
 {
     match newer {
-        Some(cell) => cell,
-        None => value(store, seat, s, tail, column),
+        Some(newer) => newer,
+        None => cell(store, seat, s, tail, nulls, column),
     }
 }
 
-/// Puts the cells of a set with this mask under those of a patch of newer versions.
-fn set_under(store: &Store, seat: &mut Seat, s: u32, tail: u32, mask: u8, patch: &mut [Option<u64>])
+/// Puts the cells of a set with this encoding under those of a patch of newer versions.
+fn set_under(
+    store: &Store,
+    seat: &mut Seat,
+    s: u32,
+    tail: u32,
+    encoding: Encoding,
+    patch: &mut [Option<Option<u64>>],
+)
     requires reader { IsReader store.now seat.old s }
     requires version { HasVersion seat.old.view s tail }
     requires wide { length patch.old ≡ store.now.layout.limits.columns }
     ensures reader { IsReader store.now seat.new s }
     ensures watched { Watched seat.old.view seat.new.view s }
-    ensures patch { (c : Version) → IsAt seat.old.view s tail c → patch.new ≡ merged patch.old (patched mask 0 c.values) }
+    ensures patch { (c : Version) → IsAt seat.old.view s tail c → patch.new ≡ merged patch.old (patched encoding.mask 0 (cells_of encoding.nulls 0 c.values)) }
 {
     for column in 0..store.layout().limits.columns {
-        let newer = patch[column as usize];
-        patch[column as usize] = set_cell(store, seat, s, tail, mask, column, newer);
-    }
-}
-
-/// The cell that newer versions set in a column, or else that of a set with this mask, if there is one.
-fn set_cell(
-    store: &Store,
-    seat: &mut Seat,
-    s: u32,
-    tail: u32,
-    mask: u8,
-    column: u32,
-    newer: Option<u64>,
-) -> Option<u64>
-    requires reader { IsReader store.now seat.old s }
-    requires version { HasVersion seat.old.view s tail }
-    requires column { column < store.now.layout.limits.columns }
-    ensures reader { IsReader store.now seat.new s }
-    ensures watched { Watched seat.old.view seat.new.view s }
-    ensures cell { (c : Version) → IsAt seat.old.view s tail c → result ≡ newest newer (cond (has_bit mask column) (Some (slice_index c.values column)) None) }
-{
-    match newer {
-        Some(cell) => Some(cell),
-        None => older_cell(store, seat, s, tail, mask, column),
-    }
-}
-
-/// The cell that a set with this mask sets in a column, if it does.
-fn older_cell(
-    store: &Store,
-    seat: &mut Seat,
-    s: u32,
-    tail: u32,
-    mask: u8,
-    column: u32,
-) -> Option<u64>
-    requires reader { IsReader store.now seat.old s }
-    requires version { HasVersion seat.old.view s tail }
-    requires column { column < store.now.layout.limits.columns }
-    ensures reader { IsReader store.now seat.new s }
-    ensures watched { Watched seat.old.view seat.new.view s }
-    ensures cell { (c : Version) → IsAt seat.old.view s tail c → result ≡ cond (has_bit mask column) (Some (slice_index c.values column)) None }
-{
-    if has_column(mask, column) {
-        Some(value(store, seat, s, tail, column))
-    } else {
-        None
+        if has_column(encoding.mask, column) && patch[column as usize].is_none() {
+            patch[column as usize] = Some(cell(store, seat, s, tail, encoding.nulls, column));
+        }
     }
 }

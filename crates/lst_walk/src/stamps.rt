@@ -1,8 +1,6 @@
 //! Commit times in start words.
-ghost use Rattle.std.specs.Prelude.{◌≡◌, ℕ, ◌+◌, ◌*◌, ◌<◌, ◌≤◌, ◌≢◌, IfSome, IfNone, eqb, length, true, false};
+ghost use Rattle.std.specs.Prelude.{◌≡◌, ℕ, ◌+◌, ◌*◌, ◌<◌, ◌≤◌, ◌≢◌, IfSome, IfNone, true, false};
 ghost use Rattle.std.specs.List.{Contains};
-ghost use Rattle.lst_layout.specs.declared.place.Place.TheVariants.{CellWord};
-ghost use Rattle.lst_core_state.specs.declared.events.Event.TheVariants.{Stamp};
 ghost use Rattle.lst_core_state.specs.declared.facts.Fact.TheVariants.{StateAt};
 ghost use Rattle.lst_core_state.specs.State.{name_of};
 ghost use Rattle.lst_rule.specs.Rule.{knows, hosts};

@@ -1,6 +1,6 @@
 //! The words of a record's versions.
-ghost use Rattle.std.specs.Prelude.{◌≡◌, ℕ, ◌+◌, ◌*◌, ◌<◌, ◌≤◌, ◌^◌, slice_index};
-ghost use Rattle.lst_core_state.specs.Cells.{record_count};
+ghost use Rattle.std.specs.Prelude.{◌≡◌, ℕ, ◌+◌, ◌<◌, slice_index};
+ghost use Rattle.lst_core_state.specs.Cells.{record_count, act_with, nulls_of};
 ghost use Rattle.lst_rule.specs.Rule.{knows};
 ghost use Rattle.lst_rule.specs.Learned.{Possible};
 ghost use Rattle.lst_sights.specs.Copies.{Version};
@@ -8,9 +8,10 @@ ghost use Rattle.lst_sights.specs.Seen.{act_by};
 ghost use Rattle.lst_sights.specs.Loads.{ChainFound, WordFound};
 ghost use Rattle.lst_sights.specs.Watching.{Watched};
 ghost use Rattle.lst_walk.specs.Readers.{IsReader, IsAt, HasVersion};
-ghost use Rattle.lst_walk.specs.Patches.{act_for};
+ghost use Rattle.lst_bits.specs.Encodings.{kind_code};
+ghost use Rattle.lst_model.specs.Cells.{cell_of, cells_of};
 
-use lst_bits::{Encoding, unpack_encoding, unpack_head};
+use lst_bits::{Encoding, has_column, unpack_encoding, unpack_head};
 use lst_rule::{RecordId, Seat, Store, load_cell, load_head};
 
 /// The number in its range of a record's newest version, or 0.
@@ -43,7 +44,8 @@ pub(crate) fn encoding(store: &Store, seat: &mut Seat, s: u32, tail: u32) -> Enc
     requires version { HasVersion seat.old.view s tail }
     ensures reader { IsReader store.now seat.new s }
     ensures watched { Watched seat.old.view seat.new.view s }
-    ensures act { (c : Version) → IsAt seat.old.view s tail c → act_by c ≡ act_for result.kind result.mask c.values }
+    ensures act { (c : Version) → IsAt seat.old.view s tail c → act_by c ≡ act_with (kind_code result.kind) result.mask (cells_of result.nulls 0 c.values) }
+    ensures nulls { (c : Version) → IsAt seat.old.view s tail c → result.nulls ≡ nulls_of c.encoding }
 {
     unpack_encoding(word(store, seat, s, tail, 1))
 }
@@ -58,4 +60,27 @@ pub(crate) fn value(store: &Store, seat: &mut Seat, s: u32, tail: u32, column: u
     ensures value { (c : Version) → IsAt seat.old.view s tail c → result ≡ slice_index c.values column }
 {
     word(store, seat, s, tail, 3 + column)
+}
+
+/// The cell of a column of a version, under the bits of its null columns: a null's value word isn't loaded.
+pub(crate) fn cell(
+    store: &Store,
+    seat: &mut Seat,
+    s: u32,
+    tail: u32,
+    nulls: u8,
+    column: u32,
+) -> Option<u64>
+    requires reader { IsReader store.now seat.old s }
+    requires version { HasVersion seat.old.view s tail }
+    requires column { column < store.now.layout.limits.columns }
+    ensures reader { IsReader store.now seat.new s }
+    ensures watched { Watched seat.old.view seat.new.view s }
+    ensures cell { (c : Version) → IsAt seat.old.view s tail c → result ≡ cell_of nulls column (slice_index c.values column) }
+{
+    if has_column(nulls, column) {
+        None
+    } else {
+        Some(value(store, seat, s, tail, column))
+    }
 }

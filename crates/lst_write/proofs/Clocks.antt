@@ -1,25 +1,18 @@
 -- What a load of the clock tells of commit times.
-use Rattle.std.proofs.Common.{◌≡◌, ◌≢◌, ℕ, ◌+◌, ◌*◌, ◌/◌, ◌%◌, ◌<◌, ◌≤◌, List, [], ◌∷◌, true, cond, nat_lt, length, Contains, refl, sym, subst, ap, ◌∙◌, arith, lt-ltb, inr}
-use Rattle.lst_layout.specs.declared.place.Place.{Place}
-use Rattle.lst_layout.specs.declared.place.Place.TheVariants.{ClockWord}
-use Rattle.lst_layout.specs.Addresses.{address}
+use Rattle.std.proofs.Common.{◌≡◌, ℕ, ◌+◌, ◌*◌, ◌/◌, ◌%◌, ◌<◌, ◌≤◌, true, length, sym, ap, ◌∙◌, arith}
 use Rattle.lst_layout.specs.Words.{Words, shown}
-use Rattle.lst_core_state.specs.declared.events.Event.TheVariants.{Look}
 use Rattle.lst_core_state.specs.declared.known.Known.{Known}
-use Rattle.lst_core_state.specs.declared.facts.Fact.TheVariants.{StateAt, CommitAt}
-use Rattle.lst_core_state.specs.declared.facts.Find.{Find}
-use Rattle.lst_core_state.specs.declared.facts.Find.TheVariants.{FreshClock, UnfinishedVersion}
-use Rattle.lst_core_state.specs.Facts.{early_find, unfinished}
+use Rattle.lst_core_state.specs.declared.facts.Fact.TheVariants.{CommitAt}
+use Rattle.lst_core_state.specs.declared.facts.Find.TheVariants.{UnfinishedVersion}
+use Rattle.lst_core_state.specs.Facts.{unfinished}
 use Rattle.lst_core_state.specs.State.{name_of}
 use Rattle.lst_rule.specs.declared.view.View.{View}
-use Rattle.lst_rule.specs.Rule.{knows, hosts, Allowed}
+use Rattle.lst_rule.specs.Rule.{knows, hosts}
 use Rattle.lst_rule.proofs.Knowing.{is_fact}
-use Rattle.lst_rule.specs.Stores.{Looked, Clocked}
+use Rattle.lst_rule.specs.Stores.{Clocked}
 use Rattle.lst_sights.specs.Copies.{Version}
 use Rattle.lst_sights.specs.Loads.{StartFound}
 use Rattle.lst_sights.proofs.Finding.{unfinished_is_about}
-use Rattle.lst_sights.proofs.Stamps.{made_words}
-use Rattle.lst_sights.proofs.Telling.{low, is_known}
 use Rattle.lst_write.specs.Standings.{IsStamp}
 
 -- the words of a name

@@ -1,5 +1,5 @@
 -- What a session may do once it has given a latch back.
-use Rattle.std.proofs.Common.{◌≡◌, ℕ, ◌-◌, ◌<◌, List, [], ◌∷◌, Bool, true, false, cond, nat_lt, length, refl, sym, subst, ap, ◌∙◌, arith}
+use Rattle.std.proofs.Common.{◌≡◌, ℕ, ◌-◌, ◌<◌, List, [], ◌∷◌, Bool, true, false, cond, nat_lt, length, sym, subst, ap, ◌∙◌, arith}
 use Rattle.lst_layout.specs.declared.place.Place.{Place}
 use Rattle.lst_layout.specs.Words.{Words, shown}
 use Rattle.lst_model.specs.declared.acts.Write.{Write}

@@ -1,7 +1,6 @@
 -- The judge's walk down a chain.
-use Rattle.std.proofs.Common.{◌≡◌, ℕ, ◌+◌, ◌*◌, ◌/◌, ◌%◌, ◌^◌, ◌<◌, ◌≤◌, List, [], ◌∷◌, ◌++◌, true, Contains, refl, sym, subst, ap, ◌∙◌, arith, inl, append_assoc}
+use Rattle.std.proofs.Common.{◌≡◌, ℕ, ◌+◌, ◌*◌, ◌/◌, ◌%◌, ◌<◌, ◌≤◌, List, [], ◌∷◌, ◌++◌, true, Contains, sym, subst, ap, ◌∙◌, arith, inl, append_assoc}
 use Rattle.lst_layout.specs.declared.limits.Limits.{Limits}
-use Rattle.lst_layout.specs.declared.place.Place.TheVariants.{CellWord}
 use Rattle.lst_core_state.specs.declared.known.Known.{Known}
 use Rattle.lst_core_state.specs.declared.known.Hold.{Hold}
 use Rattle.lst_core_state.specs.declared.facts.Fact.{Fact}
@@ -15,21 +14,19 @@ use Rattle.lst_rule.specs.Learned.{Possible}
 use Rattle.lst_rule.proofs.Knowing.{knows_own}
 use Rattle.lst_rule.specs.declared.store.Store.{Store}
 use Rattle.lst_rule.specs.Seats.{Sitting}
-use Rattle.lst_rule.specs.Stores.{IsSeatOf, Looked}
+use Rattle.lst_rule.specs.Stores.{IsSeatOf}
 use Rattle.lst_sights.specs.Copies.{Version, fact_of, IsVersionOf, IsChainFrom, IsCopy, IsLinked, Includes}
 use Rattle.lst_sights.specs.Judging.{IsClosed, AreClosed, IsJudged}
 use Rattle.lst_sights.specs.Loads.{IsBack}
 use Rattle.lst_sights.specs.Watching.{Watched}
 use Rattle.lst_sights.proofs.Copying.{chains_are_walked, copies_stay, chain_stays}
-use Rattle.lst_sights.proofs.Finding.{words_are_found}
 use Rattle.lst_sights.proofs.Writing.{closed_are_passed}
 use Rattle.lst_sights.proofs.Committed.{committed_wrote}
-use Rattle.lst_sights.proofs.Watching.{looks_watch, watched_same, watches_join}
+use Rattle.lst_sights.proofs.Watching.{watched_same, watches_join}
 use Rattle.lst_write.specs.Holding.{HasLatch}
 use Rattle.lst_write.specs.Standings.{IsVersion, Stands}
 use Rattle.lst_write.specs.declared.standing.Standing.TheVariants.{Seen, Closed, Newer, Unfinished}
 use Rattle.lst_write.specs.Judgements.{HasChain, HasJudged, Stops, FoundNewer, FoundUnfinished, Judges}
-use Rattle.lst_write.proofs.Found.{version_word}
 use Rattle.lst_write.proofs.Keeping.{kept, still_hosts, still_on, found_before, turn_stays}
 
 -- a latch is in hand in an open transaction

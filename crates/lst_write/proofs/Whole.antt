@@ -72,7 +72,15 @@ module _ (l : Limits) (few : l.columns ≤ 8) (rec head n : ℕ) (some : 0 < n) 
 
     drafted_cell : IsCell l.columns (f 1) (λ c. f (3 + c))
     drafted_cell = let k : IsCell l.columns (encoding_of l.columns rec act) (value_of act) = is_cell l.columns rec few act is in subst (λ (e : ℕ). IsCell l.columns e (λ c. f (3 + c))) (sym d.encoding)
-        record { slot = k.slot; kind = k.kind; else = λ c below none. d.values c below ∙ k.else c below none }
+        record {
+          nulls = k.nulls;
+          kind = k.kind;
+          each = λ c below. let each = k.each c below in let same = d.values c below in record {
+            within = each.within;
+            null = λ bit. same ∙ each.null bit;
+            else = λ none. same ∙ each.else none;
+          };
+        }
 
     drafted_record : record_in l cells (range_of rec * l.tails + n) ≡ rec
     drafted_record = record_parts l.tails (range_of rec * l.tails + n) (f 1) (range_of rec) (rec % 256) rec (tail_range-is l.tails (range_of rec) (range_of rec * l.tails + n) (omega arith) (omega arith))

@@ -1,6 +1,5 @@
 -- What a session finds of a record's chain before it writes.
 use Rattle.std.specs.Prelude.{◌≡◌, ◌≢◌, ℕ, ◌+◌, ◌<◌, ◌≤◌, List, ◌∷◌, ◌++◌, true, length}
-use Rattle.std.specs.List.{Contains}
 use Rattle.lst_layout.specs.declared.limits.Limits.{Limits}
 use Rattle.lst_layout.specs.Words.{shown}
 use Rattle.lst_core_state.specs.declared.known.Known.{Known}
@@ -8,7 +7,7 @@ use Rattle.lst_core_state.specs.declared.facts.Find.TheVariants.{UnfinishedVersi
 use Rattle.lst_core_state.specs.State.{name_of}
 use Rattle.lst_rule.specs.declared.view.View.{View}
 use Rattle.lst_rule.specs.Rule.{knows, hosts}
-use Rattle.lst_sights.specs.Copies.{Version, fact_of, IsVersionOf, IsChainFrom, IsCopy}
+use Rattle.lst_sights.specs.Copies.{Version, IsChainFrom, IsCopy}
 use Rattle.lst_sights.specs.Seen.{HasKey}
 use Rattle.lst_sights.specs.Judging.{AreClosed, IsJudged, IsCommittedAt, WroteAt}
 use Rattle.lst_sights.specs.Watching.{Watched}

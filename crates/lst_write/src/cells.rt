@@ -1,7 +1,8 @@
 //! The words of an act in a tail.
 ghost use Rattle.std.specs.Prelude.{◌≡◌, ◌+◌, ◌<◌, ◌≤◌};
 ghost use Rattle.lst_write.specs.Cells as cells;
-ghost use Rattle.lst_write.specs.Cells.{IsActFor, mask_of_patch};
+ghost use Rattle.lst_model.specs.Cells.{bits_set};
+ghost use Rattle.lst_write.specs.Cells.{IsActFor};
 
 use lst_bits::{Encoding, Kind, full_mask, pack_encoding};
 use lst_model::{Act, Patch};
@@ -9,34 +10,48 @@ use lst_rule::RecordId;
 
 /// The mask of the columns that a patch sets.
 fn patch_mask(patch: &Patch) -> u8
-    ensures { result ≡ mask_of_patch patch.now }
+    ensures { result ≡ bits_set patch.now }
 {
-    let cells = patch.cells();
-    let mut column = cells.len();
+    let changes = patch.numbers();
+    let mut column = changes.len();
     let mut mask = 0;
     while column > 0 {
         column -= 1;
-        mask = 2 * mask + cells[column].is_some() as u8;
+        mask = 2 * mask + changes[column].is_some() as u8;
     }
     mask
 }
 
-/// The encoding word of an act on a record.
+/// The encoding word of an act on a record, with the bits of the columns that it makes null.
 pub(crate) fn encoding(columns: u32, rec: RecordId, act: &Act) -> u64
     requires columns { columns ≤ 8 }
     requires act { IsActFor columns act.now }
     ensures { result ≡ cells.encoding_of columns rec.number act.now }
 {
-    let (kind, mask) = match act {
-        Act::Put(_) => (Kind::Put, full_mask(columns)),
-        Act::Set(patch) => (Kind::Set, patch_mask(patch)),
-        Act::Del => (Kind::Del, 0),
-    };
     let slot = (rec.number % 256) as u8;
-    pack_encoding(Encoding { mask, kind, slot })
+    match act {
+        Act::Put(row) => pack_encoding(Encoding {
+            mask: full_mask(columns),
+            kind: Kind::Put,
+            slot,
+            nulls: row.nulls(),
+        }),
+        Act::Set(patch) => pack_encoding(Encoding {
+            mask: patch_mask(patch),
+            kind: Kind::Set,
+            slot,
+            nulls: patch.nulls(),
+        }),
+        Act::Del => pack_encoding(Encoding {
+            mask: 0,
+            kind: Kind::Del,
+            slot,
+            nulls: 0,
+        }),
+    }
 }
 
-/// The value that an act has for a column, which is 0 where it leaves the column as it is.
+/// The number that an act has for a column, which is 0 where it leaves the column as it is or makes it null.
 fn value(columns: u32, act: &Act, column: u32) -> u64
     requires act { IsActFor columns act.now }
     requires column { column < columns }
@@ -45,8 +60,8 @@ fn value(columns: u32, act: &Act, column: u32) -> u64
     let _ = columns;
     let column = column as usize;
     match act {
-        Act::Put(row) => row.cell(column),
-        Act::Set(patch) => patch.cell(column).unwrap_or(0),
+        Act::Put(row) => row.numbers()[column],
+        Act::Set(patch) => patch.numbers()[column].unwrap_or(0),
         Act::Del => 0,
     }
 }

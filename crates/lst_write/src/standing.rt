@@ -89,7 +89,7 @@ fn written_standing(store: &Store, seat: &mut Seat, s: u32, session: u32, number
     }
 }
 
-/// How a version stands, which is named by its tail's number among all tails.
+/// How a version stands, which is named by its tail's identifier.
 pub(crate) fn standing_of(store: &Store, seat: &mut Seat, s: u32, tail: u32) -> Standing
     requires seat { IsSeatOf store.now seat.old }
     requires host { hosts seat.old.view s ≡ true }

@@ -1,10 +1,10 @@
-use Rattle.std.proofs.Common.{◌-◌, ◌+◌, ◌<◌, ◌≡◌, ℕ, false}
+use Rattle.std.proofs.Common.{◌-◌, ◌+◌, ◌<◌, ℕ}
 use Rattle.lst_layout.specs.Words.{shown}
-use Rattle.lst_core_state.specs.Cells.{has_bit, mask_of}
+use Rattle.lst_core_state.specs.Cells.{IsColumn}
 use Rattle.lst_core.proofs.drafts.is_cell.Given as goal
 
 abbrev pub invariant-loop-column : goal.invariant-loop-column
-invariant-loop-column l = (c : ℕ) → c < l.column → has_bit (mask_of l.word) c ≡ false → (shown l.fn.layout.limits l.words).cells l.tail (3 + c) ≡ 0
+invariant-loop-column l = (c : ℕ) → c < l.column → IsColumn l.word c ((shown l.fn.layout.limits l.words).cells l.tail (3 + c))
 
 abbrev pub decreases-loop-column : goal.decreases-loop-column
 decreases-loop-column l = l.columns - l.column

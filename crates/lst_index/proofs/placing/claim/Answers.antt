@@ -4,7 +4,7 @@ use Rattle.lst_index.proofs.Claims.{can_claim, hand_few, won_works, won_placing,
 use Rattle.lst_index.proofs.placing.claim.Goals as goal
 
 pub step_claim-word-requires-clause-stands : goal.step_claim-word-requires-clause-stands
-step_claim-word-requires-clause-stands c = can_claim c.args.store.now.layout.limits c.args.seat.now.view c.args.s c.args.position c.args.turn c.args.key c.requires.seat.limits c.requires.host c.requires.has.same c.requires.turn c.requires.is c.requires.passed
+step_claim-word-requires-clause-stands c = can_claim c.args.store.now.layout.limits c.args.seat.now.view c.args.s c.args.position c.args.offset c.args.key c.requires.seat.limits c.requires.host c.requires.has.same c.requires.offset c.requires.is c.requires.passed
 
 pub returns-then-word-eq0-clause-works : goal.returns-then-word-eq0-clause-works
 returns-then-word-eq0-clause-works c = won_works _ _ _ _ _ _ c.step_claim-word.ensures.met c.if-word-eq0.true

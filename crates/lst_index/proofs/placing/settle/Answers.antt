@@ -15,5 +15,5 @@ pub returns-in-Err-clause-drawn : goal.returns-in-Err-clause-drawn
 returns-in-Err-clause-drawn c = keeps_drawn (knows c.args.seat.now.view c.args.s).placing (knows c.claim.new.seat.view c.args.s).placing (knows c.compare.new.seat.view c.args.s).placing c.in-Err.ensures.lost.2 c.compare.ensures.keeps
 
 pub returns-in-Err-clause-passed : goal.returns-in-Err-clause-passed
-returns-in-Err-clause-passed c = lost_passed c.args.store.now.layout.limits c.args.seat.now.view c.claim.new.seat.view c.compare.new.seat.view c.args.s c.args.key c.args.turn c.args.position c.in-Err.lost.number c.requires.is c.compare.result c.compare.ensures.other
+returns-in-Err-clause-passed c = lost_passed c.args.store.now.layout.limits c.args.seat.now.view c.claim.new.seat.view c.compare.new.seat.view c.args.s c.args.key c.args.offset c.args.position c.in-Err.lost.number c.requires.is c.compare.result c.compare.ensures.other
     c.claim.ensures.works c.requires.has c.in-Err.ensures.lost.2 c.compare.ensures.works c.requires.passed

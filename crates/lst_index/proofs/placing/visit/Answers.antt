@@ -15,8 +15,8 @@ pub returns-in-Some-clause-works : goal.returns-in-Some-clause-works
 returns-in-Some-clause-works c = works_on _ _ _ _ _ c.look.ensures.works c.compare.ensures.works
 
 pub returns-in-Some-clause-passed : goal.returns-in-Some-clause-passed
-returns-in-Some-clause-passed c = look_passed c.args.store.now.layout.limits c.args.seat.now.view c.look.new.seat.view c.compare.new.seat.view c.args.s c.args.key c.args.turn c.position-at.result c.in-Some.number
-    (c.position-at.ensures.position ∙ ap (λ (y : Layout). position_of y.limits c.args.key c.args.turn) c.layout.ensures) c.compare.result c.compare.ensures.other
+returns-in-Some-clause-passed c = look_passed c.args.store.now.layout.limits c.args.seat.now.view c.look.new.seat.view c.compare.new.seat.view c.args.s c.args.key c.args.offset c.position-at.result c.in-Some.number
+    (c.position-at.ensures.position ∙ ap (λ (y : Layout). position_of y.limits c.args.key c.args.offset) c.layout.ensures) c.compare.result c.compare.ensures.other
     c.look.ensures.works c.look.ensures.placing c.compare.ensures.works c.requires.holds c.requires.passed
 
 pub returns-in_err-take_record-clause-works : goal.returns-in_err-take_record-clause-works
@@ -24,11 +24,11 @@ returns-in_err-take_record-clause-works c = subst (λ (fs : List Find). Works c.
 
 pub returns-in_err-take_record-clause-full : goal.returns-in_err-take_record-clause-full
 returns-in_err-take_record-clause-full c = on_err c.from_residual.result (found_full c.args.seat.now.view c.look.new.seat.view c.take_record.new.seat.view c.args.s c.args.key c.requires.host c.requires.own c.look.ensures.works
-    (c.in_default.ensures.none c.args.key c.args.turn c.requires.turn (c.position-at.ensures.position ∙ ap (λ (y : Layout). position_of y.limits c.args.key c.args.turn) c.layout.ensures) c.requires.passed)
+    (c.in_default.ensures.none c.args.key c.args.offset c.requires.offset (c.position-at.ensures.position ∙ ap (λ (y : Layout). position_of y.limits c.args.key c.args.offset) c.layout.ensures) c.requires.passed)
     c.in_err-take_record.ensures.works c.in_err-take_record.ensures.full)
 
 pub settle-requires-clause-passed : goal.settle-requires-clause-passed
-settle-requires-clause-passed c = passed_on c.args.store.now.layout.limits c.look.new.seat.view c.take_record.new.seat.view c.args.s c.args.key c.args.turn c.in_ok-take_record.ensures.works (passed_on c.args.store.now.layout.limits c.args.seat.now.view c.look.new.seat.view c.args.s c.args.key c.args.turn c.look.ensures.works c.requires.passed)
+settle-requires-clause-passed c = passed_on c.args.store.now.layout.limits c.look.new.seat.view c.take_record.new.seat.view c.args.s c.args.key c.args.offset c.in_ok-take_record.ensures.works (passed_on c.args.store.now.layout.limits c.args.seat.now.view c.look.new.seat.view c.args.s c.args.key c.args.offset c.look.ensures.works c.requires.passed)
 
 pub returns-clause-works : goal.returns-clause-works
 returns-clause-works c = works_on _ _ _ _ _ (works_on _ _ _ _ _ c.look.ensures.works c.in_ok-take_record.ensures.works) c.settle.ensures.works
@@ -38,7 +38,7 @@ returns-clause-uses c = settled_uses (knows c.args.seat.now.view c.args.s).placi
     (look_drawn (knows c.args.seat.now.view c.args.s).placing (knows c.look.new.seat.view c.args.s).placing (knows c.take_record.new.seat.view c.args.s).placing c.look.ensures.placing 1 c.in_ok-take_record.ensures.has.1) c.settle.ensures.drawn
 
 pub returns-clause-passed : goal.returns-clause-passed
-returns-clause-passed c = settled_passed c.args.store.now.layout.limits c.args.seat.now.view c.take_record.new.seat.view c.settle.new.seat.view c.args.s c.args.key c.args.turn c.settle.result
+returns-clause-passed c = settled_passed c.args.store.now.layout.limits c.args.seat.now.view c.take_record.new.seat.view c.settle.new.seat.view c.args.s c.args.key c.args.offset c.settle.result
     (look_drawn (knows c.args.seat.now.view c.args.s).placing (knows c.look.new.seat.view c.args.s).placing (knows c.take_record.new.seat.view c.args.s).placing c.look.ensures.placing 1 c.in_ok-take_record.ensures.has.1) c.settle.ensures.drawn c.settle.ensures.passed
 
 pub returns-in-Some-clause-words : goal.returns-in-Some-clause-words
@@ -47,13 +47,13 @@ returns-in-Some-clause-words c = found_leaves c.args.seat.now.view c.look.new.se
 pub returns-in_err-take_record-clause-kept : goal.returns-in_err-take_record-clause-kept
 returns-in_err-take_record-clause-kept c = on_err c.from_residual.result (refused_full c.args.seat.now.view c.look.new.seat.view c.args.s c.args.key c.look.ensures.works.view.limits c.look.ensures.works.view.whole c.look.ensures.kept c.look.ensures.placing
     (works_host _ _ _ _ c.look.ensures.works c.requires.host)
-    ((c.in_default.ensures.none c.args.key c.args.turn c.requires.turn (c.position-at.ensures.position ∙ ap (λ (y : Layout). position_of y.limits c.args.key c.args.turn) c.layout.ensures) c.requires.passed)).ended
+    ((c.in_default.ensures.none c.args.key c.args.offset c.requires.offset (c.position-at.ensures.position ∙ ap (λ (y : Layout). position_of y.limits c.args.key c.args.offset) c.layout.ensures) c.requires.passed)).ended
     c.take_record.new.seat.view c.in_err-take_record.ensures.kept c.in_err-take_record.ensures.reached)
 
 pub returns-clause-words : goal.returns-clause-words
 returns-clause-words c = settled_leaves c.args.seat.now.view c.look.new.seat.view c.args.s c.args.key c.look.ensures.works.view.limits c.look.ensures.works.view.whole c.look.ensures.kept c.look.ensures.placing
     (works_host _ _ _ _ c.look.ensures.works c.requires.host)
-    ((c.in_default.ensures.none c.args.key c.args.turn c.requires.turn (c.position-at.ensures.position ∙ ap (λ (y : Layout). position_of y.limits c.args.key c.args.turn) c.layout.ensures) c.requires.passed)).ended
+    ((c.in_default.ensures.none c.args.key c.args.offset c.requires.offset (c.position-at.ensures.position ∙ ap (λ (y : Layout). position_of y.limits c.args.key c.args.offset) c.layout.ensures) c.requires.passed)).ended
     c.take_record.new.seat.view c.settle.new.seat.view c.position-at.result (subst (λ (l : Limits). c.position-at.result < size l) (ap (λ (y : Layout). y.limits) c.layout.ensures ∙ sym c.requires.seat.limits) c.position-at.ensures.below)
     c.in_ok-take_record.ensures.works.view.limits c.in_ok-take_record.ensures.works.view.whole c.in_default.ensures.free c.in_ok-take_record.ensures.stores c.settle.result c.settle.ensures.stores
 
@@ -62,4 +62,4 @@ returns-in-Some-clause-after_look c = λ is. inl (keeps_drawn (knows c.args.seat
 
 pub returns-clause-after_look : goal.returns-clause-after_look
 returns-clause-after_look c = λ is. looked_first c.args.seat.now.view c.look.new.seat.view c.settle.new.seat.view c.args.s c.args.key c.requires.host c.requires.own c.look.ensures.works c.look.ensures.placing
-    (c.in_default.ensures.none c.args.key c.args.turn c.requires.turn (c.position-at.ensures.position ∙ ap (λ (y : Layout). position_of y.limits c.args.key c.args.turn) c.layout.ensures) c.requires.passed)
+    (c.in_default.ensures.none c.args.key c.args.offset c.requires.offset (c.position-at.ensures.position ∙ ap (λ (y : Layout). position_of y.limits c.args.key c.args.offset) c.layout.ensures) c.requires.passed)

@@ -7,7 +7,7 @@ pub start-first-requires-clause-some : goal.start-first-requires-clause-some
 start-first-requires-clause-some c = subst (λ (b : ℕ). 1 ≤ b) (sym c.index_bits.ensures.bits) (bits_some c.args.layout.now.limits c.args.layout.now.valid)
 
 pub returns-clause-position : goal.returns-clause-position
-returns-clause-position c = position_is c.args.layout.now.limits c.args.layout.now.valid c.args.key c.args.turn c.start-first.result (c.start-first.ensures.start ∙ ap (start_of c.args.key) c.index_bits.ensures.bits) c.index_positions.result c.index_positions.ensures.count
+returns-clause-position c = position_is c.args.layout.now.limits c.args.layout.now.valid c.args.key c.args.offset c.start-first.result (c.start-first.ensures.start ∙ ap (start_of c.args.key) c.index_bits.ensures.bits) c.index_positions.result c.index_positions.ensures.count
 
 pub returns-clause-below : goal.returns-clause-below
-returns-clause-below c = position_below c.args.layout.now.limits c.args.layout.now.valid c.args.key c.args.turn c.start-first.result (c.start-first.ensures.start ∙ ap (start_of c.args.key) c.index_bits.ensures.bits) c.index_positions.result c.index_positions.ensures.count
+returns-clause-below c = position_below c.args.layout.now.limits c.args.layout.now.valid c.args.key c.args.offset c.start-first.result (c.start-first.ensures.start ∙ ap (start_of c.args.key) c.index_bits.ensures.bits) c.index_positions.result c.index_positions.ensures.count

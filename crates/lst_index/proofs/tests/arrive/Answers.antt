@@ -8,8 +8,8 @@ settle-requires-clause-own c = pair_own _ _ _ c.requires.pair (omega arith)
 pub settle-requires-clause-host : goal.settle-requires-clause-host
 settle-requires-clause-host c = c.requires.pair.hosted _ (omega arith)
 
-pub settle-requires-clause-turn : goal.settle-requires-clause-turn
-settle-requires-clause-turn c = let h = c.requires.at.1 in omega arith
+pub settle-requires-clause-offset : goal.settle-requires-clause-offset
+settle-requires-clause-offset c = let h = c.requires.at.1 in omega arith
 
 pub settle-requires-clause-passed : goal.settle-requires-clause-passed
 settle-requires-clause-passed c = passed_none _ _ _

@@ -1,5 +1,5 @@
-use Rattle.std.proofs.Common.{◌≡◌, ◌++◌, ◌∷◌, flat_map, decimal, drop}
-use Rattle.lst_replies.specs.Texts.{entry_text, key_text}
+use Rattle.std.proofs.Common.{◌≡◌, ◌++◌, flat_map, drop}
+use Rattle.lst_replies.specs.Texts.{key_text}
 use Rattle.lst_replies.proofs.lines.push_keys.Given as goal
 
 abbrev pub invariant-loop-key : goal.invariant-loop-key

@@ -1,7 +1,7 @@
-use Rattle.std.proofs.Common.{◌≡◌, ℕ, ◌+◌, List, take, drop, Some, sym, ap, ◌∙◌}
+use Rattle.std.proofs.Common.{◌≡◌, ◌+◌, drop, Some, sym, ap, ◌∙◌}
 use Rattle.std.specs.List.{slice_split}
 use Rattle.std.proofs.lemmas.List.{take_rest}
-use Rattle.lst_replies.specs.Reading.{is_comma, texts, number64, cells_of, entry_at, entry_of}
+use Rattle.lst_replies.specs.Reading.{is_comma, texts, cells_of, entry_at, entry_of}
 use Rattle.lst_replies.proofs.Sequences.{both_read}
 use Rattle.lst_replies.proofs.long.read_entry.Goals as goal
 

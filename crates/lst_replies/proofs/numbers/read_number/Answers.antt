@@ -1,9 +1,8 @@
-use Rattle.std.proofs.Common.{◌≡◌, ◌^◌, ◌<◌, ℕ, Ok, Err, Some, sym, ap, ◌∙◌, subst, arith, rules, decimal}
+use Rattle.std.proofs.Common.{◌≡◌, ◌^◌, ◌<◌, Ok, sym, ap, ◌∙◌, subst, arith, decimal}
 use Rattle.std.proofs.lemmas.Fmt.{parse-decimal_wide, IsAscii-decimal_wide}
 use Rattle.std.proofs.lemmas.Str.{IsUtf8-from_ascii}
 use Rattle.std.proofs.lemmas.Slice.Eq.{bytes_eq-Decides}
 use Rattle.std.specs.Str.{IsUtf8}
-use Rattle.lst_replies.specs.Reading.{number_of}
 use Rattle.lst_replies.proofs.Decimals.{number_of-none, number_of-written}
 use Rattle.lst_replies.proofs.numbers.read_number.Goals as goal
 

@@ -1,5 +1,3 @@
-use Rattle.std.proofs.Common.{◌≡◌, ap, ◌∙◌}
-use Rattle.lst_replies.specs.Reading.{texts}
 use Rattle.lst_replies.proofs.Fronts.{take-texts}
 use Rattle.lst_replies.proofs.parse.front_of.Goals as goal
 

@@ -1,5 +1,5 @@
-use Rattle.std.proofs.Common.{◌≡◌, ℕ, ◌-◌, List, true, false, take, length, sym, ap, ◌∙◌, Bor, arith}
-use Rattle.lst_replies.specs.ReportTexts.{ends_empty, text_lines}
+use Rattle.std.proofs.Common.{◌≡◌, ℕ, ◌-◌, List, true, false, take, length, sym, ap, ◌∙◌, Bor}
+use Rattle.lst_replies.specs.ReportTexts.{ends_empty}
 use Rattle.std.specs.List.{slice_split}
 use Rattle.lst_replies.specs.ReportTexts.{is_newline}
 use Rattle.lst_replies.specs.Reading.{texts}

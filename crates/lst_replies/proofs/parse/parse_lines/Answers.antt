@@ -1,4 +1,4 @@
-use Rattle.std.proofs.Common.{◌≡◌, ◌≤◌, List, ℕ, drop, length, sym, ap, ◌∙◌, arith, subst}
+use Rattle.std.proofs.Common.{◌≡◌, drop, length, ap, ◌∙◌, arith, subst}
 use Rattle.lst_replies.specs.Reading.{texts, reply_of, replies_front, after_replies, report_in, Tells}
 use Rattle.lst_replies.proofs.Fronts.{length-read_front, length-texts}
 use Rattle.lst_replies.proofs.parse.parse_lines.Goals as goal

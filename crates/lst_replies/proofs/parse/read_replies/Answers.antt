@@ -1,4 +1,4 @@
-use Rattle.std.proofs.Common.{◌≡◌, ◌+◌, Some, refl, sym, ◌∙◌}
+use Rattle.std.proofs.Common.{◌+◌, refl, sym, ◌∙◌}
 use Rattle.lst_replies.specs.Reading.{reply_of}
 use Rattle.lst_replies.proofs.Fronts.{front_more}
 use Rattle.lst_replies.proofs.parse.read_replies.Goals as goal

@@ -1,10 +1,10 @@
-use Rattle.std.proofs.Common.{◌≡◌, ℕ, List, ◌+◌, ◌<◌, drop, length, slice_index_or, subst, sym, ◌∙◌, arith}
+use Rattle.std.proofs.Common.{List, ◌+◌, drop, subst, sym, arith}
 use Rattle.lst_model.specs.declared.lines.Line.{Line}
 use Rattle.lst_machine.specs.State.{opening}
 use Rattle.lst_machine.specs.Machine.{state_after}
 use Rattle.lst_shell.specs.Answers.{run_text, store_limits}
 use Rattle.lst_shell.specs.Runs.{IsTaken, HasRun}
-use Rattle.lst_shell.proofs.Running.{nothing_run, drop-line}
+use Rattle.lst_shell.proofs.Running.{drop-line}
 use Rattle.lst_shell.proofs.execution.execute.Goals as goal
 
 pub answer-requires-clause-taken : goal.answer-requires-clause-taken

@@ -1,4 +1,4 @@
-use Rattle.std.proofs.Common.{◌≡◌, Ok, sym}
+use Rattle.std.proofs.Common.{Ok}
 use Rattle.lst_script.proofs.OneReading.{answers_script}
 use Rattle.lst_shell.specs.Answers.{store_limits}
 use Rattle.lst_shell.proofs.laws.input_is_one_script.Goals as goal

@@ -1,17 +1,19 @@
-use Rattle.std.proofs.Common.{refl, sym, true≢false}
+use Rattle.std.proofs.Common.{ℕ, refl, sym, ap, ◌∙◌, map, true≢false}
+use Rattle.lst_model.specs.Cells.{number_of, cells_of}
+use Rattle.lst_walk.proofs.Meanings.{numbers_by}
 use Rattle.lst_walk.proofs.Reading.{at_on, watched_on, version_on}
 use Rattle.lst_walk.proofs.Acting.{bit_set, bit_clear, columns_of, put_told, del_told, set_told, set_untold}
 use Rattle.lst_walk.proofs.columns.told.Goals as goal
 
 pub returns-in-Put-clause-told : goal.returns-in-Put-clause-told
-returns-in-Put-clause-told c = λ d at. put_told d c.encoding-encoding.result (c.encoding-encoding.ensures.act d at) c.args.store.now.layout.limits.columns c.args.column c.value.result c.in-Put.is
+returns-in-Put-clause-told c = λ d at. put_told d c.encoding-encoding.result (c.encoding-encoding.ensures.act d at) (ap (λ (n : ℕ). map number_of (cells_of n 0 d.values)) (c.encoding-encoding.ensures.nulls d at) ∙ numbers_by c.args.seat.now.view.limits at.rec d at.is) c.args.store.now.layout.limits.columns c.args.column c.value.result c.in-Put.is
     (c.value.ensures.value d (at_on c.args.seat.now.view c.encoding-encoding.new.seat.view c.args.s c.args.tail d c.encoding-encoding.ensures.watched at))
 
 pub returns-in-Del-clause-told : goal.returns-in-Del-clause-told
 returns-in-Del-clause-told c = λ d at. del_told d c.encoding-encoding.result (c.encoding-encoding.ensures.act d at) c.args.store.now.layout.limits.columns c.args.column c.in-Del.is
 
 pub returns-then-has_column-clause-told : goal.returns-then-has_column-clause-told
-returns-then-has_column-clause-told c = λ d at. set_told d c.encoding-encoding.result (c.encoding-encoding.ensures.act d at) c.args.store.now.layout.limits.columns c.args.column c.value-then-has_column.result c.in-Set.is c.requires.column
+returns-then-has_column-clause-told c = λ d at. set_told d c.encoding-encoding.result (c.encoding-encoding.ensures.act d at) (ap (λ (n : ℕ). map number_of (cells_of n 0 d.values)) (c.encoding-encoding.ensures.nulls d at) ∙ numbers_by c.args.seat.now.view.limits at.rec d at.is) c.args.store.now.layout.limits.columns c.args.column c.value-then-has_column.result c.in-Set.is c.requires.column
     (columns_of c.args.store.now.layout.limits c.args.seat.now.view c.args.s c.args.tail d c.requires.reader.seat_of.limits at) (bit_set c.encoding-encoding.result.mask c.args.column (c.if-has_column.ensures.0 refl))
     (c.value-then-has_column.ensures.value d (at_on c.args.seat.now.view c.encoding-encoding.new.seat.view c.args.s c.args.tail d c.encoding-encoding.ensures.watched at))
 

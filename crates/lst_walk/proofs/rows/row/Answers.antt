@@ -57,7 +57,7 @@ pub returns-in-Row-clause-watched : goal.returns-in-Row-clause-watched
 returns-in-Row-clause-watched c = watched_on c.args.seat.now.view c.look.new.seat.view c.row_under.new.seat.view c.args.s (watched_on c.args.seat.now.view c.loop-number.seat.view c.look.new.seat.view c.args.s c.loop-number.invariant.watched c.look.ensures.watched) c.row_under.ensures.watched
 
 pub returns-in-Row-clause-row : goal.returns-in-Row-clause-row
-returns-in-Row-clause-row c = row_done c.args.store.now c.args.seat.now.view c.loop-number.seat c.look.new.seat c.look.new.seat c.args.s c.args.rec.number c.loop-number.number (c.args.rec.number / 256) (c.args.rec.number / 256 * c.args.store.now.layout.limits.tails + c.loop-number.number) 0 c.requires.host c.requires.opened c.loop-number-test.true refl refl c.loop-number.patch c.look.new.patch c.row_under.result c.loop-number.invariant c.in-Row.ensures.visited
+returns-in-Row-clause-row c = row_done c.args.store.now c.args.seat.now.view c.loop-number.seat c.look.new.seat c.look.new.seat c.args.s c.args.rec.number c.loop-number.number (c.args.rec.number / 256) (c.args.rec.number / 256 * c.args.store.now.layout.limits.tails + c.loop-number.number) 0 c.requires.host c.requires.opened c.loop-number-test.true refl refl c.in-Row.nulls c.loop-number.patch c.look.new.patch c.row_under.result c.loop-number.invariant c.in-Row.ensures.visited
     (λ d at. c.row_under.ensures.row d (at_same c.look.new.seat.view c.args.s (c.args.rec.number / 256 * c.args.store.now.layout.limits.tails + c.loop-number.number) c.tail_of-tail.result d (sym c.tail_of-tail.ensures) (at_on c.loop-number.seat.view c.look.new.seat.view c.args.s (c.args.rec.number / 256 * c.args.store.now.layout.limits.tails + c.loop-number.number) d c.look.ensures.watched at)))
 
 pub returns-in-NoRow-clause-watched : goal.returns-in-NoRow-clause-watched
@@ -70,7 +70,7 @@ pub returns-clause-walk : goal.returns-clause-walk
 returns-clause-walk c = row_ended c.args.store.now c.args.seat.now.view c.loop-number.seat c.args.s c.args.rec.number c.loop-number.number c.loop-number.patch c.loop-number-test.false c.loop-number.invariant
 
 pub returns-in-Row-clause-walk : goal.returns-in-Row-clause-walk
-returns-in-Row-clause-walk c = row_walked c.args.store.now c.args.seat.now.view c.loop-number.seat c.look.new.seat c.row_under.new.seat c.args.s c.args.rec.number c.loop-number.number (c.args.rec.number / 256) (c.args.rec.number / 256 * c.args.store.now.layout.limits.tails + c.loop-number.number) 0 c.requires.host c.requires.opened c.loop-number-test.true refl refl c.loop-number.patch c.look.new.patch c.row_under.result c.loop-number.invariant c.look.ensures.watched c.in-Row.ensures.visited c.look.ensures.resolved c.row_under.ensures.watched
+returns-in-Row-clause-walk c = row_walked c.args.store.now c.args.seat.now.view c.loop-number.seat c.look.new.seat c.row_under.new.seat c.args.s c.args.rec.number c.loop-number.number (c.args.rec.number / 256) (c.args.rec.number / 256 * c.args.store.now.layout.limits.tails + c.loop-number.number) 0 c.requires.host c.requires.opened c.loop-number-test.true refl refl c.in-Row.nulls c.loop-number.patch c.look.new.patch c.row_under.result c.loop-number.invariant c.look.ensures.watched c.in-Row.ensures.visited c.look.ensures.resolved c.row_under.ensures.watched
     (λ d at. c.row_under.ensures.row d (at_same c.look.new.seat.view c.args.s (c.args.rec.number / 256 * c.args.store.now.layout.limits.tails + c.loop-number.number) c.tail_of-tail.result d (sym c.tail_of-tail.ensures) (at_on c.loop-number.seat.view c.look.new.seat.view c.args.s (c.args.rec.number / 256 * c.args.store.now.layout.limits.tails + c.loop-number.number) d c.look.ensures.watched at)))
 
 pub returns-in-NoRow-clause-walk : goal.returns-in-NoRow-clause-walk

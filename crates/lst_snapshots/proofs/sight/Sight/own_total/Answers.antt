@@ -1,9 +1,10 @@
-use Rattle.std.proofs.Common.{◌≡◌, ℕ, ◌*◌, ◌≤◌, List, ◌∷◌, length, sym, ◌∙◌, subst, arith}
+use Rattle.std.proofs.Common.{◌≡◌, ◌*◌, ◌≤◌, List, ◌∷◌, length, sym, ◌∙◌, subst, arith}
 use Rattle.std.specs.Prelude.{Option}
 use Rattle.std.proofs.lemmas.Map.Iter.{rest_more}
 use Rattle.std.proofs.lemmas.Map.Entries.{length-values_of}
 use Rattle.std.specs.Map.Iter.{deref}
 use Rattle.std.specs.BTreeMap.{values}
+use Rattle.lst_model.specs.Cells.{Cell}
 use Rattle.lst_snapshots.specs.Measures.{measured_row}
 use Rattle.lst_snapshots.proofs.Totals.{rest_step, few_step, few_end}
 use Rattle.lst_snapshots.proofs.Measuring.{measured_row-le}
@@ -11,7 +12,7 @@ use Rattle.lst_snapshots.proofs.sight.Sight.own_total.Goals as goal
 
 pub loop-row-preserved : goal.loop-row-preserved
 loop-row-preserved c =
-    let more : c.loop-row.row-iterator ≡ c.in-Some.row.now ∷ c.next.new.self = rest_more (deref {X = Option (List ℕ)}) c.loop-row.row-iterator c.next.new.self c.next.result c.in-Some.row c.in-Some.is c.next.ensures.steps in
+    let more : c.loop-row.row-iterator ≡ c.in-Some.row.now ∷ c.next.new.self = rest_more (deref {X = Option (List Cell)}) c.loop-row.row-iterator c.next.new.self c.next.result c.in-Some.row c.in-Some.is c.next.ensures.steps in
     let part : c.from-total.result ≡ measured_row c.args.measure.now c.in-Some.row.now = c.from-total.ensures ∙ c.of_row.ensures in
     record {
       rest = rest_step (measured_row c.args.measure.now) c.loop-row.total _ c.from-total.result c.in-Some.row.now c.loop-row.row-iterator c.next.new.self more part c.loop-row.invariant.rest;

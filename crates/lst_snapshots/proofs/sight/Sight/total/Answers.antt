@@ -2,6 +2,7 @@ use Rattle.std.proofs.Common.{ℕ, List, sym, ap, ◌∙◌, subst, arith}
 use Rattle.std.specs.Prelude.{None, sum_by}
 use Rattle.std.specs.FinMap as finite
 use Rattle.lst_model.specs.declared.commits.Commit.{Commit}
+use Rattle.lst_model.specs.Cells.{Cell}
 use Rattle.lst_snapshots.specs.Versions.{RisesFrom}
 use Rattle.lst_snapshots.specs.Measures.{measured}
 use Rattle.lst_snapshots.specs.Sights.{seen}
@@ -20,4 +21,4 @@ pub returns-clause-total : goal.returns-clause-total
 returns-clause-total c =
     added _ _ _ _ c.total_beside.ensures.total c.own_total.ensures.total
     ∙ total_seen c.args.measure.now c.snapshots.inside.index.versions c.snapshots.inside.commits.items c.snapshots.invariant.rows c.args.self.now.own c.args.self.now.begin c.total_beside.ensures.ordered c.own_total.ensures.ordered
-    ∙ ap (λ (history : List Commit). sum_by (λ (e : ℕ × List ℕ). measured c.args.measure.now e.1) (finite.entries (seen history c.args.self.now))) c.snapshots.view_is
+    ∙ ap (λ (history : List Commit). sum_by (λ (e : ℕ × List Cell). measured c.args.measure.now e.1) (finite.entries (seen history c.args.self.now))) c.snapshots.view_is
