@@ -8,7 +8,7 @@ mod reports;
 mod runs;
 
 use lst_layout::{Layout, Limits};
-use lst_rule::open_store;
+use lst_seat::open_store;
 use reports::{Task, reports};
 use runs::{clocks, finds, heads, turns};
 use std::alloc::Global;

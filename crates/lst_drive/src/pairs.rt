@@ -7,7 +7,8 @@ use crate::operations::step;
 use crate::stages::{Answer, Operation, Stage};
 use lst_layout::Layout;
 use lst_model::OutOfMemory;
-use lst_rule::{Seat, Store, load, open_store};
+use lst_rule::{Seat, Store, load};
+use lst_seat::open_store;
 use std::alloc::Global;
 
 /// How far the sessions 0 and 1 are.

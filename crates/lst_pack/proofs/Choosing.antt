@@ -4,6 +4,7 @@ use mathlib.Core.Logic.{dite}
 use native.Mathlib.Decide.{dec_lt}
 use Rattle.lst_probe.proofs.Counting.{pigeonhole_by}
 use Rattle.lst_pack.specs.declared.forms.Form.{Form}
+use Rattle.lst_pack.specs.declared.survey.Survey.{Survey}
 use Rattle.lst_pack.specs.declared.forms.Form.TheVariants.{Constant, Dictionary, Runs, Reference, Plain}
 use Rattle.lst_pack.specs.Forms.{code_at, difference_at, run_value, run_end, AreRuns, IsInRun, PacksAs}
 use Rattle.lst_pack.specs.Counts.{runs_below, AreKnown, IsLeast, IsGreatest}
@@ -70,19 +71,17 @@ difference_within others values least greatest width is_least is_greatest stands
     let n = number_low others 2 width b.0 in
     omega (arith, a.2, b.2)
 
--- whatever list of words stands for the values, its form is one that may stand
-may_stand : (values known : List ℕ) (distinct least greatest width : ℕ) → AreKnown values 256 known distinct → IsLeast values 256 least → IsGreatest values 256 greatest
-    → IsLeastWidth (greatest - least) width
-    → (other : Form) (others : List ℕ) → PacksAs other others values → MayStand (runs_below values 256) distinct width other
-may_stand values known distinct least greatest width are is_least is_greatest is_width Constant others p = equal_is_one values (slice_index others 1) p.stands
-may_stand values known distinct least greatest width are is_least is_greatest is_width (Dictionary size) others p = (distinct_at_most others values known size distinct are p.has.named p.stands, p.has.few)
-may_stand values known distinct least greatest width are is_least is_greatest is_width (Runs runs) others p = (runs_at_most others values runs p.has (λ place run low is. p.stands place low run is) (ends_within others runs p.has), p.has.few)
-may_stand values known distinct least greatest width are is_least is_greatest is_width (Reference other) others p = (is_width.least other p.has.whole (difference_within others values least greatest other is_least is_greatest p.stands), p.has.whole)
-may_stand values known distinct least greatest width are is_least is_greatest is_width Plain others p = tt
+module _ (values : List ℕ) (found : Survey) (counted : found.runs ≡ runs_below values 256) (are : AreKnown values 256 found.known found.distinct)
+    (is_least : IsLeast values 256 found.least) (is_greatest : IsGreatest values 256 found.greatest) (width : ℕ) (is_width : IsLeastWidth (found.greatest - found.least) width) where
+  -- whatever list of words stands for the values, its form is one that may stand
+  may_stand : (other : Form) (others : List ℕ) → PacksAs other others values → MayStand found.runs found.distinct width other
+  may_stand Constant others p = counted ∙ equal_is_one values (slice_index others 1) p.stands
+  may_stand (Dictionary size) others p = (distinct_at_most others values found.known size found.distinct are p.has.named p.stands, p.has.few)
+  may_stand (Runs runs) others p = (subst (λ (n : ℕ). n ≤ runs) (sym counted) (runs_at_most others values runs p.has (λ place run low is. p.stands place low run is) (ends_within others runs p.has)), p.has.few)
+  may_stand (Reference other) others p = (is_width.least other p.has.whole (difference_within others values found.least found.greatest other is_least is_greatest p.stands), p.has.whole)
+  may_stand Plain others p = tt
 
--- so one that is at most each that may stand takes the fewest words
-pub fewest : (values known : List ℕ) (distinct least greatest width runs : ℕ) (form : Form) → runs ≡ runs_below values 256 → AreKnown values 256 known distinct → IsLeast values 256 least → IsGreatest values 256 greatest
-    → IsLeastWidth (greatest - least) width → ((other : Form) → MayStand runs distinct width other → IsAtMost form other)
-    → (other : Form) (others : List ℕ) → PacksAs other others values → IsAtMost form other
-fewest values known distinct least greatest width runs form counted are is_least is_greatest is_width each other others p =
-    each other (subst (λ (n : ℕ). MayStand n distinct width other) (sym counted) (may_stand values known distinct least greatest width are is_least is_greatest is_width other others p))
+  -- so one that is at most each that may stand takes the fewest words
+  pub fewest : (form : Form) → ((other : Form) → MayStand found.runs found.distinct width other → IsAtMost form other)
+      → (other : Form) (others : List ℕ) → PacksAs other others values → IsAtMost form other
+  fewest form each other others p = each other (may_stand other others p)

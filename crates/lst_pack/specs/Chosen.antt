@@ -5,16 +5,16 @@ use Rattle.lst_pack.specs.declared.forms.Form.TheVariants.{Constant, Dictionary,
 use Rattle.lst_pack.specs.Forms.{form_words, run_value, PacksAs}
 
 -- the order of the forms in which the first wins a tie
-abbrev pub turn_of : Form → ℕ
-turn_of Constant = 0
-turn_of (Dictionary size) = 1
-turn_of (Runs runs) = 2
-turn_of (Reference width) = 3
-turn_of Plain = 4
+abbrev pub order_of : Form → ℕ
+order_of Constant = 0
+order_of (Dictionary size) = 1
+order_of (Runs runs) = 2
+order_of (Reference width) = 3
+order_of Plain = 4
 
 -- it takes fewer words, or as many and is the earlier form or the same
 abbrev pub IsAtMost : Form → Form → Type 0
-IsAtMost form other = (form_words form < form_words other) ⊎ ((form_words form ≡ form_words other) × (turn_of form ≤ turn_of other))
+IsAtMost form other = (form_words form < form_words other) ⊎ ((form_words form ≡ form_words other) × (order_of form ≤ order_of other))
 
 abbrev pub StandsSomewhere : List ℕ → ℕ → Type 0
 StandsSomewhere values value = (place : ℕ) × (place < 256) × (slice_index values place ≡ value)

@@ -12,7 +12,8 @@ ghost use Rattle.lst_session.specs.Replies.{begin_reply, get_reply, write_reply,
 use lst_calls::{CommitRefusal, Outcome, WriteRefusal, change, end, insert, read};
 use lst_layout::Layout;
 use lst_model::{Act, Key, OutOfMemory, Patch, Row, Time};
-use lst_rule::{Seat, Store, open_store};
+use lst_rule::{Seat, Store};
+use lst_seat::open_store;
 use lst_txn::{BeginFault as BeginRefusal, Idle as NotBegun, as_of, begin, close};
 use std::alloc::Global;
 

@@ -7,7 +7,8 @@ use crate::{BeginRefusal, CommitRefusal, NotBegun, Outcome, Session, WriteRefusa
 use arrayvec::ArrayVec;
 use lst_layout::Limits;
 use lst_model::{Key, Patch, Row, Time};
-use lst_rule::{Store, open_store};
+use lst_rule::Store;
+use lst_seat::open_store;
 use std::alloc::Global;
 use std::test::Fail;
 

@@ -16,8 +16,8 @@ returns-in-Dictionary c = record {
   counted = c.write_dictionary.ensures.count;
   packs = c.write_dictionary.ensures.packs;
   proper = c.write_dictionary.ensures.sorted;
-  fewest = fewest c.args.values.now c.survey_of-found.result.known c.survey_of-found.result.distinct c.survey_of-found.result.least c.survey_of-found.result.greatest c.width_of-width.result
-      c.survey_of-found.result.runs (Dictionary c.in-Dictionary.size) c.survey_of-found.ensures.runs c.survey_of-found.ensures.known c.survey_of-found.ensures.least c.survey_of-found.ensures.greatest c.width_of-width.ensures c.in-Dictionary.ensures.fewest;
+  fewest = fewest c.args.values.now c.survey_of-found.result c.survey_of-found.ensures.runs c.survey_of-found.ensures.known c.survey_of-found.ensures.least c.survey_of-found.ensures.greatest
+      c.width_of-width.result c.width_of-width.ensures (Dictionary c.in-Dictionary.size) c.in-Dictionary.ensures.fewest;
 }
 
 pub returns-in-Runs : goal.returns-in-Runs
@@ -26,8 +26,8 @@ returns-in-Runs c = record {
   counted = c.write_runs.ensures.count;
   packs = c.write_runs.ensures.packs;
   proper = c.write_runs.ensures.maximal;
-  fewest = fewest c.args.values.now c.survey_of-found.result.known c.survey_of-found.result.distinct c.survey_of-found.result.least c.survey_of-found.result.greatest c.width_of-width.result
-      c.survey_of-found.result.runs (Runs c.in-Runs.runs) c.survey_of-found.ensures.runs c.survey_of-found.ensures.known c.survey_of-found.ensures.least c.survey_of-found.ensures.greatest c.width_of-width.ensures c.in-Runs.ensures.fewest;
+  fewest = fewest c.args.values.now c.survey_of-found.result c.survey_of-found.ensures.runs c.survey_of-found.ensures.known c.survey_of-found.ensures.least c.survey_of-found.ensures.greatest
+      c.width_of-width.result c.width_of-width.ensures (Runs c.in-Runs.runs) c.in-Runs.ensures.fewest;
 }
 
 pub returns-in-Reference : goal.returns-in-Reference
@@ -36,8 +36,8 @@ returns-in-Reference c = record {
   counted = c.write_reference.ensures.count;
   packs = c.write_reference.ensures.packs;
   proper = c.write_reference.ensures.tight;
-  fewest = fewest c.args.values.now c.survey_of-found.result.known c.survey_of-found.result.distinct c.survey_of-found.result.least c.survey_of-found.result.greatest c.width_of-width.result
-      c.survey_of-found.result.runs (Reference c.in-Reference.width) c.survey_of-found.ensures.runs c.survey_of-found.ensures.known c.survey_of-found.ensures.least c.survey_of-found.ensures.greatest c.width_of-width.ensures c.in-Reference.ensures.fewest;
+  fewest = fewest c.args.values.now c.survey_of-found.result c.survey_of-found.ensures.runs c.survey_of-found.ensures.known c.survey_of-found.ensures.least c.survey_of-found.ensures.greatest
+      c.width_of-width.result c.width_of-width.ensures (Reference c.in-Reference.width) c.in-Reference.ensures.fewest;
 }
 
 pub returns-in-Plain : goal.returns-in-Plain
@@ -46,6 +46,6 @@ returns-in-Plain c = record {
   counted = c.write_plain.ensures.count;
   packs = c.write_plain.ensures.packs;
   proper = tt;
-  fewest = fewest c.args.values.now c.survey_of-found.result.known c.survey_of-found.result.distinct c.survey_of-found.result.least c.survey_of-found.result.greatest c.width_of-width.result
-      c.survey_of-found.result.runs Plain c.survey_of-found.ensures.runs c.survey_of-found.ensures.known c.survey_of-found.ensures.least c.survey_of-found.ensures.greatest c.width_of-width.ensures c.in-Plain.ensures.fewest;
+  fewest = fewest c.args.values.now c.survey_of-found.result c.survey_of-found.ensures.runs c.survey_of-found.ensures.known c.survey_of-found.ensures.least c.survey_of-found.ensures.greatest
+      c.width_of-width.result c.width_of-width.ensures Plain c.in-Plain.ensures.fewest;
 }
