@@ -12,5 +12,6 @@ pub mod Looking
 pub mod Clocks
 pub mod Opens
 pub mod Quiets
+pub mod Surveying
 pub mod Stating
 pub mod Asking

@@ -99,7 +99,7 @@ pub record Told (e : Event) (i x : ℕ) (v w : View) : Type 0 where
 
 -- ---- what each operation tells: of the step's word and operands, the seat before, the number found, and the seat after
 
-abbrev Sat : Type 0
+abbrev pub Sat : Type 0
 Sat = Me (Unit {0}) View
 
 abbrev pub loaded : Event → Step (Unit {0}) → Sat → ℕ → Sat → Type 0

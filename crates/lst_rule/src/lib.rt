@@ -16,6 +16,7 @@ mod seat;
 mod status;
 mod steps;
 mod store;
+mod surveys;
 mod view;
 mod writes;
 
@@ -34,6 +35,7 @@ pub use seat::Seat;
 pub use status::{Status, status_of, transaction_status};
 pub use steps::{step_begin, step_clock, step_close, step_give, step_log, step_state, step_take};
 pub use store::Store;
+pub use surveys::survey;
 pub use view::View;
 pub use writes::{
     step_claim, step_draw_record, step_draw_tail, step_install, step_latch, step_release,

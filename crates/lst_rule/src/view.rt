@@ -16,7 +16,7 @@ pub struct View {
     pub note: LinkedList<Commit>,
     /// Facts that it was told with it; they have the record of each key that the history wrote.
     pub note_facts: LinkedList<Fact>,
-    /// It has hosted every session and the merger since the store opened, and so knows each word.
+    /// It hosts every session and the merger, and knows each word: since the store opened, or since it took stock.
     pub whole: bool,
     /// The words, where it knows each.
     pub words: LinkedList<u64>,
