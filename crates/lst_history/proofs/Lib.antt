@@ -3,3 +3,4 @@ pub mod Asking
 pub mod Naming
 pub mod Values
 pub mod Joining
+pub mod Recounting

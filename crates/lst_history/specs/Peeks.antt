@@ -14,6 +14,7 @@ use Rattle.lst_rule.specs.Learned.{Learns, Kept}
 use Rattle.lst_rule.specs.declared.store.Store.{Store}
 use Rattle.lst_rule.specs.Seats.{Sitting}
 use Rattle.lst_rule.specs.Stores.{IsSeatOf}
+use Rattle.lst_rule.specs.Surveys.{Surveyed}
 use Rattle.lst_sights.specs.Watching.{IsNotFull}
 
 -- v is u with more facts, finds and commits seen, and other words loaded last. No counter was found full
@@ -31,6 +32,15 @@ pub record Peeks (v w : View) (s : ℕ) : Type 0 where
   pub kept : Kept v w
   pub peeked : Peeked (knows v s) (knows w s)
   pub own : mine s (knows w s) ≡ mine s (knows v s)
+
+-- the seat took stock of all words, as the view between has them, and the session s has only looked since. Each word is known now; where each
+-- was before, these are the same
+pub record Recounts (v w : View) (s : ℕ) : Type 0 where
+  pub between : View
+  pub surveyed : Surveyed v between
+  pub peeks : Peeks between w s
+  pub whole : w.whole ≡ true
+  pub kept : Kept v w
 
 -- the words that a view knows
 abbrev pub words_in : View → Words

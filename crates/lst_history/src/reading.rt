@@ -1,11 +1,11 @@
 //! The history.
-ghost use Rattle.std.specs.Prelude.{◌≡◌, ◌+◌, ◌<◌, true, IfOk, OnOk};
-ghost use Rattle.lst_layout.specs.Words.{shown};
+ghost use Rattle.std.specs.Prelude.{◌≡◌, ◌+◌, ◌<◌, IfOk, OnOk};
 ghost use Rattle.lst_core_state.specs.Cells.{tail_count};
 ghost use Rattle.lst_core_state.specs.State.{history_of, rank};
-ghost use Rattle.lst_rule.specs.Rule.{knows, hosts};
+ghost use Rattle.lst_rule.specs.Rule.{knows};
 ghost use Rattle.lst_rule.specs.Stores.{IsSeatOf};
-ghost use Rattle.lst_history.specs.Peeks.{words_in, IsReader, Peeks, Reads};
+ghost use Rattle.lst_rule.specs.Surveys.{HostsAll};
+ghost use Rattle.lst_history.specs.Peeks.{words_in, IsReader, Reads, Recounts};
 ghost use Rattle.lst_history.specs.Commits.{history_until};
 
 use crate::commits::commits_until;
@@ -13,12 +13,13 @@ use crate::joins::enter;
 use crate::tails::{commit_time, tail_write};
 use crate::words::clock;
 use lst_model::{Commit, History, OutOfMemory};
-use lst_rule::{Seat, Store};
+use lst_rule::{Seat, Store, survey};
 use std::alloc::Global;
 
-/// The history of the store, as its log and its tail records have it, read by a seat that knows each word: each commit at its time, with its
-/// writes by key. It stores nothing, and the session `s` has then seen the whole of it. The session may have neither a record nor the turn
-/// in hand. It answers want of memory where the list finds none.
+/// The history of the store, as its log and its tail records have it: each commit at its time, with its writes by key. The seat hosts every
+/// session and the merger. It first takes stock of all words, and the history is that of the words that it found; where it knew each word
+/// before, it found those. Nothing is stored, and the session `s` has then seen the whole history. The session may have neither a record nor
+/// the turn in hand. It answers want of memory where the list finds none.
 pub fn history(
     alloc: Global,
     store: &Store,
@@ -26,15 +27,25 @@ pub fn history(
     s: u32,
 ) -> Result<History, OutOfMemory>
     requires seat { IsSeatOf store.now seat.old }
-    requires host { hosts seat.old.view s ≡ true }
+    requires all { HostsAll seat.old.view }
     requires own { s < seat.old.view.limits.sessions }
-    requires whole { seat.old.view.whole ≡ true }
     requires rec { (knows seat.old.view s).placing.hand ≡ 0 }
     requires turn { rank (knows seat.old.view s).turn ≡ 0 }
     ensures seat { IsSeatOf store.now seat.new }
-    ensures ok { IfOk result (λ all. all ≡ history_of seat.old.view.limits (shown seat.old.view.limits seat.old.view.words)) }
-    ensures looks { Peeks seat.old.view seat.new.view s }
-    ensures seen { IfOk result (λ all. (knows seat.new.view s).seen ≡ history_of seat.old.view.limits (shown seat.old.view.limits seat.old.view.words)) }
+    ensures ok { IfOk result (λ all. all ≡ history_of seat.new.view.limits (words_in seat.new.view)) }
+    ensures looks { Recounts seat.old.view seat.new.view s }
+    ensures seen { IfOk result (λ all. (knows seat.new.view s).seen ≡ history_of seat.new.view.limits (words_in seat.new.view)) }
+{
+    survey(store, seat);
+    recount(alloc, store, seat, s)
+}
+
+/// The history of the words that the seat knows.
+fn recount(alloc: Global, store: &Store, seat: &mut Seat, s: u32) -> Result<History, OutOfMemory>
+    requires reader { IsReader store.now seat.old s }
+    ensures reads { Reads store.now seat.old seat.new s }
+    ensures ok { IfOk result (λ all. all ≡ history_of seat.old.view.limits (words_in seat.old.view)) }
+    ensures seen { IfOk result (λ all. (knows seat.new.view s).seen ≡ history_of seat.old.view.limits (words_in seat.old.view)) }
 {
     seat.consider();
     let clock = clock(store, seat, s);

@@ -1,32 +1,26 @@
-use Rattle.std.proofs.Common.{◌+◌, subst, ◌∙◌}
-use Rattle.lst_model.specs.Histories.{Extends}
+use Rattle.std.proofs.Common.{◌≡◌, List, ◌∙◌}
+use Rattle.std.proofs.lemmas.Result.{IfOk-weaker}
+use Rattle.lst_model.specs.declared.commits.Commit.{Commit}
 use Rattle.lst_core_state.specs.State.{history_of}
-use Rattle.lst_core_state.proofs.Histories.{starts_trans}
+use Rattle.lst_rule.specs.declared.view.View.{View}
 use Rattle.lst_rule.specs.Rule.{knows}
 use Rattle.lst_history.specs.Peeks.{words_in}
-use Rattle.lst_history.specs.Commits.{history_until}
-use Rattle.lst_history.proofs.Looks.{reads_on, same_words, seen_grows, seen_all}
+use Rattle.lst_history.proofs.Recounting.{stock_reader, recounts, same_history}
 use Rattle.lst_history.proofs.reading.history.Goals as goal
 
-pub returns-in_err-commits-clause-looks : goal.returns-in_err-commits-clause-looks
-returns-in_err-commits-clause-looks c = (reads_on c.args.store.now c.args.seat.now c.clock-clock.new.seat c.commits_until.new.seat c.args.s c.clock-clock.ensures.reads c.commits_until.ensures.reads).peeks
+pub recount-requires : goal.recount-requires
+recount-requires c = record { reader = stock_reader c.args.store.now c.args.seat.now c.survey.new.seat c.args.s c.survey.ensures.seat c.survey.ensures.surveyed c.requires.all c.requires.own c.requires.rec c.requires.turn }
 
-pub loop-done-init : goal.loop-done-init
-loop-done-init c = (
-  reads_on c.args.store.now c.args.seat.now c.clock-clock.new.seat c.commits_until.new.seat c.args.s c.clock-clock.ensures.reads c.commits_until.ensures.reads,
-  c.in_ok-commits.ensures.ok ∙ (λ i. history_until (c.clock-clock.ensures.reads.limits i) (same_words c.args.store.now c.args.seat.now c.clock-clock.new.seat c.args.s c.clock-clock.ensures.reads i) 0),
-  subst (Extends (knows c.commits_until.new.seat.view c.args.s).seen) c.clock-clock.ensures.seen (seen_grows c.args.store.now c.clock-clock.new.seat c.commits_until.new.seat c.args.s c.commits_until.ensures.reads),
-)
+pub returns-clause-seat : goal.returns-clause-seat
+returns-clause-seat c = c.recount.ensures.reads.reader.seat_of
 
-pub returns-in_err-enter_tail-clause-looks : goal.returns-in_err-enter_tail-clause-looks
-returns-in_err-enter_tail-clause-looks c = (reads_on c.args.store.now c.args.seat.now c.loop-done.seat c.enter_tail.new.seat c.args.s c.loop-done.invariant.0 c.enter_tail.ensures.reads).peeks
-
-pub loop-done-preserved : goal.loop-done-preserved
-loop-done-preserved c = (
-  reads_on c.args.store.now c.args.seat.now c.loop-done.seat c.enter_tail.new.seat c.args.s c.loop-done.invariant.0 c.enter_tail.ensures.reads,
-  c.in_ok-enter_tail.ensures.ok ∙ (λ i. history_until (c.loop-done.invariant.0.limits i) (same_words c.args.store.now c.args.seat.now c.loop-done.seat c.args.s c.loop-done.invariant.0 i) (c.loop-done.done + 1)),
-  starts_trans (knows c.enter_tail.new.seat.view c.args.s).seen (knows c.loop-done.seat.view c.args.s).seen (history_of c.args.seat.now.view.limits (words_in c.args.seat.now.view)) (seen_grows c.args.store.now c.loop-done.seat c.enter_tail.new.seat c.args.s c.enter_tail.ensures.reads) c.loop-done.invariant.2,
-)
+pub returns-clause-ok : goal.returns-clause-ok
+returns-clause-ok c = let b : View = c.survey.new.seat.view in let w : View = c.recount.new.seat.view in IfOk-weaker c.recount.result (λ all. all ≡ history_of b.limits (words_in b)) (λ all. all ≡ history_of w.limits (words_in w))
+    (λ all is. is ∙ same_history c.args.store.now c.survey.new.seat c.recount.new.seat c.args.s c.recount.ensures.reads) c.recount.ensures.ok
 
 pub returns-clause-seen : goal.returns-clause-seen
-returns-clause-seen c = seen_all c.args.store.now c.args.seat.now c.loop-done.seat c.args.s c.loop-done.invariant.0 c.consider-2.ensures c.loop-done.invariant.2
+returns-clause-seen c = let b : View = c.survey.new.seat.view in let w : View = c.recount.new.seat.view in let seen : List Commit = (knows w c.args.s).seen in IfOk-weaker c.recount.result (λ _. seen ≡ history_of b.limits (words_in b)) (λ _. seen ≡ history_of w.limits (words_in w))
+    (λ _ is. is ∙ same_history c.args.store.now c.survey.new.seat c.recount.new.seat c.args.s c.recount.ensures.reads) c.recount.ensures.seen
+
+pub returns-clause-looks : goal.returns-clause-looks
+returns-clause-looks c = recounts c.args.store.now c.args.seat.now c.survey.new.seat c.recount.new.seat c.args.s c.survey.ensures.surveyed c.recount.ensures.reads

@@ -1,0 +1,39 @@
+-- A seat that hosts everybody takes stock of all words before it reads the history.
+use Rattle.std.proofs.Common.{◌≡◌, ℕ, ◌<◌, true, sym, refl, subst, ◌∙◌, arith}
+use Rattle.lst_core_state.specs.State.{rank, history_of}
+use Rattle.lst_rule.specs.declared.view.View.{View}
+use Rattle.lst_rule.specs.declared.store.Store.{Store}
+use Rattle.lst_rule.specs.Rule.{knows, hosts}
+use Rattle.lst_rule.specs.Seats.{Sitting}
+use Rattle.lst_rule.specs.Stores.{IsSeatOf}
+use Rattle.lst_rule.specs.Surveys.{HostsAll, Surveyed}
+use Rattle.lst_rule.proofs.Surveying.{survey_kept}
+use Rattle.lst_history.specs.Peeks.{words_in, IsReader, Reads, Recounts}
+use Rattle.lst_history.proofs.Looks.{same_words}
+
+-- what is asked of a reader, of the view alone
+record MayRead (v : View) (s : ℕ) : Type 0 where
+  pub host : hosts v s ≡ true
+  pub own : s < v.limits.sessions
+  pub whole : v.whole ≡ true
+  pub hand : (knows v s).placing.hand ≡ 0
+  pub turn : rank (knows v s).turn ≡ 0
+
+pub stock_reader : (store : Store) (a b : Sitting) (s : ℕ) → IsSeatOf store b → Surveyed a.view b.view → HostsAll a.view → s < a.view.limits.sessions → (knows a.view s).placing.hand ≡ 0 → rank (knows a.view s).turn ≡ 0 → IsReader store b s
+stock_reader store a b s seat t all own hand turn = record { seat_of = seat; host = m.host; own = m.own; whole = m.whole; hand = m.hand; turn = m.turn }
+  where
+    m : MayRead b.view s
+    m = subst (λ (v : View). MayRead v s) (sym t.now) record { host = all s (omega arith); own = own; whole = refl; hand = hand; turn = turn }
+
+pub recounts : (store : Store) (a b c : Sitting) (s : ℕ) → Surveyed a.view b.view → Reads store b c s → Recounts a.view c.view s
+recounts store a b c s t reads = record {
+  between = b.view;
+  surveyed = t;
+  peeks = reads.peeks;
+  whole = reads.reader.whole;
+  kept = record { words = λ whole. reads.words ∙ (survey_kept a.view b.view t).words whole };
+}
+
+-- what it reads is the history of the words that it knows then
+pub same_history : (store : Store) (b c : Sitting) (s : ℕ) → Reads store b c s → history_of b.view.limits (words_in b.view) ≡ history_of c.view.limits (words_in c.view)
+same_history store b c s reads = sym (λ i. history_of (reads.limits i) (same_words store b c s reads i))
