@@ -35,6 +35,7 @@ module _ (store : Store) (crew : Crew) (n : Sitting) (s : ℕ) (of : IsCrewOf st
   crew_on is idle = record {
     seat_of = seat;
     hosted = λ t low. ap (λ (hs : List Bool). slice_index_or hs t false) is.learns.hosted ∙ of.hosted t (subst (λ (l : Limits). t < l.sessions) is.learns.limits low);
+    merger = (λ i. slice_index_or (is.learns.hosted i) (is.learns.limits i).sessions false) ∙ of.merger;
     idle = λ t low. dite (ℕ_discrete t s)
         (λ e. subst (λ (x : ℕ). IsIdle (knows n.view x)) (sym e) idle)
         (λ ne. subst IsIdle (sym (is.learns.others t ne)) (of.idle t (subst (λ (l : Limits). t < l.sessions) is.learns.limits low)));

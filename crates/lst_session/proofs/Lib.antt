@@ -23,3 +23,4 @@ pub mod CrewAnswering
 pub mod Peeking
 pub mod Promising
 pub mod Keeping
+pub mod Recounting

@@ -44,6 +44,7 @@ opened_crew store seat l of is = record {
   seat_of = of;
   hosted = λ s low. let few : s < l.sessions = subst (λ (v : View). s < v.limits.sessions) is low in
       subst (λ (v : View). hosts v s ≡ true) (sym is) (get_or-replicate (l.sessions + 1) s true false (omega arith));
+  merger = subst (λ (v : View). hosts v v.limits.sessions ≡ true) (sym is) (get_or-replicate (l.sessions + 1) l.sessions true false (omega arith));
   idle = λ s low. subst (λ (v : View). IsIdle (knows v s)) (sym is) (subst IsIdle (sym (newcomers l s)) record { rec = refl; hold = refl; turn = refl });
 }
 

@@ -7,18 +7,19 @@ use std::alloc::Global;
 
 impl Crew {
     ghost use Rattle.std.specs.Prelude.{◌≡◌, true, IfOk};
-    ghost use Rattle.lst_session.specs.Calls.{OnlyLooks};
-    ghost use Rattle.lst_session.specs.Crews.{IsCrewOf, TellsState, store_told};
+    ghost use Rattle.lst_session.specs.Crews.{IsCrewOf, TellsState, TakesStock, IsHistoryOfAll, store_told};
 
-    /// The history of the store: each commit at its time, with its writes by key, from a crew that knows each word. It is read off the log and the
-    /// tail records by session 0, which only looks, also where memory is wanting: the crew tells the same state of the machine afterwards.
+    /// The history of the store: each commit at its time, with its writes by key. The seat first takes stock of all words, and knows each
+    /// afterwards. The history is read off their log and tail records by session 0, which only looks. Where the seat knew each word before,
+    /// it tells the same state of the machine afterwards, also where memory is wanting.
     pub fn history(&mut self, alloc: Global, store: &Store) -> Result<History, OutOfMemory>
         requires crew { IsCrewOf store.now self.old }
-        requires whole { self.old.seat.view.whole ≡ true }
         ensures crew { IsCrewOf store.now self.new }
-        ensures ok { IfOk result (λ all. all ≡ (store_told self.old.seat.view).history) }
-        ensures session { OnlyLooks self.old.seat.view self.new.seat.view 0 }
-        ensures told { store_told self.new.seat.view ≡ store_told self.old.seat.view }
+        ensures whole { self.new.seat.view.whole ≡ true }
+        ensures ok { IfOk result (λ all. all ≡ (store_told self.new.seat.view).history) }
+        ensures all { IfOk result (λ all. IsHistoryOfAll self.old.seat.view all) }
+        ensures session { TakesStock self.old.seat.view self.new.seat.view 0 }
+        ensures told { self.old.seat.view.whole ≡ true → store_told self.new.seat.view ≡ store_told self.old.seat.view }
         ensures tells { TellsState self.old.seat.view → TellsState self.new.seat.view }
     {
         self.seat.consider();
