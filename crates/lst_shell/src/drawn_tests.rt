@@ -1,6 +1,6 @@
 //! Drawn scripts on the store and on the plain engine: each line is answered alike.
 ghost use Rattle.std.specs.Prelude.{◌≡◌, ◌<◌, IfOk};
-ghost use Rattle.lst_model.specs.Lines.{CallFits};
+ghost use Rattle.lst_model.specs.Lines.{CallFits, IsPatch};
 ghost use Rattle.lst_plain.specs.Plains.{limits_of, IsPlainCall};
 ghost use Rattle.lst_session.specs.Crews.{IsCrewOf};
 ghost use Rattle.lst_session.specs.Replies.{IsCrewCall};
@@ -41,6 +41,26 @@ const WIDE: Limits = Limits {
 struct Drawer {
     seed: u64,
     keys: u64,
+}
+
+/// Sets the first column, and the second where there is a number for it.
+fn first_and(first: u64, second: Option<u64>) -> Patch
+    ensures { IsPatch 2 result }
+{
+    let mut cells = ArrayVec::new();
+    cells.push(Some(first));
+    cells.push(second);
+    Patch::of_numbers(cells)
+}
+
+/// Sets the second column alone.
+fn second_alone(second: u64) -> Patch
+    ensures { IsPatch 2 result }
+{
+    let mut cells = ArrayVec::new();
+    cells.push(None);
+    cells.push(Some(second));
+    Patch::of_numbers(cells)
 }
 
 impl Drawer {
@@ -84,23 +104,12 @@ impl Drawer {
     fn draw_patch(&mut self) -> Patch
         ensures { CallFits 2 (Call.Update 0 result) }
     {
-        let cell = Some(self.draw(9));
-        let mut cells = ArrayVec::new();
+        let cell = self.draw(9);
         match self.draw(3) {
-            0 => {
-                cells.push(cell);
-                cells.push(None);
-            }
-            1 => {
-                cells.push(None);
-                cells.push(cell);
-            }
-            _ => {
-                cells.push(cell);
-                cells.push(Some(9));
-            }
+            0 => first_and(cell, None),
+            1 => second_alone(cell),
+            _ => first_and(cell, Some(9)),
         }
-        Patch::of_numbers(cells)
     }
 
     fn draw_call(&mut self) -> Call
