@@ -1,5 +1,6 @@
 //! Two sessions write against each other.
 ghost use Rattle.std.specs.Prelude.{◌≡◌, ◌<◌, IfOk};
+ghost use Rattle.lst_model.specs.Lines.{IsPatch};
 ghost use Rattle.lst_drive.specs.Driving.{HostsAll, ArePair, IsOpened};
 
 use crate::machine::Machine;
@@ -168,15 +169,22 @@ fn one_session_at_a_time_commits(rt: HostRuntime) -> Result<(), Fail> {
     Ok(())
 }
 
+/// Sets the second column alone.
+fn second_alone(cell: u64) -> Patch
+    ensures { IsPatch 2 result }
+{
+    let mut cells = ArrayVec::new();
+    cells.push(None);
+    cells.push(Some(cell));
+    Patch::of_numbers(cells)
+}
+
 #[test]
 fn one_transaction_puts_sets_and_deletes_a_row(rt: HostRuntime) -> Result<(), Fail> {
     let (store, mut seat, pair) = open_table(rt.alloc(), 1, 3)?;
     let mut cells = ArrayVec::new();
     cells.push(10);
     cells.push(20);
-    let mut changes = ArrayVec::new();
-    changes.push(None);
-    changes.push(Some(21));
     let head = store.layout().indirection(0);
     let Stage::Out = pair.first else {
         return Err(Fail::from("the session has not begun"));
@@ -187,7 +195,7 @@ fn one_transaction_puts_sets_and_deletes_a_row(rt: HostRuntime) -> Result<(), Fa
         0,
         7,
         Row::of_numbers(cells),
-        Patch::of_numbers(changes),
+        second_alone(21),
     );
     assert_eq!(rt; time, Some(1));
     let _ = head;

@@ -15,12 +15,12 @@ const GREATEST: Limits = Limits {
 };
 
 #[test]
-fn a_store_of_31_818_852_words_opens_and_closes(rt: HostRuntime) -> Result<(), Fail> {
+fn a_store_of_31_821_732_words_opens_and_closes(rt: HostRuntime) -> Result<(), Fail> {
     let Ok(layout) = GREATEST.check() else {
         return Err(Fail::from("the greatest limits are in range"));
     };
     let (store, seat) = open_store(rt.alloc(), &layout)?;
-    assert_eq!(rt; store.layout().words, 31_818_852);
+    assert_eq!(rt; store.layout().words, 31_821_732);
     assert!(rt; seat.hosts(16));
     Ok(())
 }
