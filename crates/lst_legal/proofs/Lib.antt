@@ -1,3 +1,4 @@
+pub mod Indexing
 pub mod Sighting
 pub mod Shaped
 pub mod Composed

@@ -1,7 +1,2 @@
 pub mod Apart
 pub mod Orders
-pub mod Listing
-pub mod Indexing
-pub mod Scanning
-pub mod Lowest
-pub mod Showing

@@ -5,7 +5,3 @@ pub mod Merges
 pub mod Machine
 pub mod Others
 pub mod Orders
-pub mod Scans
-pub mod Listings
-pub mod Parts
-pub mod Machines

@@ -5,15 +5,6 @@
 //! store part of the state decides every answer but those to merges.
 #![tactic(auto)]
 
-mod answers;
-mod calls;
-mod machine;
-mod merges;
-mod parts;
-mod sight;
-mod views;
-mod writes;
-
 ghost use Rattle.std.specs.Prelude.{◌≡◌, List};
 ghost use Rattle.lst_layout.specs.declared.limits.Limits.{Limits};
 ghost use Rattle.lst_model.specs.declared.lines.Line.{Line};
@@ -21,9 +12,6 @@ ghost use Rattle.lst_machine.specs.State.{State};
 ghost use Rattle.lst_machine.specs.Machine.{replies};
 ghost use Rattle.lst_machine.specs.Others.{without_merges, other_replies};
 ghost use Rattle.lst_machine.specs.Orders.{OrderIsForgotten};
-
-pub use answers::{answer_from_rows, lacks_index, list_row};
-pub use machine::Machine;
 
 /// With the merge lines taken out of a script, exactly the replies to those lines are lost: two states with one store part
 /// answer all other lines alike, whatever their page parts are. The contract is a law; the body does nothing.

@@ -6,8 +6,3 @@ pub mod Engines
 pub mod Steps
 pub mod Telling
 pub mod Plains
-pub mod Tails
-pub mod Lineages
-pub mod LineageOf
-pub mod Pages
-pub mod Whole

@@ -4,7 +4,7 @@ ghost use Rattle.lst_plain.specs.Engines.{IsWhole};
 use crate::records::Records;
 use crate::session::Session;
 use lst_layout::{Layout, Limits};
-use lst_model::{OutOfMemory, Time};
+use lst_model::{Line, OutOfMemory, Reply, Time};
 use std::alloc::Global;
 
 /// An engine on one thread that keeps the rows of each key as a list of versions.
@@ -22,9 +22,11 @@ pub struct Plain {
 }
 
 impl Plain {
-    ghost use Rattle.std.specs.Prelude.{◌≡◌, IfOk};
-    ghost use Rattle.lst_machine.specs.State.{opening};
-    ghost use Rattle.lst_plain.specs.Plains.{limits_of, Tells};
+    ghost use Rattle.std.specs.Prelude.{◌≡◌, IfOk, OnErr};
+    ghost use Rattle.lst_layout.specs.declared.limits.Limits.{Limits};
+    ghost use Rattle.lst_model.specs.Lines.{LineFits};
+    ghost use Rattle.lst_machine.specs.State.{State, opening};
+    ghost use Rattle.lst_plain.specs.Plains.{limits_of, Tells, IsPlainLine, AnswersLine};
 
     /// An engine for stores of this layout, without commits, keys or open transactions.
     pub fn new(alloc: Global, layout: &Layout) -> Result<Plain, OutOfMemory>
@@ -42,6 +44,22 @@ impl Plain {
             accepted,
         })
     }
+
+    /// The answer to a line, which is the machine's for each state of it that the engine told; the engine then tells the
+    /// next one. It takes no scans and no merges. For want of memory it tells what it told before.
+    pub fn line(&mut self, line: &Line) -> Result<Reply, OutOfMemory>
+        requires fits { LineFits self.old.limits.sessions self.old.limits.ranges self.old.limits.columns line.now }
+        requires plain { IsPlainLine line.now }
+        ensures limits { limits_of self.new ≡ limits_of self.old }
+        ensures ok { IfOk result (λ reply. AnswersLine self.old self.new line.now reply) }
+        ensures err { OnErr result ((limits : Limits) (state : State) → Tells self.old limits state → Tells self.new limits state) }
+    {
+        match line {
+            Line::Phase => Ok(Reply::Silent),
+            Line::Call { session, call } => self.call(*session, call),
+            Line::Merge { .. } => unreachable!(),
+        }
+    }
 }
 
 ghost use Rattle.std.specs.Prelude.{◌≡◌, IfOk, replicate};
@@ -56,11 +74,4 @@ fn new_sessions(alloc: Global, count: u32) -> Result<Vec<Session>, OutOfMemory>
         sessions.push(Session::new(alloc))?;
     }
     Ok(sessions)
-}
-
-/// The last tail of a range: its number is how many writes the range has accepted.
-#[derive(Clone, Copy)]
-pub(crate) struct Tail {
-    pub range: usize,
-    pub number: u32,
 }

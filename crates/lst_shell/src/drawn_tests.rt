@@ -1,7 +1,7 @@
 //! Drawn scripts on the store and on the plain engine: each line is answered alike.
 ghost use Rattle.std.specs.Prelude.{◌≡◌, ◌<◌, IfOk};
 ghost use Rattle.lst_model.specs.Lines.{CallFits, IsPatch};
-ghost use Rattle.lst_plain.specs.Whole.{limits_of};
+ghost use Rattle.lst_plain.specs.Plains.{limits_of, IsPlainCall};
 ghost use Rattle.lst_session.specs.Crews.{IsCrewOf};
 ghost use Rattle.lst_session.specs.Replies.{IsCrewCall};
 
@@ -114,6 +114,7 @@ impl Drawer {
 
     fn draw_call(&mut self) -> Call
         ensures fits { CallFits 2 result }
+        ensures plain { IsPlainCall result }
         ensures crew { IsCrewCall result }
     {
         match self.draw(20) {

@@ -1,5 +1,5 @@
 use Rattle.std.proofs.Common.{◌≡◌}
-use Rattle.lst_plain.specs.Whole.{limits_of}
+use Rattle.lst_plain.specs.Plains.{limits_of}
 use Rattle.lst_session.specs.Crews.{IsCrewOf}
 use Rattle.lst_shell.proofs.drawn_tests.compare.Given as goal
 

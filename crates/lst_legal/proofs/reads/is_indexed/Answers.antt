@@ -1,6 +1,6 @@
 use Rattle.std.proofs.Common.{ℕ, ◌^◌, not, eqb, bit_and, ap, ◌∙◌}
-use Rattle.lst_machine.proofs.Indexing.{indexed_within, indexed_past}
-use Rattle.lst_machine.proofs.answers.is_indexed.Goals as goal
+use Rattle.lst_legal.proofs.Indexing.{indexed_within, indexed_past}
+use Rattle.lst_legal.proofs.reads.is_indexed.Goals as goal
 
 pub returns-then-column-ge32 : goal.returns-then-column-ge32
 returns-then-column-ge32 c =
