@@ -18,7 +18,7 @@ use lst_layout::Limits;
 use lst_legal_runs::{OpenOutline, Place, write_of};
 use lst_model::{Call, OutOfMemory, Reply, Time};
 use lst_replies::Answer;
-use lst_snapshots::{Sight, Swept};
+use lst_snapshots::{Sight, Snapshots};
 use std::alloc::Global;
 
 /// Whether the replies of a run tell what its transactions see, under a history, and those to writes fit it. The run's
@@ -27,7 +27,7 @@ pub fn are_sights_told(
     alloc: Global,
     limits: &Limits,
     sessions: u32,
-    snapshots: &Swept,
+    snapshots: &Snapshots,
     places: &[Place],
 ) -> Result<bool, OutOfMemory>
     requires within { AreWithin sessions (run_at places.now) }
@@ -41,7 +41,7 @@ pub fn are_sights_told(
 fn are_told_with(
     alloc: Global,
     limits: &Limits,
-    snapshots: &Swept,
+    snapshots: &Snapshots,
     sights: &mut [Option<Sight>],
     places: &[Place],
 ) -> Result<bool, OutOfMemory>
@@ -71,7 +71,7 @@ fn no_sights(alloc: Global, sessions: u32) -> Result<Vec<Option<Sight>>, OutOfMe
 
 fn tells_seen(
     limits: &Limits,
-    snapshots: &Swept,
+    snapshots: &Snapshots,
     sights: &[Option<Sight>],
     place: &Place,
 ) -> bool
@@ -98,7 +98,7 @@ fn tells_seen(
 
 fn tells_call(
     limits: &Limits,
-    snapshots: &Swept,
+    snapshots: &Snapshots,
     sight: &Option<Sight>,
     current: &Option<OpenOutline>,
     call: &Call,
@@ -118,7 +118,7 @@ fn tells_call(
 /// Whether a reply to a call in an open transaction tells what it sees.
 fn is_open_answered(
     limits: &Limits,
-    snapshots: &Swept,
+    snapshots: &Snapshots,
     sight: &Sight,
     begin: Time,
     call: &Call,
@@ -132,13 +132,13 @@ fn is_open_answered(
     if !tells_sight(snapshots, sight, call, reply) {
         return false;
     }
-    is_write_answered(snapshots.snapshots(), sight, begin, call, reply)
+    is_write_answered(snapshots, sight, begin, call, reply)
 }
 
 /// Passes a line by.
 fn pass(
     alloc: Global,
-    snapshots: &Swept,
+    snapshots: &Snapshots,
     sights: &mut [Option<Sight>],
     answer: &Answer,
 ) -> Result<(), OutOfMemory>
@@ -168,7 +168,7 @@ fn pass(
 /// What a session's open transaction sees behind a call.
 fn pass_call(
     alloc: Global,
-    snapshots: &Swept,
+    snapshots: &Snapshots,
     sight: &mut Option<Sight>,
     call: &Call,
     reply: &Reply,
@@ -187,7 +187,7 @@ fn pass_call(
             let Some(sight) = sight else {
                 return Ok(());
             };
-            sight.write(snapshots.snapshots(), &write)?;
+            sight.write(snapshots, &write)?;
             Ok(())
         }
         _ => Ok(()),

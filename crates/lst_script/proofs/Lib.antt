@@ -8,7 +8,3 @@ pub mod OneReading
 pub mod Complete
 pub mod ReadAgain
 pub mod OwnFaults
-pub mod Appended
-pub mod Printed
-pub mod Transferring
-pub mod Counting

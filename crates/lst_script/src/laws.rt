@@ -1,12 +1,8 @@
 //! Laws of the grammar. Each function is a law: its contract holds at all values, and its body does nothing.
-ghost use Rattle.std.specs.Prelude.{◌≡◌, ℕ, ◌<◌, List};
+ghost use Rattle.std.specs.Prelude.{ℕ, List};
 ghost use Rattle.lst_layout.specs.declared.limits.Limits.{Limits};
-ghost use Rattle.lst_model.specs.declared.lines.Line.{Line};
 ghost use Rattle.lst_script.specs.Laws.{AreOneLine, LinesPass, PassingIsLine, WordsAreReadAgain, LinesAreReadAgain};
 ghost use Rattle.lst_script.specs.Worked.{AreJudged, AreCut};
-ghost use Rattle.lst_script.specs.Printed.{PrintIsReadAgain};
-ghost use Rattle.lst_script.specs.Counted.{IsCounted};
-ghost use Rattle.lst_script.specs.Drawn.{AreDrawn};
 
 /// Words that are not skipped fail no check exactly where they are a line of the grammar, and then they are one line
 /// alone.
@@ -26,22 +22,4 @@ pub fn joined_words_and_lines_are_read_again()
 pub fn worked_lines_are_judged()
     ensures judged { AreJudged }
     ensures cut { AreCut }
-{}
-
-/// The canonical text of a script is read as that script, where its lines fit the limits, have no null, and have names that are read.
-/// With the contracts of `print` and `parse`, a printed script is read again as itself.
-pub fn printed_script_is_read_again()
-    ensures { (limits : Limits) (script : List Line) → PrintIsReadAgain limits script }
-{}
-
-/// Of a generated script: its lines fit a table of one column; no key is written by two sessions; how many transactions each session
-/// begins; and how many writes and lines there are.
-pub fn generated_script_is_counted()
-    ensures { (keys sessions seed : ℕ) → 0 < keys → 0 < sessions → IsCounted keys sessions seed }
-{}
-
-/// The definitions of a generated script computed: the first draw, and the first lines of the script of two keys.
-#[tactic(auto, unfolding(crate::specs::Generated::next_state, crate::specs::Generated::draw_of))]
-pub fn worked_draws_are_made()
-    ensures { AreDrawn }
 {}

@@ -19,7 +19,7 @@ use Rattle.lst_model.specs.Cells.{Cell}
 use Rattle.lst_model.specs.Tables.{Rows, no_rows}
 use Rattle.lst_snapshots.specs.Sights.{with_row, with_rows}
 use Rattle.lst_snapshots.proofs.Entering.{at_key}
-use Rattle.lst_snapshots.proofs.Seeing.{chosen, get_with_row, get_with_rows}
+use Rattle.lst_snapshots.proofs.Seeing.{chosen, get_with_rows}
 
 abbrev Own : Type 0
 Own = List (ℕ × Option (List Cell))
@@ -115,41 +115,6 @@ module _ (f : List Cell → ℕ) where
       let rest = total-with_rows t es keys.1 none.1 in
       let one = sum_by-cons (λ (e : ℕ × Option (List Cell)). of_row e.1) e es in
       omega (arith, here, rest, one)
-
-  here_is : (k : ℕ) → is_at (nat_cmp k) k ≡ true
-  here_is k = ap (λ o. is_eq o) (tied_itself nat_cmp_total k)
-
-  -- a row takes the place of another, or of none
-  pub total-changed : (t : Rows) (k : ℕ) (row : Option (List Cell)) → total_of (with_row t k row) + of_row (get t k) ≡ of_row row + total_of t
-  total-changed t k row =
-      let none : get (remove t k) k ≡ None = get-remove nat_cmp_total t k k ∙ ap (λ b. cond b None (get t k)) (here_is k) in
-      let anew : with_row (remove t k) k row ≡ with_row t k row = same_map nat_cmp_total nat_cmp-IsAntisymmetric _ _ (λ q. get_with_row (remove t k) k row q ∙ kept q (is_at (nat_cmp q) k) row refl ∙ sym (get_with_row t k row q)) in
-      let back : with_row (remove t k) k (get t k) ≡ t = same_map nat_cmp_total nat_cmp-IsAntisymmetric _ _ (λ q. get_with_row (remove t k) k (get t k) q ∙ given q (is_at (nat_cmp q) k) refl) in
-      let one = total-with_row (remove t k) k row none in
-      let two = total-with_row (remove t k) k (get t k) none in
-      omega (arith, ap total_of anew, ap total_of back, one, two)
-    where
-      others : (q : ℕ) → is_at (nat_cmp q) k ≡ false → get (remove t k) q ≡ get t q
-      others q is = get-remove nat_cmp_total t k q ∙ ap (λ b. cond b None (get t q)) is
-
-      kept : (q : ℕ) (b : Bool) (r : Option (List Cell)) → is_at (nat_cmp q) k ≡ b → cond b r (get (remove t k) q) ≡ cond b r (get t q)
-      kept q true r is = refl
-      kept q false r is = others q is
-
-      given : (q : ℕ) (b : Bool) → is_at (nat_cmp q) k ≡ b → cond b (get t k) (get (remove t k) q) ≡ get t q
-      given q true is = ap (get t) (sym (eqb-true _ _ (sym (at_key q k) ∙ is)))
-      given q false is = others q is
-
-  -- own rows take the places of the table's
-  pub total_over : (t : Rows) (es : Own) → FreshKeys es → total_of (with_rows t es) + sum_by (λ (e : ℕ × Option (List Cell)). of_row (get t e.0)) es ≡ sum_by (λ (e : ℕ × Option (List Cell)). of_row e.1) es + total_of t
-  total_over t [] keys = omega arith
-  total_over t (e ∷ es) keys =
-      let here = total-changed (with_rows t es) e.0 e.1 in
-      let below : get (with_rows t es) e.0 ≡ get t e.0 = get_with_rows t es e.0 ∙ ap (λ found. chosen found (get t e.0)) keys.0 in
-      let same : of_row (get (with_rows t es) e.0) ≡ of_row (get t e.0) = ap of_row below in
-      let one = sum_by-cons (λ (e : ℕ × Option (List Cell)). of_row (get t e.0)) e es in
-      let two = sum_by-cons (λ (e : ℕ × Option (List Cell)). of_row e.1) e es in
-      omega (arith, here, same, one, two, total_over t es keys.1)
 
   none_left : {A : Type 0} (xs : List A) → length xs ≡ 0 → xs ≡ []
   none_left [] none = refl

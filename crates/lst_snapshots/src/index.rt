@@ -77,6 +77,36 @@ impl Index {
         }
     }
 
+    /// A measure added over the rows as of a time of all keys that have no own row.
+    pub fn total_beside(
+        &self,
+        own: &BTreeMap<Key, Option<Row>>,
+        time: Time,
+        measure: &Measure,
+    ) -> u128
+        requires { AreRising self.now.versions }
+        ensures total { result ≡ sum_by (λ key. measured_row measure.now (row_beside_own self.now.versions own.now time key)) (keys self.now.versions) }
+        ensures few { (most : ℕ) → ((row : List Cell) → measured measure.now row ≤ most) → result ≤ (2 ^ 63 - 1) * most }
+        ensures low { result ≤ (2 ^ 63 - 1) * (2 ^ 64 - 1) }
+        ensures ordered { IsOrdered nat_cmp self.now.versions }
+    {
+        let mut total = 0u128;
+        for key in self.versions.keys() {
+            total += u128::from(measure.of_row(&self.row_beside(own, time, *key)));
+        }
+        total
+    }
+
+    fn row_beside(&self, own: &BTreeMap<Key, Option<Row>>, time: Time, key: Key) -> Option<Row>
+        requires { RisesFrom 0 (versions_in self.now.versions key) }
+        ensures { result ≡ row_beside_own self.now.versions own.now time key }
+    {
+        if own.contains_key(&key) {
+            return None;
+        }
+        self.row(key, time)
+    }
+
     /// Enters the writes of a commit at a time, which is the next one. For want of memory nothing is entered.
     pub fn enter(&mut self, time: Time, writes: &[Write]) -> Result<(), OutOfMemory>
         ensures ok { OnOk result ((history : List Commit) → IsIndexOf self.old.versions history → time ≡ length history + 1 → IsIndexBehind self.new.versions history writes.now) }

@@ -11,13 +11,10 @@ mod fitting;
 mod floors;
 mod index;
 mod laws;
-mod levels;
 mod measures;
 mod sight;
 mod snapshots;
 mod sound;
-mod swept;
-mod tallies;
 mod tells;
 #[cfg(test)]
 mod tests;
@@ -27,4 +24,3 @@ pub use laws::{longer_history_keeps_sight, sight_takes_joined_write};
 pub use sight::Sight;
 pub use snapshots::Snapshots;
 pub use sound::{snapshots_of, stands_by_key};
-pub use swept::Swept;

@@ -1,12 +1,15 @@
 //! What an open transaction sees.
-ghost use Rattle.std.specs.Prelude.{◌≡◌, List, OnOk, OnErr};
+ghost use Rattle.std.specs.Prelude.{◌≡◌, ℕ, ◌-◌, ◌*◌, ◌^◌, ◌≤◌, ◌↔◌, List, IsTrue, OnOk, OnErr, sum_by};
+ghost use Rattle.std.specs.FinMap as finite;
+ghost use Rattle.std.specs.Ordering.{nat_cmp};
+ghost use Rattle.std.specs.BTreeMap as tree;
 ghost use Rattle.lst_model.specs.declared.commits.Commit.{Commit};
+ghost use Rattle.lst_model.specs.Cells.{Cell};
 ghost use Rattle.lst_model.specs.Tables.{applied, row_of, sum_of, count_of};
 ghost use Rattle.lst_model.specs.Histories.{table_at};
 
 use crate::measures::Measure;
 use crate::snapshots::Snapshots;
-use crate::swept::Swept;
 use crate::versions::{copied, row_changed};
 use lst_model::{Key, OutOfMemory, Row, Time, Write};
 use std::alloc::Global;
@@ -21,7 +24,7 @@ pub struct Sight {
 
 impl Sight {
     ghost use Rattle.lst_snapshots.specs.Sights.{seen};
-    ghost use Rattle.lst_snapshots.specs.Tallies.{total_in};
+    ghost use Rattle.lst_snapshots.specs.Measures.{measured, measured_row};
 
     /// What a transaction sees that began at this time and has written nothing. A time above that of the last commit
     /// is as that one.
@@ -55,29 +58,37 @@ impl Sight {
     }
 
     /// The numbers of a column, counted from 0, added over all rows.
-    pub fn sum(&self, swept: &Swept, column: u32) -> u128
-        ensures { result ≡ sum_of (seen swept.now self.now) column }
+    pub fn sum(&self, snapshots: &Snapshots, column: u32) -> u128
+        ensures { result ≡ sum_of (seen snapshots.now self.now) column }
     {
-        self.total(swept, &Measure::Number { column })
+        self.total(snapshots, &Measure::Number { column })
     }
 
     /// The number of rows.
-    pub fn count(&self, swept: &Swept) -> u128
-        ensures { result ≡ count_of (seen swept.now self.now) }
+    pub fn count(&self, snapshots: &Snapshots) -> u64
+        ensures { result ≡ count_of (seen snapshots.now self.now) }
     {
-        self.total(swept, &Measure::Rows)
+        self.total(snapshots, &Measure::Rows) as u64
     }
 
-    /// A measure added over all rows, in the time of the own rows and of a look into a map for each.
-    pub(crate) fn total(&self, swept: &Swept, measure: &Measure) -> u128
-        ensures { result ≡ total_in measure.now (seen swept.now self.now) }
+    /// A measure added over all rows.
+    pub(crate) fn total(&self, snapshots: &Snapshots, measure: &Measure) -> u128
+        ensures total { result ≡ sum_by (λ entry. measured measure.now entry.1) (finite.entries (seen snapshots.now self.now)) }
+        ensures few { (most : ℕ) → ((row : List Cell) → measured measure.now row ≤ most) → result ≤ (2 ^ 64 - 2) * most }
     {
-        let mut before = 0u128;
-        let mut after = 0u128;
-        for (key, row) in &self.own {
-            before += u128::from(measure.of_row(&swept.snapshots().row(*key, self.begin)));
-            after += u128::from(measure.of_row(row));
+        snapshots.index.total_beside(&self.own, self.begin, measure) + self.own_total(measure)
+    }
+
+    fn own_total(&self, measure: &Measure) -> u128
+        ensures total { result ≡ sum_by (measured_row measure.now) (tree.values self.now.own) }
+        ensures few { (most : ℕ) → ((row : List Cell) → measured measure.now row ≤ most) → result ≤ (2 ^ 63 - 1) * most }
+        ensures low { result ≤ (2 ^ 63 - 1) * (2 ^ 64 - 1) }
+        ensures ordered { tree.IsOrdered nat_cmp self.now.own }
+    {
+        let mut total = 0u128;
+        for row in self.own.values() {
+            total += u128::from(measure.of_row(row));
         }
-        swept.total(measure, self.begin) - before + after
+        total
     }
 }

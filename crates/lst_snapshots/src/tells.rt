@@ -7,49 +7,49 @@ ghost use Rattle.lst_snapshots.specs.Told.{rise, is_row, is_holding};
 
 use crate::measures::{Measure, cell};
 use crate::sight::Sight;
-use crate::swept::Swept;
+use crate::snapshots::Snapshots;
 use lst_model::{Key, Row};
 
 impl Sight {
     /// Whether these are the keys with their rows, by rising key. It takes no memory.
-    pub fn tells_rows(&self, swept: &Swept, rows: &[(Key, Row)]) -> bool
-        ensures { IsTrue result ↔ (rows.now ≡ scan_of (seen swept.now self.now)) }
+    pub fn tells_rows(&self, snapshots: &Snapshots, rows: &[(Key, Row)]) -> bool
+        ensures { IsTrue result ↔ (rows.now ≡ scan_of (seen snapshots.now self.now)) }
     {
-        if rows.len() as u128 != self.count(swept) {
+        if rows.len() as u64 != self.count(snapshots) {
             return false;
         }
         if !rows_rise(rows) {
             return false;
         }
-        self.has_rows(swept, rows)
+        self.has_rows(snapshots, rows)
     }
 
     /// Whether these are the keys, rising, of the rows whose cell in the column, counted from 0, is this number. It takes
     /// no memory.
-    pub fn tells_keys(&self, swept: &Swept, keys: &[Key], column: u32, value: u64) -> bool
-        ensures { IsTrue result ↔ (keys.now ≡ find_of (seen swept.now self.now) column value) }
+    pub fn tells_keys(&self, snapshots: &Snapshots, keys: &[Key], column: u32, value: u64) -> bool
+        ensures { IsTrue result ↔ (keys.now ≡ find_of (seen snapshots.now self.now) column value) }
     {
         let holding = Measure::Holding { column, value };
-        if keys.len() as u128 != self.total(swept, &holding) {
+        if keys.len() as u128 != self.total(snapshots, &holding) {
             return false;
         }
         if !keys_rise(keys) {
             return false;
         }
-        self.has_holders(swept, keys, column, value)
+        self.has_holders(snapshots, keys, column, value)
     }
 
-    fn has_rows(&self, swept: &Swept, rows: &[(Key, Row)]) -> bool
-        ensures { result ≡ list_all (λ entry. is_row (row_of (seen swept.now self.now) entry.0) entry.1) rows.now }
+    fn has_rows(&self, snapshots: &Snapshots, rows: &[(Key, Row)]) -> bool
+        ensures { result ≡ list_all (λ entry. is_row (row_of (seen snapshots.now self.now) entry.0) entry.1) rows.now }
     {
         rows.iter()
-            .all(|(key, row)| is_row(&self.row(swept.snapshots(), *key), row))
+            .all(|(key, row)| is_row(&self.row(snapshots, *key), row))
     }
 
-    fn has_holders(&self, swept: &Swept, keys: &[Key], column: u32, value: u64) -> bool
-        ensures { result ≡ list_all (λ key. is_holding (row_of (seen swept.now self.now) key) column value) keys.now }
+    fn has_holders(&self, snapshots: &Snapshots, keys: &[Key], column: u32, value: u64) -> bool
+        ensures { result ≡ list_all (λ key. is_holding (row_of (seen snapshots.now self.now) key) column value) keys.now }
     {
-        keys.iter().all(|key| is_holding(&self.row(swept.snapshots(), *key), column, value))
+        keys.iter().all(|key| is_holding(&self.row(snapshots, *key), column, value))
     }
 }
 
