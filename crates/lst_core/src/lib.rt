@@ -10,7 +10,6 @@ mod drawn_tests;
 mod numbers;
 #[cfg(test)]
 mod plain;
-mod postings;
 mod probes;
 mod reads;
 #[cfg(test)]

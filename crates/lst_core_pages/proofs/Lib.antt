@@ -1,4 +1,10 @@
-pub mod Spares
+pub mod Functions
+pub mod Lists
+pub mod Keeps
+pub mod Moves
+pub mod Starts
+pub mod Safety
+pub mod Tellings
 pub mod Steppings
 pub mod Readings
 pub mod Settlings

@@ -1,8 +1,6 @@
 pub mod Cells
 pub mod Index
-pub mod Pages
 pub mod State
-pub mod Postings
 pub mod Facts
 pub mod Step
 pub mod Sound

@@ -1,4 +1,3 @@
-pub mod Actions
 pub mod Rule
 pub mod Learned
 pub mod Seats
@@ -6,6 +5,3 @@ pub mod Stores
 pub mod Surveys
 pub mod Operations
 pub mod Statuses
-pub mod Joins
-pub mod PageSteps
-pub mod Runs

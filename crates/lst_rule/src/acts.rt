@@ -9,7 +9,6 @@ ghost use Rattle.lst_rule.specs.Operations.{IsStore, IsExchange, IsDraw, IsLatch
 ghost use Rattle.lst_rule.specs.Seats.{told};
 ghost use Rattle.lst_rule.specs.Stores.{IsSeatOf};
 
-use crate::actions::Action;
 use crate::seat::Seat;
 use crate::store::Store;
 use crate::{add_one, compare_exchange, set_lowest_bit, store_word};
@@ -34,13 +33,7 @@ pub(crate) fn store_event(store: &Store, seat: &mut Seat, s: u32, event: Event, 
     let now = seat.numbers(s, event);
     let word = target(&store.layout, now, event) as usize;
     let new = written(&store.layout.limits, now, time, event, 0);
-    store_word(
-        &store.table.shared,
-        &mut seat.place,
-        Action::Core(event),
-        word,
-        new,
-    );
+    store_word(&store.table.shared, &mut seat.place, event, word, new);
     advance(&store.layout, &mut seat.numbers[s as usize], event, 0);
 }
 
@@ -61,14 +54,7 @@ pub(crate) fn exchange_event(store: &Store, seat: &mut Seat, s: u32, event: Even
     let now = seat.numbers(s, event);
     let word = target(&store.layout, now, event) as usize;
     let new = written(&store.layout.limits, now, 0, event, 0);
-    let found = compare_exchange(
-        &store.table.shared,
-        &mut seat.place,
-        Action::Core(event),
-        word,
-        0,
-        new,
-    );
+    let found = compare_exchange(&store.table.shared, &mut seat.place, event, word, 0, new);
     advance(&store.layout, &mut seat.numbers[s as usize], event, found);
     found
 }
@@ -89,12 +75,7 @@ pub(crate) fn draw_event(store: &Store, seat: &mut Seat, s: u32, event: Event) -
 {
     let now = seat.numbers(s, event);
     let word = target(&store.layout, now, event) as usize;
-    let found = add_one(
-        &store.table.shared,
-        &mut seat.place,
-        Action::Core(event),
-        word,
-    );
+    let found = add_one(&store.table.shared, &mut seat.place, event, word);
     advance(&store.layout, &mut seat.numbers[s as usize], event, found);
     found
 }
@@ -115,12 +96,7 @@ pub(crate) fn latch_event(store: &Store, seat: &mut Seat, s: u32, event: Event) 
 {
     let now = seat.numbers(s, event);
     let word = target(&store.layout, now, event) as usize;
-    let found = set_lowest_bit(
-        &store.table.shared,
-        &mut seat.place,
-        Action::Core(event),
-        word,
-    );
+    let found = set_lowest_bit(&store.table.shared, &mut seat.place, event, word);
     advance(&store.layout, &mut seat.numbers[s as usize], event, found);
     found
 }

@@ -6,7 +6,6 @@ ghost use Rattle.lst_rule.specs.Rule.{hosts};
 ghost use Rattle.lst_rule.specs.Operations.{IsQuiet};
 ghost use Rattle.lst_rule.specs.Stores.{IsSeatOf, Looked, Clocked};
 
-use crate::actions::Action;
 use crate::load_word;
 use crate::seat::Seat;
 use crate::store::Store;
@@ -37,7 +36,7 @@ pub(crate) fn load_quietly(
     load_word(
         &store.table.shared,
         &mut seat.place,
-        Action::Core(event),
+        event,
         address as usize,
     )
 }
@@ -58,7 +57,7 @@ pub(crate) fn load_noted(store: &Store, seat: &mut Seat, s: u32, place: Place, a
     let found = load_word(
         &store.table.shared,
         &mut seat.place,
-        Action::Core(event),
+        event,
         address as usize,
     );
     look(

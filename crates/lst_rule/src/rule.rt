@@ -1,7 +1,6 @@
 //! The rule of the table, and what each operation on a word tells.
+ghost use Rattle.lst_core_state.specs.declared.events.Event.{Event};
 ghost use Rattle.lst_core_state.specs.declared.events.Event.TheVariants.{Look};
-ghost use Rattle.lst_rule.specs.declared.actions.Action.{Action};
-ghost use Rattle.lst_rule.specs.declared.actions.Action.TheVariants.{Core};
 ghost use Rattle.lst_rule.specs.Rule.{Ruled, crew, loaded, stored, exchanged, added, bits_set};
 
 use crate::view::View;
@@ -9,7 +8,7 @@ use atomic_table::{Play, TableRule};
 use lst_layout::Limits;
 use std::marker::{Brand, PhantomData};
 
-/// The words and the views of all seats show a sound state of the core and of pages.
+/// The words and the views of all seats show a sound state of the core.
 pub struct StoreRule;
 
 impl TableRule<(), View, Limits> for StoreRule {
@@ -18,13 +17,13 @@ impl TableRule<(), View, Limits> for StoreRule {
     ghost first = { crew };
 }
 
-/// What a step is.
+/// The event that a step is.
 pub trait Means {
-    ghost action: { Action };
+    ghost event: { Event };
 }
 
 impl Means for Brand {
-    ghost action = { Core (Look 0 0) };
+    ghost event = { Look 0 0 };
 }
 
 /// A load.
@@ -33,7 +32,7 @@ pub struct Loads<E> {
 }
 
 impl<E: Means> Play<(), View> for Loads<E> {
-    ghost then = { loaded E.action };
+    ghost then = { loaded E.event };
 }
 
 /// A store.
@@ -42,7 +41,7 @@ pub struct Stores<E> {
 }
 
 impl<E: Means> Play<(), View> for Stores<E> {
-    ghost then = { stored E.action };
+    ghost then = { stored E.event };
 }
 
 /// An exchange of one number for another.
@@ -51,7 +50,7 @@ pub struct Exchanges<E> {
 }
 
 impl<E: Means> Play<(), View> for Exchanges<E> {
-    ghost then = { exchanged E.action };
+    ghost then = { exchanged E.event };
 }
 
 /// An addition.
@@ -60,7 +59,7 @@ pub struct Adds<E> {
 }
 
 impl<E: Means> Play<(), View> for Adds<E> {
-    ghost then = { added E.action };
+    ghost then = { added E.event };
 }
 
 /// Bits that are set.
@@ -69,5 +68,5 @@ pub struct SetsBits<E> {
 }
 
 impl<E: Means> Play<(), View> for SetsBits<E> {
-    ghost then = { bits_set E.action };
+    ghost then = { bits_set E.event };
 }
