@@ -10,7 +10,7 @@ mod runs;
 use lst_layout::{Layout, Limits};
 use lst_seat::open_store;
 use reports::{Task, reports};
-use runs::{clocks, finds, heads, turns};
+use runs::{clocks, finds, head_runs, heads, time_runs, turns};
 use std::alloc::Global;
 use std::io;
 
@@ -48,6 +48,8 @@ fn seated(alloc: Global, layout: &Layout, kind: &str, count: u32) -> Option<u64>
         "clocks" => clocks(&store, &mut seat, count),
         "finds" => finds(&store, &mut seat, count),
         "heads" => heads(&store, &mut seat, count),
+        "head_runs" => head_runs(&store, &mut seat, count),
+        "time_runs" => time_runs(&store, &mut seat, count),
         "turns" => turns(&store, &mut seat, count) as u64,
         _ => 0,
     })

@@ -4,7 +4,7 @@ ghost use Rattle.lst_rule.specs.Rule.{knows};
 ghost use Rattle.lst_bench.specs.Seated.{Stays, Rests};
 
 use lst_index::{find, place};
-use lst_rule::{Seat, Store, load_clock, load_head};
+use lst_rule::{Seat, Store, load_clock, load_head, load_heads, load_times};
 use lst_txn::{begin, close};
 
 /// Loads the indirection words of all records in turn, and adds them up.
@@ -19,6 +19,41 @@ pub fn heads(store: &Store, seat: &mut Seat, count: u32) -> u64
     while turn < count {
         sum = sum.wrapping_add(load_head(store, seat, 0, rec));
         rec = if rec + 1 < records { rec + 1 } else { 0 };
+        turn += 1;
+    }
+    sum
+}
+
+/// Loads the indirection words of all ranges in turn, 256 in one call, and adds up one of each call.
+pub fn head_runs(store: &Store, seat: &mut Seat, count: u32) -> u64
+    requires { Stays store.now seat.old }
+    ensures { Stays store.now seat.new }
+{
+    let ranges = store.layout().limits.ranges;
+    let mut out = [0; 256];
+    let mut sum = 0u64;
+    let mut range = 0;
+    let mut turn = 0;
+    while turn < count {
+        load_heads(store, seat, 0, range, &mut out);
+        sum = sum.wrapping_add(out[(turn % 256) as usize]);
+        range = if range + 1 < ranges { range + 1 } else { 0 };
+        turn += 1;
+    }
+    sum
+}
+
+/// Loads the time words of the first frame, 256 in one call, and adds up one of each call.
+pub fn time_runs(store: &Store, seat: &mut Seat, count: u32) -> u64
+    requires { Stays store.now seat.old }
+    ensures { Stays store.now seat.new }
+{
+    let mut out = [0; 256];
+    let mut sum = 0u64;
+    let mut turn = 0;
+    while turn < count {
+        load_times(store, seat, 0, 0, &mut out);
+        sum = sum.wrapping_add(out[(turn % 256) as usize]);
         turn += 1;
     }
     sum

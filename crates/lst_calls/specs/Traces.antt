@@ -21,7 +21,8 @@ use Rattle.lst_txn.specs.Transactions.{Commits}
 use Rattle.lst_write.specs.Holding.{Latches, FindsLatched}
 use Rattle.lst_write.specs.Judgements.{HasJudged, FaultIs}
 use Rattle.lst_write.specs.declared.judgement.JudgeFault.TheVariants as fault
-use Rattle.lst_write.specs.Appending.{Appends, FindsFull, InstallsHeld}
+use Rattle.lst_second.specs.Posting.{Posts, AllPosted}
+use Rattle.lst_write.specs.Appending.{Appends, HasWhole, FindsFull, InstallsHeld}
 use Rattle.lst_walk.specs.Walks.{IsRowOf}
 use Rattle.lst_calls.specs.declared.kinds.WriteRefusal.{WriteRefusal}
 use Rattle.lst_calls.specs.declared.kinds.WriteRefusal.TheVariants.{Idle, ReadOnly, Missing, Exists, TableFull, Latched, Newer, Unfinished, TailFull}
@@ -106,12 +107,16 @@ pub record Judges (v w : View) (s rec head key : ℕ) (act : Act) (result : Resu
   pub judged : HasJudged w.limits (knows w s) s rec head
   pub agrees : AgreesWith act (row_from None (sight (knows w s) key)) result
 
--- and a tail holds it
+-- a tail holds it, and is posted
 pub record Prepared (v w : View) (s rec head key : ℕ) (act : Act) (n : ℕ) : Type 0 where
   pub between : View
   pub possible : Possible between
   pub judges : Judges v between s rec head key act (Ok tt)
-  pub appends : Appends between w s rec head n act
+  pub appended : View
+  pub appends : Appends between appended s rec head n act
+  pub posts : Posts appended w s
+  pub whole : HasWhole w.limits (knows w s) s rec head n act
+  pub posted : AllPosted w.limits (knows w s)
 
 -- or no tail is left
 pub record FoundTailsFull (v w : View) (s rec head key : ℕ) (act : Act) : Type 0 where

@@ -15,6 +15,7 @@ use crate::kinds::WriteRefusal;
 use lst_index::{find, place};
 use lst_model::{Act, Key};
 use lst_rule::{RecordId, Seat, Store};
+use lst_second::post_all;
 use lst_walk::row;
 use lst_write::{JudgeFault, append, install, judge, latch, release};
 
@@ -61,7 +62,7 @@ fn misfit(act: &Act) -> WriteRefusal
     }
 }
 
-/// Makes a tail with the act, which is then in hand, where the session may write it on a record whose latch it has.
+/// Makes a tail with the act, which is then in hand and posted, where the session may write it on a record whose latch it has.
 fn prepare(
     store: &Store,
     seat: &mut Seat,
@@ -94,7 +95,10 @@ fn prepare(
     }
     seat.consider();
     match append(store, seat, s, rec, head, act) {
-        Ok(tail) => Ok(tail),
+        Ok(tail) => {
+            post_all(store, seat, s);
+            Ok(tail)
+        }
         Err(_) => Err(WriteRefusal::TailFull),
     }
 }

@@ -4,6 +4,7 @@ pub mod Found
 pub mod Chaining
 pub mod Walking
 pub mod Probing
+pub mod ValueRuns
 pub mod Drafting
 pub mod Standing
 pub mod Stepping

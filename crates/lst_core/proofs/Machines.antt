@@ -11,7 +11,7 @@ use Rattle.lst_layout.specs.Words.{Words, shown, word_at, with_word, IsShown}
 use Rattle.lst_layout.proofs.Places.{at}
 use Rattle.lst_layout.proofs.Shown.{areas_are_shown}
 use Rattle.lst_core_state.specs.declared.events.Event.{Event}
-use Rattle.lst_core_state.specs.declared.events.Event.TheVariants.{Look, Begin, Take, Log, State, Clock, Give, Close, DrawRecord, StoreKey, Claim, Latch, DrawTail, StoreCell, Install, Release, Stamp}
+use Rattle.lst_core_state.specs.declared.events.Event.TheVariants.{Look, Begin, Take, Log, State, Clock, Give, Close, DrawRecord, StoreKey, Claim, Latch, DrawTail, StoreCell, Install, Release, Stamp, Post}
 use Rattle.lst_core_state.specs.declared.known.Known.{Known}
 use Rattle.lst_core_state.specs.State.{Core, newcomer}
 use Rattle.lst_core_state.specs.Step as step
@@ -129,6 +129,7 @@ module _ (m : Cells) (wide : length m.words ≡ words_of m.limits) (all : length
   merges (Install j) inside is = absurd (let h : j < L.sessions = inside in omega arith)
   merges (Release j) inside is = absurd (let h : j < L.sessions = inside in omega arith)
   merges (Stamp j range n) inside is = absurd (let h = inside.0 in omega arith)
+  merges (Post j column q) inside is = absurd (let h = inside.0 in omega arith)
 
   merger_steps : s ≡ L.sessions → Holds (stepped m (time_for L W e) e) (after_merger c e)
   merger_steps is = let k : v ≡ merger = merger_known is in let q : Merges e = merges e within is in

@@ -11,7 +11,7 @@ use Rattle.lst_layout.specs.Addresses as layout
 use Rattle.lst_layout.specs.Addresses.{address, place_of}
 use Rattle.lst_layout.specs.Words.{Words, shown, word_at}
 use Rattle.lst_core_state.specs.declared.events.Event.{Event}
-use Rattle.lst_core_state.specs.declared.events.Event.TheVariants.{Look, Begin, Take, Log, State, Clock, Give, Close, DrawRecord, StoreKey, Claim, Latch, DrawTail, StoreCell, Install, Release, Stamp}
+use Rattle.lst_core_state.specs.declared.events.Event.TheVariants.{Look, Begin, Take, Log, State, Clock, Give, Close, DrawRecord, StoreKey, Claim, Latch, DrawTail, StoreCell, Install, Release, Stamp, Post}
 use Rattle.lst_core_state.specs.declared.known.Known.{Known}
 use Rattle.lst_core_state.specs.Cells.{range_of, tail_at}
 use Rattle.lst_core_state.specs.State.{Core, newcomer, history_of, writes_of, line, back_in, head_of}
@@ -58,6 +58,7 @@ module _ (l : Limits) (n : Numbers) where
   merger_plain (Install s) inside is = absurd (let h : s < l.sessions = inside in omega arith)
   merger_plain (Release s) inside is = absurd (let h : s < l.sessions = inside in omega arith)
   merger_plain (Stamp s range t) inside is = (tt, tt)
+  merger_plain (Post s column q) inside is = (tt, tt)
 
   idle_look : (x : ℕ) (p : Place) → IsIdle n → IsIdle (numbers_look l x n p)
   idle_look x ClockWord i = record { number = i.number; latch = i.latch }
@@ -99,6 +100,7 @@ module _ (l : Limits) (n : Numbers) where
   merger_idle (Install s) x inside is i = absurd (let h : s < l.sessions = inside in omega arith)
   merger_idle (Release s) x inside is i = absurd (let h : s < l.sessions = inside in omega arith)
   merger_idle (Stamp s range t) x inside is i = absurd (let h = inside.0 in omega arith)
+  merger_idle (Post s column q) x inside is i = absurd (let h = inside.0 in omega arith)
 
 stampable : (l : Limits) (w : Words) (v : Known) (e : Event) → Stands l w v e → IsStampable w l e
 stampable l w v (Look s a) h = tt
@@ -118,6 +120,7 @@ stampable l w v (StoreCell s p x) h = tt
 stampable l w v (Install s) h = tt
 stampable l w v (Release s) h = tt
 stampable l w v (Stamp s range n) h = h
+stampable l w v (Post s column q) h = tt
 
 time_low : (w : Words) (l : Limits) (e : Event) → IsStampable w l e → time_for l w e ≤ w.clock
 time_low w l (Look s a) h = omega arith
@@ -137,6 +140,7 @@ time_low w l (StoreCell s p x) h = omega arith
 time_low w l (Install s) h = omega arith
 time_low w l (Release s) h = omega arith
 time_low w l (Stamp s range n) h = let a = h.1 in let b = h.2 in omega arith
+time_low w l (Post s column q) h = omega arith
 
 -- ---- the step
 

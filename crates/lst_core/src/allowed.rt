@@ -1,8 +1,9 @@
 //! Whether the words allow a step.
 ghost use Rattle.std.specs.Prelude.{◌≡◌, ◌+◌, ◌-◌, ◌*◌, ◌<◌, ◌≤◌, ◌^◌, length, ◌↔◌, IsTrue};
-ghost use Rattle.lst_layout.specs.Areas.{words_of};
+ghost use Rattle.lst_layout.specs.Areas.{IsIndexed, words_of};
 ghost use Rattle.lst_layout.specs.Words.{shown};
 ghost use Rattle.lst_core_state.specs.Step as step;
+ghost use Rattle.lst_core_state.specs.Postings.{IsPut, IsPostable};
 ghost use Rattle.lst_core_state.specs.Step.{session_of};
 ghost use Rattle.lst_core_state.specs.Numbers as spec;
 ghost use Rattle.lst_core_state.specs.Targets.{time_for};
@@ -10,6 +11,8 @@ ghost use Rattle.lst_core.specs.Reading.{IsRead, IsTold, StandsIn, IsHeld, IsWho
 
 use crate::chains::{has_row, is_committed, is_judged, state_of, writer};
 use crate::drafts::{is_cell, is_of};
+use crate::postings;
+use crate::postings::{are_posted, has_number, is_position, is_posted};
 use crate::probes::{is_placed, reaches};
 use crate::reads::cell;
 use lst_core_state::{Event, Hold, Numbers};
@@ -54,6 +57,11 @@ pub fn session_of(event: Event) -> u32
             session,
             range: _,
             number: _,
+        }
+        | Event::Post {
+            session,
+            column: _,
+            position: _,
         } => session,
     }
 }
@@ -88,6 +96,13 @@ pub fn is_within(layout: &Layout, event: Event) -> bool
                 && 0 < number
                 && number <= limits.tails
         }
+        Event::Post {
+            session,
+            column,
+            position,
+        } => {
+            session < limits.sessions && column < limits.columns && is_position(layout, position)
+        }
         _ => session < limits.sessions,
     }
 }
@@ -110,6 +125,28 @@ fn is_drafted(layout: &Layout, words: &[u64], hold: Hold) -> bool
     } else {
         present
     }
+}
+
+/// Whether the tail in hand leads to the head that was found, and its columns are posted.
+fn is_installable(layout: &Layout, words: &[u64], hold: Hold) -> bool
+    requires told { IsHeld layout.now.limits words.now hold }
+    ensures { IsTrue result ↔ IsPut layout.now.limits (shown layout.now.limits words.now) hold }
+{
+    cell(layout, words, hold.tail, 2) == hold.head
+        && are_posted(layout, words, hold.latch - 1, hold.tail)
+}
+
+/// Whether the tail in hand holds the column with a number, isn't posted there yet, and no position of its run before this one is empty.
+fn is_postable(layout: &Layout, words: &[u64], hold: Hold, column: u32, position: u32) -> bool
+    requires told { IsHeld layout.now.limits words.now hold }
+    requires column { column < layout.now.limits.columns }
+    requires indexed { IsIndexed layout.now.limits column }
+    ensures { IsTrue result ↔ IsPostable layout.now.limits (shown layout.now.limits words.now) hold column position }
+{
+    let value = cell(layout, words, hold.tail, 3 + column);
+    has_number(cell(layout, words, hold.tail, 1), column)
+        && postings::reaches(layout, words, column, value, position)
+        && !is_posted(layout, words, column, hold.latch - 1, value)
 }
 
 /// Whether the words allow a step that the session's numbers allow.
@@ -137,12 +174,17 @@ pub(crate) fn stands(layout: &Layout, words: &[u64], now: &Numbers, event: Event
             place,
             value: _,
         } => place != 0 || is_drafted(layout, words, now.hold),
-        Event::Install { session: _ } => cell(layout, words, now.hold.tail, 2) == now.hold.head,
+        Event::Install { session: _ } => is_installable(layout, words, now.hold),
         Event::Stamp {
             session: _,
             range,
             number,
         } => is_committed(layout, words, range * layout.limits.tails + number),
+        Event::Post {
+            session: _,
+            column,
+            position,
+        } => is_postable(layout, words, now.hold, column, position),
         _ => true,
     }
 }

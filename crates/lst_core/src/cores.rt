@@ -43,7 +43,6 @@ impl Model for Core {
 impl Core {
     /// The core of a store that opens. Its memory is taken here.
     pub fn new(alloc: Global, layout: &Layout) -> Result<Core, OutOfMemory>
-        requires { layout.now.limits.indexed ≡ 0 }
         ensures limits { IfOk result (λ core. core.limits ≡ layout.now.limits) }
         ensures opens { IfOk result (λ core. Holds core (opening layout.now.limits)) }
     {

@@ -1,7 +1,5 @@
 //! Drawn steps, against a plain recomputation.
-ghost use Rattle.std.specs.Prelude.{◌≡◌};
-
-use crate::plain::{POSITIONS, Plain, SESSIONS, TAILS, at};
+use crate::plain::{POSITIONS, POSTINGS, Plain, SESSIONS, TAILS, at};
 use crate::{Core, Event};
 use lst_layout::{Layout, Limits, Place};
 use lst_model::OutOfMemory;
@@ -66,7 +64,7 @@ impl Drawer {
 
     /// Any step, which mostly may not be made.
     fn draw_any(&mut self, session: u32, clock: u64, words: u64) -> Event {
-        match self.draw(17) {
+        match self.draw(18) {
             0 => Event::Look {
                 session,
                 address: self.draw(words),
@@ -106,10 +104,15 @@ impl Drawer {
             },
             14 => Event::Install { session },
             15 => Event::Release { session },
-            _ => Event::Stamp {
+            16 => Event::Stamp {
                 session,
                 range: 0,
                 number: self.pick(TAILS + 2),
+            },
+            _ => Event::Post {
+                session,
+                column: self.pick(3),
+                position: self.pick(POSTINGS + 1),
             },
         }
     }
@@ -200,7 +203,7 @@ impl Drawer {
             };
         };
         match (seat.tail, seat.is_whole, seat.may_draw_tail) {
-            (Some(_), true, _) => Event::Install { session },
+            (Some(tail), true, _) => self.draw_end(plain, session, tail),
             (Some(tail), false, _) => self.draw_word(plain, session, rec, tail),
             (None, _, may) => match self.draw(5) {
                 0 => Event::Release { session },
@@ -210,6 +213,30 @@ impl Drawer {
                     address: layout.tail_counters(0),
                 },
             },
+        }
+    }
+
+    /// A step that posts the whole tail in hand, or installs it.
+    fn draw_end(&mut self, plain: &Plain, session: u32, tail: u64) -> Event {
+        match (plain.unposted(tail), self.draw(9)) {
+            (_, 0 | 1) => self.draw_post(plain, session, tail),
+            (Some((column, position)), 2..8) => Event::Post {
+                session,
+                column,
+                position: (position % POSTINGS) as u32,
+            },
+            _ => Event::Install { session },
+        }
+    }
+
+    /// A post that mostly may not be made: where the value's run ends, just before, or just past that, in a column that is due or not.
+    fn draw_post(&mut self, plain: &Plain, session: u32, tail: u64) -> Event {
+        let column = self.pick(2);
+        let before = plain.posting_end(tail, column).wrapping_add(POSTINGS - 1);
+        Event::Post {
+            session,
+            column,
+            position: (before.wrapping_add(self.draw(3)) % POSTINGS) as u32,
         }
     }
 
@@ -233,7 +260,7 @@ impl Drawer {
             2 => seat.head.wrapping_add((self.draw(12) == 0) as u64),
             3 if numbers & 1 == 0 => (self.draw(9) == 0) as u64,
             4 if numbers & 2 == 0 => (self.draw(9) == 0) as u64,
-            _ => self.draw(99),
+            _ => self.draw(3),
         };
         Event::StoreCell {
             session,
@@ -261,13 +288,15 @@ impl Drawer {
     }
 }
 
-/// What some drawn steps came to: how many could be made, the commits, the stored tails with null columns, and the first step
-/// that differs, if any.
+/// What some drawn steps came to: how many could be made, the commits, the stored tails with null columns, the postings, the posts
+/// that couldn't be made, and the first step that differs, if any.
 #[derive(Clone, Copy)]
 struct Outcome {
     made: u64,
     commits: u64,
     null_tails: u64,
+    posted: u64,
+    refused: u64,
     differs: Option<u64>,
 }
 
@@ -302,20 +331,22 @@ fn is_same(layout: &Layout, core: &Core, plain: &Plain) -> bool {
 }
 
 /// Steps drawn from a seed, on a core and on a recomputation.
-fn run(alloc: Global, layout: &Layout, seed: u64, count: u64) -> Result<Outcome, OutOfMemory>
-    requires { layout.now.limits.indexed ≡ 0 }
-{
+fn run(alloc: Global, layout: &Layout, seed: u64, count: u64) -> Result<Outcome, OutOfMemory> {
     let mut core = Core::new(alloc, layout)?;
-    let mut plain = Plain::new();
+    let limits = &layout.limits;
+    let mut plain = Plain::new([limits.is_indexed(0), limits.is_indexed(1)]);
     let mut drawer = Drawer { seed };
     let mut made = 0u64;
+    let mut refused = 0u64;
     let mut differs = None;
     for i in 0..count {
         let event = drawer.draw_event(&plain, layout);
         let wanted = plain.step(event, place_of(layout, event));
         let found = step(&mut core, event);
-        if found.is_some() {
-            made = made.wrapping_add(1);
+        match (found, event) {
+            (Some(_), _) => made = made.wrapping_add(1),
+            (None, Event::Post { .. }) => refused = refused.wrapping_add(1),
+            _ => (),
         }
         // All words are looked up now and then, since a step changes one at most.
         let is_due = i % 16 == 15;
@@ -328,28 +359,50 @@ fn run(alloc: Global, layout: &Layout, seed: u64, count: u64) -> Result<Outcome,
         made,
         commits: plain.clock,
         null_tails: plain.null_tails(),
+        posted: plain.posted(),
+        refused,
         differs,
     })
 }
 
-#[test]
-fn drawn_steps_find_what_a_plain_recomputation_finds(rt: HostRuntime) -> Result<(), Fail> {
-    let Ok(layout) = SMALL.check() else {
+/// What drawn steps came to, from some seeds, in a store with these indexed columns.
+fn run_all(alloc: Global, indexed: u8) -> Result<Outcome, Fail> {
+    let limits = Limits { indexed, ..SMALL };
+    let Ok(layout) = limits.check() else {
         return Err(Fail::from("the small limits are in range"));
     };
-    let mut made = 0u64;
-    let mut commits = 0u64;
-    let mut null_tails = 0u64;
-    for seed in 1..11u64 {
-        let outcome = run(rt.alloc(), &layout, seed, 496)?;
-        assert_eq!(rt; outcome.differs, None);
-        made = made.wrapping_add(outcome.made);
-        commits = commits.wrapping_add(outcome.commits);
-        null_tails = null_tails.wrapping_add(outcome.null_tails);
+    let mut all = Outcome {
+        made: 0,
+        commits: 0,
+        null_tails: 0,
+        posted: 0,
+        refused: 0,
+        differs: None,
+    };
+    for seed in 1..6u64 {
+        let outcome = run(alloc, &layout, seed, 496)?;
+        all.made = all.made.wrapping_add(outcome.made);
+        all.commits = all.commits.wrapping_add(outcome.commits);
+        all.null_tails = all.null_tails.wrapping_add(outcome.null_tails);
+        all.posted = all.posted.wrapping_add(outcome.posted);
+        all.refused = all.refused.wrapping_add(outcome.refused);
+        all.differs = all.differs.or(outcome.differs);
     }
-    // Steps of both kinds were drawn, and transactions came to their end.
-    assert!(rt; made > 1000 && made < 4900);
-    assert!(rt; commits > 10);
-    assert!(rt; null_tails > 5);
+    Ok(all)
+}
+
+#[test]
+fn drawn_steps_find_what_a_plain_recomputation_finds(rt: HostRuntime) -> Result<(), Fail> {
+    // No column is indexed, one is, and both are. Each tail has at most one posting in an indexed column.
+    for (indexed, least, most) in [(0, 0, 0), (2, 15, 40), (3, 30, 80)] {
+        let all = run_all(rt.alloc(), indexed)?;
+        assert_eq!(rt; all.differs, None);
+        // Of all 2480 steps, some that may be made and some that may not were drawn, and transactions came to their end.
+        assert!(rt; all.made > 1200 && all.made < 1700);
+        assert!(rt; all.commits > 9);
+        assert!(rt; all.null_tails > 5);
+        assert!(rt; all.posted >= least && all.posted <= most);
+        assert!(rt; all.refused > 40);
+    }
     Ok(())
 }

@@ -10,6 +10,7 @@ mod drawn_tests;
 mod numbers;
 #[cfg(test)]
 mod plain;
+mod postings;
 mod probes;
 mod reads;
 #[cfg(test)]

@@ -74,6 +74,11 @@ pub fn allows(limits: &Limits, now: &Numbers, event: Event) -> bool
         } => allows_word(limits, now, session, place, value),
         Event::Install { session: _ } => now.hold.is_whole,
         Event::Release { session: _ } => now.hold.latch > 0 && now.hold.tail == 0,
+        Event::Post {
+            session: _,
+            column,
+            position: _,
+        } => now.hold.is_whole && limits.is_indexed(column),
     }
 }
 

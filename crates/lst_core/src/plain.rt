@@ -14,6 +14,9 @@ pub(crate) const RECORDS: u64 = 256;
 
 pub(crate) const POSITIONS: u64 = 512;
 
+/// Positions of one column's postings.
+pub(crate) const POSTINGS: u64 = 16;
+
 /// What the recomputation keeps of a session, and of the merger.
 #[derive(Clone, Copy)]
 pub(crate) struct Seat {
@@ -124,11 +127,13 @@ pub(crate) struct Plain {
     pub(crate) index: [u64; POSITIONS as usize],
     pub(crate) heads: [u64; RECORDS as usize],
     pub(crate) cells: [u64; 128],
+    pub(crate) postings: [u64; 32],
+    pub(crate) indexed: [bool; 2],
     pub(crate) seats: [Seat; 3],
 }
 
 impl Plain {
-    pub(crate) fn new() -> Plain {
+    pub(crate) fn new(indexed: [bool; 2]) -> Plain {
         Plain {
             clock: 0,
             turn: 0,
@@ -141,6 +146,8 @@ impl Plain {
             index: [0; POSITIONS as usize],
             heads: [0; RECORDS as usize],
             cells: [0; 128],
+            postings: [0; 32],
+            indexed,
             seats: [NOBODY; 3],
         }
     }
@@ -202,11 +209,8 @@ impl Plain {
             Place::DirectoryWord { range, column } => range as u64 * 2 + column as u64,
             Place::EpochWord
             | Place::FrameWord { frame: _, place: _ }
-            | Place::PinWord { session: _ }
-            | Place::PostingWord {
-                column: _,
-                position: _,
-            } => 0,
+            | Place::PinWord { session: _ } => 0,
+            Place::PostingWord { column, position } => self.posting(column, position as u64),
         }
     }
 
@@ -301,6 +305,74 @@ impl Plain {
             && (numbers & 2 == 2 || self.cell(tail, 4) == 0)
     }
 
+    fn posting(&self, column: u32, position: u64) -> u64 {
+        at(&self.postings, Plain::posting_place(column, position))
+    }
+
+    fn posting_place(column: u32, position: u64) -> u64 {
+        (column % 2) as u64 * POSTINGS + position % POSTINGS
+    }
+
+    fn value(&self, tail: u64, column: u32) -> u64 {
+        self.cell(tail, 3 + column % 2)
+    }
+
+    /// Whether the column is indexed, and the tail sets it to a number.
+    fn is_due(&self, tail: u64, column: u32) -> bool {
+        let encoding = self.cell(tail, 1);
+        let numbers = encoding & !(encoding >> 24);
+        let is_number = if column == 0 {
+            numbers & 1 == 1
+        } else {
+            numbers & 2 == 2
+        };
+        is_number && self.indexed.get(column as usize) == Some(&true)
+    }
+
+    /// How far the run of the tail's value goes: to a tail of its record with the value, or to an empty position.
+    fn turns(&self, tail: u64, column: u32) -> u64 {
+        let value = self.value(tail, column);
+        let slot = self.cell(tail, 1) / 65536 % 256;
+        let first = start(value, 4) as u64;
+        for turn in 0..POSTINGS {
+            let other = self.posting(column, first + turn);
+            let is_alike = self.cell(other, 1) / 65536 % 256 == slot
+                && self.value(other, column) == value;
+            if other == 0 || is_alike {
+                return turn;
+            }
+        }
+        POSTINGS
+    }
+
+    /// Where the run of the tail's value ends.
+    pub(crate) fn posting_end(&self, tail: u64, column: u32) -> u64 {
+        let first = start(self.value(tail, column), 4) as u64;
+        (first + self.turns(tail, column) % POSTINGS) % POSTINGS
+    }
+
+    /// A column that has to be posted yet.
+    pub(crate) fn unposted(&self, tail: u64) -> Option<(u32, u64)> {
+        for column in 0..2u32 {
+            let position = self.posting_end(tail, column);
+            if self.is_due(tail, column) && self.posting(column, position) == 0 {
+                return Some((column, position));
+            }
+        }
+        None
+    }
+
+    /// How many postings there are.
+    pub(crate) fn posted(&self) -> u64 {
+        let mut count = 0u64;
+        for word in self.postings {
+            if word != 0 {
+                count = count.wrapping_add(1);
+            }
+        }
+        count
+    }
+
     /// How many stored tails have a null column.
     pub(crate) fn null_tails(&self) -> u64 {
         let mut count = 0u64;
@@ -336,6 +408,11 @@ impl Plain {
                 range,
                 number,
             } => session < inside && range < 1 && number > 0 && (number as u64) <= TAILS,
+            Event::Post {
+                session,
+                column,
+                position,
+            } => { session < inside && column < 2 && (position as u64) < POSTINGS }
             other => crate::session_of(other) < inside,
         }
     }
@@ -377,6 +454,11 @@ impl Plain {
                 range: _,
                 number,
             } => self.stamp(number as u64),
+            Event::Post {
+                session,
+                column,
+                position,
+            } => self.post(session, column, position as u64),
         }
     }
 
@@ -609,13 +691,35 @@ impl Plain {
         let mut seat = self.seat(session);
         let rec = seat.latch?;
         let tail = seat.tail?;
-        if !seat.is_whole || self.cell(tail, 2) != seat.head {
+        if !seat.is_whole || self.cell(tail, 2) != seat.head || self.unposted(tail).is_some() {
             return None;
         }
         seat.let_go();
         seat.has_writes = true;
         self.sit(session, seat);
         Some(put(&mut self.heads, rec, (tail % 16) * 2))
+    }
+
+    fn post(&mut self, session: u32, column: u32, position: u64) -> Option<u64> {
+        let seat = self.seat(session);
+        let tail = seat.tail?;
+        let end = self.posting_end(tail, column);
+        if !seat.is_whole || !self.is_due(tail, column) || self.posting(column, end) != 0 {
+            return None;
+        }
+        let first = start(self.value(tail, column), 4) as u64;
+        if (POSTINGS + position % POSTINGS - first) % POSTINGS > self.turns(tail, column) {
+            return None;
+        }
+        let found = self.posting(column, position);
+        if found == 0 {
+            put(
+                &mut self.postings,
+                Plain::posting_place(column, position),
+                tail,
+            );
+        }
+        Some(found)
     }
 
     fn release(&mut self, session: u32) -> Option<u64> {

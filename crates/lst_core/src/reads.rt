@@ -3,7 +3,7 @@ ghost use Rattle.std.specs.Prelude.{◌≡◌, ◌+◌, ◌-◌, ◌*◌, ◌/�
 ghost use Rattle.lst_layout.specs.Addresses as addresses;
 ghost use Rattle.lst_layout.specs.Areas.{words_of};
 ghost use Rattle.lst_layout.specs.Words.{shown};
-ghost use Rattle.lst_layout.specs.declared.place.Place.TheVariants.{LogWord, StateWord, KeyWord, IndexWord, HeadWord, CellWord};
+ghost use Rattle.lst_layout.specs.declared.place.Place.TheVariants.{LogWord, StateWord, KeyWord, IndexWord, HeadWord, CellWord, PostingWord};
 ghost use Rattle.lst_core_state.specs.Cells.{tail_count};
 ghost use Rattle.lst_core_state.specs.State.{writer_at, state_at};
 ghost use Rattle.lst_core_state.specs.Step.{IsCommitted};
@@ -71,4 +71,13 @@ pub(crate) fn cell(layout: &Layout, words: &[u64], tail: u32, place: u32) -> u64
     ensures { result ≡ (shown layout.now.limits words.now).cells tail place }
 {
     words[layout.cell_address(tail, place) as usize]
+}
+
+/// The word at a position of a column's postings.
+pub(crate) fn posting(layout: &Layout, words: &[u64], column: u32, position: u32) -> u64
+    requires wide { length words.now ≡ words_of layout.now.limits }
+    requires place { addresses.IsWithin layout.now.limits (PostingWord column position) }
+    ensures { result ≡ (shown layout.now.limits words.now).postings column position }
+{
+    words[layout.postings(column, position) as usize]
 }

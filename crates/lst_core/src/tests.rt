@@ -97,20 +97,30 @@ fn placing(layout: &Layout) -> [(Event, Option<u64>); 9] {
 }
 
 /// Its tail: a put of both columns at slot 0, whose start word comes last.
-fn writing(layout: &Layout) -> [(Event, Option<u64>); 10] {
+fn drafting(layout: &Layout) -> [(Event, Option<u64>); 8] {
     [
         (look(0, layout.tail_counters(0)), Some(0)),
         (DRAW_TAIL, Some(0)),
         (store(0, 33), None),
         (store(1, 3 + 256), Some(0)),
         (store(2, 0), Some(0)),
-        (store(3, 10), Some(0)),
+        (store(3, VALUE), Some(0)),
         (store(4, 20), Some(0)),
         (Event::Install { session: 0 }, None),
-        (store(0, 33), Some(0)),
-        (Event::Install { session: 0 }, Some(1)),
     ]
 }
+
+const WHOLE: [(Event, Option<u64>); 2] = [
+    (
+        Event::StoreCell {
+            session: 0,
+            place: 0,
+            value: 33,
+        },
+        Some(0),
+    ),
+    (Event::Install { session: 0 }, Some(1)),
+];
 
 /// Its commit at time 1, after which another session stamps the tail.
 fn committing(layout: &Layout) -> [(Event, Option<u64>); 10] {
@@ -126,6 +136,67 @@ fn committing(layout: &Layout) -> [(Event, Option<u64>); 10] {
         (STAMP, Some(33)),
         (look(2, layout.clock()), Some(1)),
     ]
+}
+
+fn post(column: u32, position: u32) -> Event {
+    Event::Post {
+        session: 0,
+        column,
+        position,
+    }
+}
+
+/// The number of column 0 in the tails of the first record.
+const VALUE: u64 = 10;
+
+/// A put whose number in column 0, which is indexed, is posted before the install.
+fn posting() -> [(Event, Option<u64>); 7] {
+    let first = start(VALUE, 2);
+    [
+        (store(0, 33), Some(0)),
+        (Event::Install { session: 0 }, None),
+        // An empty position isn't passed, and column 1 isn't indexed.
+        (post(0, first ^ 1), None),
+        (post(1, first), None),
+        (post(0, first), Some(0)),
+        (post(0, first), None),
+        (Event::Install { session: 0 }, Some(1)),
+    ]
+}
+
+/// A set of the same record's column 0 to the same number, which is posted already.
+fn setting(layout: &Layout) -> [(Event, Option<u64>); 11] {
+    let first = start(VALUE, 2);
+    [
+        (LATCH, Some(2)),
+        (look(0, layout.tail_counters(0)), Some(1)),
+        (DRAW_TAIL, Some(1)),
+        (store(1, 1 + 512), Some(0)),
+        (store(2, 1), Some(0)),
+        (store(3, VALUE), Some(0)),
+        (store(4, 0), Some(0)),
+        (store(0, 33), Some(0)),
+        (post(0, first ^ 1), None),
+        (post(0, first), None),
+        (Event::Install { session: 0 }, Some(3)),
+    ]
+}
+
+#[test]
+fn tails_of_a_record_with_one_number_have_one_posting(rt: HostRuntime) -> Result<(), Fail> {
+    let limits = Limits {
+        indexed: 1,
+        ..SMALL
+    };
+    let Ok(layout) = limits.check() else {
+        return Err(Fail::from("the small limits are in range"));
+    };
+    let mut core = Core::new(rt.alloc(), &layout)?;
+    assert_eq!(rt; first_wrong(&mut core, &placing(&layout)), None);
+    assert_eq!(rt; first_wrong(&mut core, &drafting(&layout)), None);
+    assert_eq!(rt; first_wrong(&mut core, &posting()), None);
+    assert_eq!(rt; first_wrong(&mut core, &setting(&layout)), None);
+    Ok(())
 }
 
 #[test]
@@ -148,7 +219,8 @@ fn a_put_is_committed_in_single_steps(rt: HostRuntime) -> Result<(), Fail> {
     };
     let mut core = Core::new(rt.alloc(), &layout)?;
     assert_eq!(rt; first_wrong(&mut core, &placing(&layout)), None);
-    assert_eq!(rt; first_wrong(&mut core, &writing(&layout)), None);
+    assert_eq!(rt; first_wrong(&mut core, &drafting(&layout)), None);
+    assert_eq!(rt; first_wrong(&mut core, &WHOLE), None);
     assert_eq!(rt; first_wrong(&mut core, &committing(&layout)), None);
     Ok(())
 }

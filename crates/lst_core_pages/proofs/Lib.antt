@@ -1,10 +1,4 @@
-pub mod Functions
-pub mod Lists
-pub mod Keeps
-pub mod Moves
-pub mod Starts
-pub mod Safety
-pub mod Tellings
+pub mod Spares
 pub mod Steppings
 pub mod Readings
 pub mod Settlings

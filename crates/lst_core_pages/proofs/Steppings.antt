@@ -13,21 +13,21 @@ use Rattle.lst_layout.specs.Words.{Words, word_at, shown, IsShown}
 use Rattle.lst_layout.proofs.Functions.{put_here, put_else, put_in_other}
 use Rattle.lst_layout.proofs.Shown.{areas_are_shown}
 use Rattle.lst_pages.specs.declared.tails.PageTail.{PageTail}
-use Rattle.lst_core_pages.specs.declared.events.PageEvent.{PageEvent}
-use Rattle.lst_core_pages.specs.declared.events.PageEvent.TheVariants.{Pin, Unpin, LookPage, LookPin, StoreFrame, Swap, Raise}
+use Rattle.lst_page_state.specs.declared.events.PageEvent.{PageEvent}
+use Rattle.lst_page_state.specs.declared.events.PageEvent.TheVariants.{Pin, Unpin, LookPage, LookPin, StoreFrame, Swap, Raise}
 use Rattle.lst_core_pages.specs.declared.hands.PageId.{PageId}
-use Rattle.lst_core_pages.specs.declared.known.PageInHand.{PageInHand}
-use Rattle.lst_core_pages.specs.declared.known.SessionFrames.{SessionFrames}
-use Rattle.lst_core_pages.specs.Lists.{rest, listed}
-use Rattle.lst_core_pages.specs.State.{Pages, empty_hand, oldest_epoch, frame_in}
-use Rattle.lst_core_pages.specs.Step.{IsWithin, Enabled, lets_go, place_of, with_page, page_at, words_after, after, settled}
-use Rattle.lst_core_pages.specs.Numbers.{written_of}
-use Rattle.lst_core_pages.specs.Sound.{Sound}
+use Rattle.lst_core_state.specs.declared.pages.PageInHand.{PageInHand}
+use Rattle.lst_core_state.specs.declared.pages.SessionFrames.{SessionFrames}
+use Rattle.lst_page_state.specs.Lists.{rest, listed}
+use Rattle.lst_page_state.specs.State.{Pages, empty_hand, oldest_epoch, frame_in}
+use Rattle.lst_page_state.specs.Step.{IsWithin, Enabled, lets_go, place_of, with_page, page_at, words_after, after, settled}
+use Rattle.lst_page_state.specs.Numbers.{written_of}
+use Rattle.lst_page_state.specs.Sound.{Sound}
 use Rattle.lst_core_pages.specs.Cells.{Cells, page_of, filled, hand_at, reader_of, state_of, pages_of, unheld, IsCore, page_id, hand_in, found_in, numbers_in, hands_after, queue_after, stepped, settled_in}
-use Rattle.lst_core_pages.proofs.Functions.{rows-put}
-use Rattle.lst_core_pages.proofs.Safety.{keeps, sound_safe}
-use Rattle.lst_core_pages.proofs.Keeps.{settle_keeps}
-use Rattle.lst_core_pages.proofs.Tellings.{words_law}
+use Rattle.lst_page_state.proofs.Functions.{rows-put}
+use Rattle.lst_page_state.proofs.Safety.{keeps, sound_safe}
+use Rattle.lst_page_state.proofs.Keeps.{settle_keeps}
+use Rattle.lst_page_state.proofs.Tellings.{words_law}
 
 -- ---- hands
 
@@ -178,7 +178,7 @@ module _ (c : Cells) (is : IsCore c) where
   told (LookPin s) within ok = choose (lets_go (w.pins s) (oldest_epoch c.queue.retired))
     where
       choose : (b : Bool) → state_of L w c.hands c.tails (cond b (record c.queue { clear = slice_set c.queue.clear s true }) c.queue)
-          ≡ unheld (record P { merger = cond b (record P.merger { clear = slice_set P.merger.clear s true }) (record P.merger { held = P.merger.held ++ s ∷ [] }) })
+          ≡ unheld (record P { merger = cond b (record P.merger { clear = slice_set P.merger.clear s true; let_go = P.merger.let_go ++ s ∷ [] }) (record P.merger { held = P.merger.held ++ s ∷ [] }) })
       choose true = refl
       choose false = refl
   told (StoreFrame f n y) within ok = λ i. record {

@@ -6,19 +6,19 @@ use Rattle.lst_layout.specs.Addresses.{address}
 use Rattle.lst_layout.specs.Areas.{page_count, frame_count, words_of, directory_start}
 use Rattle.lst_layout.specs.Words.{Words, shown}
 use Rattle.lst_pages.specs.declared.tails.PageTail.{PageTail}
-use Rattle.lst_core_pages.specs.declared.events.PageEvent.{PageEvent}
-use Rattle.lst_core_pages.specs.declared.events.PageEvent.TheVariants.{Pin, Unpin, LookPage, LookPin, StoreFrame, Swap, Raise}
-use Rattle.lst_core_pages.specs.declared.known.PageInHand.{PageInHand}
-use Rattle.lst_core_pages.specs.declared.known.SessionFrames.{SessionFrames}
-use Rattle.lst_core_pages.specs.declared.known.Retired.{Retired}
-use Rattle.lst_core_pages.specs.declared.known.MergerFrames.{MergerFrames}
+use Rattle.lst_page_state.specs.declared.events.PageEvent.{PageEvent}
+use Rattle.lst_page_state.specs.declared.events.PageEvent.TheVariants.{Pin, Unpin, LookPage, LookPin, StoreFrame, Swap, Raise}
+use Rattle.lst_core_state.specs.declared.pages.PageInHand.{PageInHand}
+use Rattle.lst_core_state.specs.declared.pages.SessionFrames.{SessionFrames}
+use Rattle.lst_core_state.specs.declared.pages.Retired.{Retired}
+use Rattle.lst_core_state.specs.declared.pages.MergerFrames.{MergerFrames}
 use Rattle.lst_core_pages.specs.declared.hands.PageId.{PageId}
-use Rattle.lst_core_pages.specs.declared.numbers.MergerNumbers.{MergerNumbers}
-use Rattle.lst_core_pages.specs.Lists.{rest, listed, rows_of}
-use Rattle.lst_core_pages.specs.State.{Pages, empty_hand, nobody_clear, oldest_epoch, retired_at, spares, frame_in}
-use Rattle.lst_core_pages.specs.Step.{lets_go, place_of}
-use Rattle.lst_core_pages.specs.Numbers.{written_of}
-use Rattle.lst_core_pages.specs.Sound.{Sound}
+use Rattle.lst_page_state.specs.declared.numbers.MergerNumbers.{MergerNumbers}
+use Rattle.lst_page_state.specs.Lists.{rest, listed, rows_of}
+use Rattle.lst_page_state.specs.State.{Pages, empty_hand, nobody_clear, oldest_epoch, retired_at, spares, frame_in}
+use Rattle.lst_page_state.specs.Step.{lets_go, place_of}
+use Rattle.lst_page_state.specs.Numbers.{written_of}
+use Rattle.lst_page_state.specs.Sound.{Sound}
 
 -- the retired frames, oldest first, and how far the oldest is on its way to be used again
 pub record Queue : Type 0 where
@@ -67,6 +67,7 @@ merger_of l w q = record {
   waiting = q.waiting;
   built = q.built;
   held = [];
+  let_go = [];
 }
 
 abbrev pub state_of : Limits → Words → List (List (Option PageId)) → List (List PageTail) → Queue → Pages
@@ -77,7 +78,7 @@ pages_of c = state_of c.limits (shown c.limits c.row) c.hands c.tails c.queue
 
 -- a state but for the merger's finds, which cells do not keep
 abbrev pub unheld : Pages → Pages
-unheld p = record p { merger = record p.merger { held = [] } }
+unheld p = record p { merger = record p.merger { held = []; let_go = [] } }
 
 pub record IsCore (c : Cells) : Type 0 where
   pub wide : length c.row ≡ words_of c.limits

@@ -2,8 +2,8 @@
 ghost use Rattle.std.specs.Prelude.{◌≡◌, ◌<◌, ◌+◌, Some, None, length, replicate, slice_set, slice_index_or, IfOk};
 ghost use Rattle.lst_core_pages.specs.Cells as spec;
 
-use crate::events::PageEvent;
 use lst_model::OutOfMemory;
+use lst_page_state::PageEvent;
 use std::alloc::Global;
 use std::marker::Model;
 

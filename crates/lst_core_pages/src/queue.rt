@@ -2,15 +2,14 @@
 ghost use Rattle.std.specs.Prelude.{◌≡◌, ◌<◌, ◌≤◌, ◌+◌, ◌^◌, ◌↔◌, ℕ, IfOk, IsTrue, Some, None, true, false, length, slice_index_or, replicate};
 ghost use Rattle.lst_layout.specs.Limits.{IsValid};
 ghost use Rattle.lst_core_pages.specs.Cells as spec;
-ghost use Rattle.lst_core_pages.specs.Lists.{HasFirst};
-ghost use Rattle.lst_core_pages.specs.State as state;
+ghost use Rattle.lst_page_state.specs.Lists.{HasFirst};
+ghost use Rattle.lst_page_state.specs.State as state;
 
-use crate::events::PageEvent;
-use crate::known::Retired;
-use crate::numbers::lets_go;
 use arrayvec::ArrayVec;
+use lst_core_state::Retired;
 use lst_layout::Limits;
 use lst_model::OutOfMemory;
+use lst_page_state::{PageEvent, lets_go};
 use std::alloc::Global;
 use std::marker::Model;
 
@@ -115,7 +114,7 @@ impl FrameQueue {
 }
 
 /// This many frames from one on, each retired at epoch 0.
-#[tactic(auto, using(crate::proofs::Starts::spares_more, crate::proofs::Starts::spares_long))]
+#[tactic(auto, using(crate::proofs::Spares::spares_more, crate::proofs::Spares::spares_long))]
 fn spares(first: u32, count: u32) -> ArrayVec<Retired, 64>
     requires few { count ≤ 64 }
     requires low { first + count < 2 ^ 32 }

@@ -3,7 +3,7 @@ use Rattle.std.proofs.Common.{◌≡◌, ℕ, ◌+◌, ◌-◌, ◌*◌, ◌<◌
 use Rattle.lst_layout.specs.declared.limits.Limits.{Limits}
 use Rattle.lst_layout.specs.Limits.{IsValid}
 use Rattle.lst_core_state.specs.declared.events.Event.{Event}
-use Rattle.lst_core_state.specs.declared.events.Event.TheVariants.{Look, Begin, Take, Log, State, Clock, Give, Close, DrawRecord, StoreKey, Claim, Latch, DrawTail, StoreCell, Install, Release, Stamp}
+use Rattle.lst_core_state.specs.declared.events.Event.TheVariants.{Look, Begin, Take, Log, State, Clock, Give, Close, DrawRecord, StoreKey, Claim, Latch, DrawTail, StoreCell, Install, Release, Stamp, Post}
 use Rattle.lst_core_state.specs.Cells.{tail_count, range_of}
 use Rattle.lst_core_state.specs.declared.numbers.Numbers.{Numbers}
 use Rattle.lst_core_state.specs.Numbers.{Allows}
@@ -27,6 +27,7 @@ begin_fits l n (StoreCell s p x) ok = tt
 begin_fits l n (Install s) ok = tt
 begin_fits l n (Release s) ok = tt
 begin_fits l n (Stamp s range t) ok = tt
+begin_fits l n (Post s column q) ok = tt
 
 pub tail_fits : (l : Limits) (n : Numbers) (e : Event) → Allows l n e → (n.hold.is_whole ≡ true → (range_of (n.hold.latch - 1) * l.tails < n.hold.tail) × (n.hold.tail ≤ range_of (n.hold.latch - 1) * l.tails + l.tails) × (0 < n.hold.latch)) → TailFits l n e
 tail_fits l n (Look s a) ok h = tt
@@ -46,6 +47,7 @@ tail_fits l n (StoreCell s p x) ok h = tt
 tail_fits l n (Install s) ok h = h ok
 tail_fits l n (Release s) ok h = tt
 tail_fits l n (Stamp s range t) ok h = tt
+tail_fits l n (Post s column q) ok h = tt
 
 pub head_fits : (l : Limits) (n : Numbers) (e : Event) → Allows l n e → (0 < n.hold.latch → n.hold.head < 2 ^ 32) → HeadFits n e
 head_fits l n (Look s a) ok h = tt
@@ -65,6 +67,7 @@ head_fits l n (StoreCell s p x) ok h = tt
 head_fits l n (Install s) ok h = tt
 head_fits l n (Release s) ok h = h ok.0
 head_fits l n (Stamp s range t) ok h = tt
+head_fits l n (Post s column q) ok h = tt
 
 pub rows_few : (l : Limits) → IsValid l → l.sessions * l.txns < 2 ^ 32
 rows_few l sized = let a = sized.sessions.1 in let b = sized.txns.1 in let h : l.sessions * l.txns ≤ 16 * 65535 = mul-le-mul a b in omega arith

@@ -7,13 +7,13 @@ use Rattle.lst_layout.specs.Functions.{put}
 use Rattle.lst_core_state.specs.declared.known.Known.{Known}
 use Rattle.lst_core_state.specs.declared.known.Counter.{Counter}
 use Rattle.lst_core_state.specs.declared.events.Event.{Event}
-use Rattle.lst_core_state.specs.declared.events.Event.TheVariants.{Look, Begin, Take, Log, State, Clock, Give, Close, DrawRecord, StoreKey, Claim, Latch, DrawTail, StoreCell, Install, Release, Stamp}
+use Rattle.lst_core_state.specs.declared.events.Event.TheVariants.{Look, Begin, Take, Log, State, Clock, Give, Close, DrawRecord, StoreKey, Claim, Latch, DrawTail, StoreCell, Install, Release, Stamp, Post}
 use Rattle.lst_layout.specs.declared.place.Place.{Place}
 use Rattle.lst_layout.specs.declared.place.Place.TheVariants.{ClockWord, CommitWord, EpochWord, RecordCounter, LogWord, BeginWord, StateWord, KeyWord, IndexWord, HeadWord, TailCounter, CellWord, DirectoryWord, FrameWord, PinWord, PostingWord}
 use Rattle.lst_core_state.specs.Cells.{record_count}
 use Rattle.lst_core_state.specs.State.{Words, Core, counter_of, no_counter}
 use Rattle.lst_layout.specs.Addresses.{place_of}
-use Rattle.lst_core_state.specs.Step.{session_of, Enabled, words_after, known_after, look_at, served, spent, drawn_full, gives_up, given_up, took, held_off, record_drawn, records_full, claimed, claim_lost, latched, latch_lost, tail_drawn, tails_full, cell_started, word_stored}
+use Rattle.lst_core_state.specs.Step.{session_of, Enabled, words_after, known_after, look_at, served, spent, drawn_full, gives_up, given_up, took, held_off, record_drawn, records_full, claimed, claim_lost, latched, latch_lost, tail_drawn, tails_full, cell_started, word_stored, posted, post_lost}
 use Rattle.lst_core_state.specs.Sound.{Counted, TailsCounted, HasCounters, Sound}
 use Rattle.lst_core_state.proofs.Functions.{either, each_put, put_here, put_else}
 use Rattle.lst_core_state.proofs.Counters.{along, counted_alike, counted_look, counted_draw, counted_full}
@@ -102,3 +102,4 @@ module _ (c : Core) (sound : Sound c) where
   counts_keep (Install s) low ok = same s (known_after L w (K s) (Install s)) refl
   counts_keep (Release s) low ok = same s (known_after L w (K s) (Release s)) refl
   counts_keep (Stamp s range n) low ok = same s (K s) refl
+  counts_keep (Post s column q) low ok = either (Parts w.counts s) (eqb (w.postings column q) 0) (posted (K s) column q) (post_lost w (K s) column q) (λ _. same s (posted (K s) column q) refl) (λ _. same s (post_lost w (K s) column q) refl)

@@ -7,7 +7,7 @@ use Rattle.lst_model.specs.declared.commits.Commit.{Commit}
 use Rattle.lst_core_state.specs.Writes.{commit}
 use Rattle.lst_core_state.specs.declared.known.Known.{Known}
 use Rattle.lst_core_state.specs.declared.events.Event.{Event}
-use Rattle.lst_core_state.specs.declared.events.Event.TheVariants.{Look, Begin, Take, Log, State, Clock, Give, Close, DrawRecord, StoreKey, Claim, Latch, DrawTail, StoreCell, Install, Release, Stamp}
+use Rattle.lst_core_state.specs.declared.events.Event.TheVariants.{Look, Begin, Take, Log, State, Clock, Give, Close, DrawRecord, StoreKey, Claim, Latch, DrawTail, StoreCell, Install, Release, Stamp, Post}
 use Rattle.lst_core_state.specs.State.{Words, Core, entry, writer_at, state_at, name_of, history_of, writes_of}
 use Rattle.lst_core_state.specs.Step.{session_of, Enabled, Stands, words_after}
 use Rattle.lst_core_state.specs.Sound.{Sound}
@@ -85,3 +85,4 @@ module _ (c : Core) (sound : Sound c) where
   decodes (Release s) low ok stands = nothing_more H
   decodes (Stamp s range n) low ok stands = let x : ℕ = range * L.tails + n in same_log (Stamp s range n) low ok stands refl (λ _ _ _. refl) (λ _ _ _. refl)
       (λ u t p q z. inl (put_in_off w.cells x 0 (2 * (state_at w x - 1)) t 0 (λ e. let some = stands.0 in let same : w.cells t 0 ≡ w.cells x 0 = ap (λ (y : ℕ). w.cells y 0) e in omega arith) ∙ z))
+  decodes (Post s column q) low ok stands = nothing_more H

@@ -10,14 +10,14 @@ use Rattle.lst_core_state.specs.declared.known.Known.{Known}
 use Rattle.lst_core_state.specs.declared.facts.Fact.{Fact}
 use Rattle.lst_core_state.specs.declared.facts.Fact.TheVariants.{IndexAt, StateAt, CellIs, ChainEnds, CommitAt, RecordsAtLeast, TailsAtLeast, EpochAtLeast, PostAt}
 use Rattle.lst_core_state.specs.declared.events.Event.{Event}
-use Rattle.lst_core_state.specs.declared.events.Event.TheVariants.{Look, Begin, Take, Log, State, Clock, Give, Close, DrawRecord, StoreKey, Claim, Latch, DrawTail, StoreCell, Install, Release, Stamp}
+use Rattle.lst_core_state.specs.declared.events.Event.TheVariants.{Look, Begin, Take, Log, State, Clock, Give, Close, DrawRecord, StoreKey, Claim, Latch, DrawTail, StoreCell, Install, Release, Stamp, Post}
 use Rattle.lst_layout.specs.declared.place.Place.{Place}
 use Rattle.lst_layout.specs.declared.place.Place.TheVariants.{ClockWord, CommitWord, EpochWord, RecordCounter, LogWord, BeginWord, StateWord, KeyWord, IndexWord, HeadWord, TailCounter, CellWord, DirectoryWord, FrameWord, PinWord, PostingWord}
 use Rattle.lst_core_state.specs.Cells.{record_count}
 use Rattle.lst_core_state.specs.Index.{size}
 use Rattle.lst_core_state.specs.State.{Words, Core, line, name_of}
 use Rattle.lst_core_state.specs.Facts.{IsFact, index_fact, index_below, index_facts, state_fact, cell_fact, stored_fact, commit_fact, cell_facts, chain_facts, post_fact}
-use Rattle.lst_core_state.specs.Step.{session_of, IsWithin, Enabled, Stands, words_after, known_after, look_at, gives_up, given_up, took, held_off, record_drawn, records_full, claimed, claim_lost, latched, latch_lost, tail_drawn, tails_full, cell_started, word_stored}
+use Rattle.lst_core_state.specs.Step.{session_of, IsWithin, Enabled, Stands, words_after, known_after, look_at, gives_up, given_up, took, held_off, record_drawn, records_full, claimed, claim_lost, latched, latch_lost, tail_drawn, tails_full, cell_started, word_stored, posted, post_lost}
 use Rattle.lst_core_state.specs.Sound.{FactsOf, Sound}
 use Rattle.lst_core_state.proofs.Functions.{either, each_put, put_here, put_else, put_in_else}
 use Rattle.lst_core_state.proofs.Positions.{placed_holds}
@@ -29,6 +29,7 @@ use Rattle.lst_core_state.proofs.Steps.{values_same}
 use Rattle.lst_core_state.proofs.CellsKept.{put_in_here}
 use Rattle.lst_core_state.proofs.FitPart.{keys_kept}
 use Rattle.lst_core_state.proofs.ListedPart.{contains_one}
+use Rattle.lst_core_state.proofs.PostingsKept.{exchanged_stays, exchanged_here}
 use Rattle.lst_core_state.proofs.Steady.{steady, chains_grow}
 
 -- the words that only ever change in one way
@@ -151,6 +152,7 @@ module _ (c : Core) (sound : Sound c) where
   later (Install s) low ok = record { index = λ _ _. refl; states = λ _ _. inl refl; counter = omega arith; counts = λ _. omega arith; epoch = omega arith; clock = omega arith; log = λ _ _ _. refl; postings = λ _ _ _. refl }
   later (Release s) low ok = record { index = λ _ _. refl; states = λ _ _. inl refl; counter = omega arith; counts = λ _. omega arith; epoch = omega arith; clock = omega arith; log = λ _ _ _. refl; postings = λ _ _ _. refl }
   later (Stamp s range n) low ok = record { index = λ _ _. refl; states = λ _ _. inl refl; counter = omega arith; counts = λ _. omega arith; epoch = omega arith; clock = omega arith; log = λ _ _ _. refl; postings = λ _ _ _. refl }
+  later (Post s column q) low ok = record { index = λ _ _. refl; states = λ _ _. inl refl; counter = omega arith; counts = λ _. omega arith; epoch = omega arith; clock = omega arith; log = λ _ _ _. refl; postings = λ other p some. exchanged_stays w.postings column q (K s).hold.tail other p some }
 
   -- an enabled step leaves each fact
   pub fact_stays : (e : Event) → session_of e < L.sessions → Enabled L (K (session_of e)) e → Stands L w (K (session_of e)) e → (f : Fact) → IsFact L w f → IsFact L (words_after L w (K (session_of e)) e) f
@@ -239,6 +241,10 @@ module _ (c : Core) (sound : Sound c) where
   new_facts (Install s) low within ok stands old = old
   new_facts (Release s) low within ok stands old = old
   new_facts (Stamp s range n) low within ok stands old = old
+  new_facts (Post s column q) low within ok stands old = let w' : Words = words_after L w (K s) (Post s column q) in let held = (sound.versions.hands s low).some ok.0 in
+      either (λ (u : Known). FactsOf L w' u.facts) (eqb (w.postings column q) 0) (posted (K s) column q) (post_lost w (K s) column q)
+      (λ e. more_facts L w' (K s).facts (PostAt column q (K s).hold.tail ∷ []) old (one_fact L w' (PostAt column q (K s).hold.tail) (held, exchanged_here w.postings column q (K s).hold.tail (eqb-true (w.postings column q) 0 e))))
+      (λ _. more_facts L w' (K s).facts (post_fact w column q) old (facts_stay (Post s column q) low ok stands (post_fact w column q) (post_facts L w column q)))
 
   pub facts_keep : (e : Event) → session_of e < L.sessions → IsWithin L e → Enabled L (K (session_of e)) e → Stands L w (K (session_of e)) e → (j : ℕ) → j < L.sessions → FactsOf L (words_after L w (K (session_of e)) e) (put K (session_of e) (known_after L w (K (session_of e)) e) j).facts
   facts_keep e low within ok stands = each_put (λ (j : ℕ) (u : Known). j < L.sessions → FactsOf L (words_after L w (K (session_of e)) e) u.facts) K (session_of e) (known_after L w (K (session_of e)) e)

@@ -9,14 +9,14 @@ use Rattle.lst_model.specs.Histories.{acts_on, all_acts_on}
 use Rattle.lst_core_state.specs.declared.known.Known.{Known}
 use Rattle.lst_core_state.specs.declared.known.Hold.{Hold}
 use Rattle.lst_core_state.specs.declared.events.Event.{Event}
-use Rattle.lst_core_state.specs.declared.events.Event.TheVariants.{Look, Begin, Take, Log, State, Clock, Give, Close, DrawRecord, StoreKey, Claim, Latch, DrawTail, StoreCell, Install, Release, Stamp}
+use Rattle.lst_core_state.specs.declared.events.Event.TheVariants.{Look, Begin, Take, Log, State, Clock, Give, Close, DrawRecord, StoreKey, Claim, Latch, DrawTail, StoreCell, Install, Release, Stamp, Post}
 use Rattle.lst_layout.specs.declared.place.Place.{Place}
 use Rattle.lst_layout.specs.declared.place.Place.TheVariants.{ClockWord, CommitWord, EpochWord, RecordCounter, LogWord, BeginWord, StateWord, KeyWord, IndexWord, HeadWord, TailCounter, CellWord, DirectoryWord, FrameWord, PinWord, PostingWord}
 use Rattle.lst_core_state.specs.Cells.{record_count}
 use Rattle.lst_core_state.specs.Index.{is_placed}
 use Rattle.lst_core_state.specs.State.{Words, Core, rank, act_in, history_of, sight, FitsAfter}
 use Rattle.lst_layout.specs.Addresses.{place_of}
-use Rattle.lst_core_state.specs.Step.{session_of, Enabled, Stands, words_after, known_after, look_at, gives_up, given_up, took, held_off, record_drawn, records_full, claimed, claim_lost, latched, latch_lost, tail_drawn, tails_full, cell_started, word_stored}
+use Rattle.lst_core_state.specs.Step.{session_of, Enabled, Stands, words_after, known_after, look_at, gives_up, given_up, took, held_off, record_drawn, records_full, claimed, claim_lost, latched, latch_lost, tail_drawn, tails_full, cell_started, word_stored, posted, post_lost}
 use Rattle.lst_core_state.specs.Sound.{Fit, FitsOf, Sound}
 use Rattle.lst_core_state.proofs.Functions.{either, each_put}
 use Rattle.lst_core_state.proofs.Steps.{act_same}
@@ -52,6 +52,7 @@ module _ (c : Core) (sound : Sound c) where
   keys_kept (Install s) low ok r is = refl
   keys_kept (Release s) low ok r is = refl
   keys_kept (Stamp s range n) low ok r is = refl
+  keys_kept (Post s column q) low ok r is = refl
 
   -- a whole tail in hand is stored, and its record is in the index
   pub whole_stored : (j : ℕ) → j < L.sessions → (K j).hold.is_whole ≡ true → (0 < w.cells (K j).hold.tail 0) × (is_placed L w.index ((K j).hold.latch - 1) ≡ true) × (rank (K j).turn ≡ 0) × ((K j).is_open ≡ true) × (0 < (K j).hold.latch)
@@ -142,3 +143,5 @@ module _ (c : Core) (sound : Sound c) where
   fit_keeps (Install s) low ok stands = fit_none (Install s) low ok stands (known_after L w (K s) (Install s)) (λ e. true≢false (sym e))
   fit_keeps (Release s) low ok stands = fit_none (Release s) low ok stands (known_after L w (K s) (Release s)) (λ e. true≢false (sym e))
   fit_keeps (Stamp s range n) low ok stands = fit_same (Stamp s range n) low ok stands (K s) refl (λ _. refl)
+  fit_keeps (Post s column q) low ok stands = either (λ (u : Known). Fit L (words_after L w (K s) (Post s column q)) (put K s u)) (eqb (w.postings column q) 0) (posted (K s) column q) (post_lost w (K s) column q)
+      (λ _. fit_same (Post s column q) low ok stands (posted (K s) column q) refl (λ _. refl)) (λ _. fit_same (Post s column q) low ok stands (post_lost w (K s) column q) refl (λ _. refl))

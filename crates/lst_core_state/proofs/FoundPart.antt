@@ -15,13 +15,13 @@ use Rattle.lst_core_state.specs.declared.known.Looks.{Looks}
 use Rattle.lst_core_state.specs.declared.facts.Find.{Find}
 use Rattle.lst_core_state.specs.declared.facts.Find.TheVariants.{LatchedRecord, FreshClock, FreshEpoch, UnfinishedVersion, HeldTurn, FullRecords, FullTails, CountedTails, EmptyStart, TailLoad}
 use Rattle.lst_core_state.specs.declared.events.Event.{Event}
-use Rattle.lst_core_state.specs.declared.events.Event.TheVariants.{Look, Begin, Take, Log, State, Clock, Give, Close, DrawRecord, StoreKey, Claim, Latch, DrawTail, StoreCell, Install, Release, Stamp}
+use Rattle.lst_core_state.specs.declared.events.Event.TheVariants.{Look, Begin, Take, Log, State, Clock, Give, Close, DrawRecord, StoreKey, Claim, Latch, DrawTail, StoreCell, Install, Release, Stamp, Post}
 use Rattle.lst_layout.specs.declared.place.Place.{Place}
 use Rattle.lst_layout.specs.declared.place.Place.TheVariants.{ClockWord, CommitWord, EpochWord, RecordCounter, LogWord, BeginWord, StateWord, KeyWord, IndexWord, HeadWord, TailCounter, CellWord, DirectoryWord, FrameWord, PinWord, PostingWord}
 use Rattle.lst_core_state.specs.Cells.{record_count}
 use Rattle.lst_core_state.specs.State.{Words, Core, entry, name_of, writer_at, line, record_in}
 use Rattle.lst_core_state.specs.Facts.{Wrote, WroteOf, UnloggedUntil, IsFind, unfinished, active_find, early_find}
-use Rattle.lst_core_state.specs.Step.{session_of, IsWithin, Enabled, words_after, known_after, look_at, gives_up, given_up, if_full, took, held_off, record_drawn, records_full, claimed, claim_lost, latched, latch_lost, tail_drawn, tails_full, cell_started, word_stored}
+use Rattle.lst_core_state.specs.Step.{session_of, IsWithin, Enabled, words_after, known_after, look_at, gives_up, given_up, if_full, took, held_off, record_drawn, records_full, claimed, claim_lost, latched, latch_lost, tail_drawn, tails_full, cell_started, word_stored, posted, post_lost}
 use Rattle.lst_core_state.specs.Sound.{InHand, Looked, Found, FoundOf, Sound}
 use Rattle.lst_core_state.proofs.Functions.{either, each_put}
 use Rattle.lst_core_state.proofs.Steps.{writer_odd, name_session, name_number, name_entry}
@@ -262,6 +262,7 @@ module _ (c : Core) (sound : Sound c) where
   step_keeps (Install s) low ok = install_keeps s
   step_keeps (Release s) low ok = let v : Known = K s in let v' : Known = known_after L w v (Release s) in record { wrote = unwhole v.done v.done v.hold v'.hold v.number v.number (λ d i. i) (whole_none s low ok.1); latches = λ q i. i }
   step_keeps (Stamp s range n) low ok = still (K s)
+  step_keeps (Post s column q) low ok = either (KeepsOf (K s)) (eqb (w.postings column q) 0) (posted (K s) column q) (post_lost w (K s) column q) (λ _. still (K s)) (λ _. still (K s))
 
   -- ---- what a step finds
 
@@ -294,6 +295,7 @@ module _ (c : Core) (sound : Sound c) where
   new_found (Install s) low within ok = sound.found s low
   new_found (Release s) low within ok = sound.found s low
   new_found (Stamp s range n) low within ok = sound.found s low
+  new_found (Post s column q) low within ok = either (FoundOf L w K s) (eqb (w.postings column q) 0) (posted (K s) column q) (post_lost w (K s) column q) (λ _. sound.found s low) (λ _. sound.found s low)
 
   module _ (e : Event) (low : session_of e < L.sessions) (ok : Enabled L (K (session_of e)) e) where
     abbrev w' : Words

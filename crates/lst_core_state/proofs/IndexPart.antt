@@ -7,14 +7,14 @@ use Rattle.lst_layout.specs.Functions.{put}
 use Rattle.lst_core_state.specs.declared.known.Known.{Known}
 use Rattle.lst_core_state.specs.declared.known.Placing.{Placing}
 use Rattle.lst_core_state.specs.declared.events.Event.{Event}
-use Rattle.lst_core_state.specs.declared.events.Event.TheVariants.{Look, Begin, Take, Log, State, Clock, Give, Close, DrawRecord, StoreKey, Claim, Latch, DrawTail, StoreCell, Install, Release, Stamp}
+use Rattle.lst_core_state.specs.declared.events.Event.TheVariants.{Look, Begin, Take, Log, State, Clock, Give, Close, DrawRecord, StoreKey, Claim, Latch, DrawTail, StoreCell, Install, Release, Stamp, Post}
 use Rattle.lst_layout.specs.declared.place.Place.{Place}
 use Rattle.lst_layout.specs.declared.place.Place.TheVariants.{ClockWord, CommitWord, EpochWord, RecordCounter, LogWord, BeginWord, StateWord, KeyWord, IndexWord, HeadWord, TailCounter, CellWord, DirectoryWord, FrameWord, PinWord, PostingWord}
 use Rattle.lst_core_state.specs.Cells.{record_count}
 use Rattle.lst_core_state.specs.Index.{size}
 use Rattle.lst_core_state.specs.State.{Words, Core}
 use Rattle.lst_layout.specs.Addresses.{place_of}
-use Rattle.lst_core_state.specs.Step.{session_of, Enabled, Stands, words_after, known_after, look_at, gives_up, given_up, took, held_off, record_drawn, records_full, claimed, claim_lost, latched, latch_lost, tail_drawn, tails_full, cell_started, word_stored}
+use Rattle.lst_core_state.specs.Step.{session_of, Enabled, Stands, words_after, known_after, look_at, gives_up, given_up, took, held_off, record_drawn, records_full, claimed, claim_lost, latched, latch_lost, tail_drawn, tails_full, cell_started, word_stored, posted, post_lost}
 use Rattle.lst_core_state.specs.Sound as parts
 use Rattle.lst_core_state.specs.Sound.{Indexed, Sound}
 use Rattle.lst_core_state.proofs.Functions.{either}
@@ -93,3 +93,4 @@ module _ (c : Core) (sound : Sound c) where
   index_keeps (Install s) low ok stands = still s (known_after L w (K s) (Install s)) low refl
   index_keeps (Release s) low ok stands = still s (known_after L w (K s) (Release s)) low refl
   index_keeps (Stamp s range n) low ok stands = still s (K s) low refl
+  index_keeps (Post s column q) low ok stands = either (Part s) (eqb (w.postings column q) 0) (posted (K s) column q) (post_lost w (K s) column q) (λ _. still s (posted (K s) column q) low refl) (λ _. still s (post_lost w (K s) column q) low refl)

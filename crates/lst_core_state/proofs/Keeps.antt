@@ -7,7 +7,7 @@ use Rattle.lst_layout.specs.Areas.{words_of}
 use Rattle.lst_model.specs.Histories.{Extends}
 use Rattle.lst_core_state.specs.declared.known.Known.{Known}
 use Rattle.lst_core_state.specs.declared.events.Event.{Event}
-use Rattle.lst_core_state.specs.declared.events.Event.TheVariants.{Look, Begin, Take, Log, State, Clock, Give, Close, DrawRecord, StoreKey, Claim, Latch, DrawTail, StoreCell, Install, Release, Stamp}
+use Rattle.lst_core_state.specs.declared.events.Event.TheVariants.{Look, Begin, Take, Log, State, Clock, Give, Close, DrawRecord, StoreKey, Claim, Latch, DrawTail, StoreCell, Install, Release, Stamp, Post}
 use Rattle.lst_layout.specs.declared.place.Place.{Place}
 use Rattle.lst_layout.specs.declared.place.Place.TheVariants.{ClockWord, CommitWord, EpochWord, RecordCounter, LogWord, BeginWord, StateWord, KeyWord, IndexWord, HeadWord, TailCounter, CellWord, DirectoryWord, FrameWord, PinWord, PostingWord}
 use Rattle.lst_core_state.specs.State.{Words, Core, history_of, counter_of}
@@ -26,6 +26,7 @@ use Rattle.lst_core_state.proofs.FitPart.{fit_keeps}
 use Rattle.lst_core_state.proofs.TailWordsPart.{tail_words_keeps}
 use Rattle.lst_core_state.proofs.CountsPart.{counts_keep}
 use Rattle.lst_core_state.proofs.ListedPart.{listed_keeps}
+use Rattle.lst_core_state.proofs.PostingsPart.{postings_keeps}
 use Rattle.lst_core_state.proofs.FactsPart.{facts_stay, looks_facts, facts_keep}
 use Rattle.lst_core_state.proofs.RecordedPart.{look_seen, recorded_keeps}
 use Rattle.lst_core_state.proofs.FoundPart.{looks_found, found_after, found_keeps}
@@ -55,6 +56,7 @@ module _ (c : Core) (sound : Sound c) where
     tail_words = tail_words_keeps c sound e low within ok stands;
     counted = counts.0;
     counters = counts.1;
+    postings = postings_keeps c sound e low within ok stands;
     listed = listed_keeps c sound e low ok stands;
     facts = facts_keep c sound e low within ok stands;
     recorded = recorded_keeps c sound e low ok stands;
@@ -135,6 +137,7 @@ module _ (c : Core) (sound : Sound c) where
     tail_words = sound.tail_words;
     counted = sound.counted;
     counters = sound.counters;
+    postings = sound.postings;
     listed = sound.listed;
     facts = sound.facts;
     recorded = sound.recorded;
@@ -165,6 +168,7 @@ module _ (c : Core) (sound : Sound c) where
   keeps_merger (Install s) within is = absurd (let h : s < L.sessions = within in omega arith)
   keeps_merger (Release s) within is = absurd (let h : s < L.sessions = within in omega arith)
   keeps_merger (Stamp s range n) within is = absurd (let h = within.0 in omega arith)
+  keeps_merger (Post s column q) within is = absurd (let h = within.0 in omega arith)
 
 -- the session of an event that isn't the merger's
 pub session_low : (l : Limits) (e : Event) → IsWithin l e → session_of e ≢ l.sessions → session_of e < l.sessions
@@ -185,6 +189,7 @@ session_low l (StoreCell s p x) within ne = within.0
 session_low l (Install s) within ne = within
 session_low l (Release s) within ne = within
 session_low l (Stamp s range n) within ne = within.0
+session_low l (Post s column q) within ne = within.0
 
 pub keeps : (c : Core) → Sound c → (e : Event) → IsWithin c.limits e → IsEnabled c e → Sound (after c e)
 keeps c sound e within ok = dite (ℕ_discrete (session_of e) c.limits.sessions)

@@ -23,7 +23,10 @@ pub mod FitPart
 pub mod TailWordsPart
 pub mod CountsPart
 pub mod ListedPart
+pub mod PostingsKept
 pub mod FactsPart
+pub mod PostingsPart
+pub mod PostingsLaws
 pub mod RecordedPart
 pub mod FoundPart
 pub mod Starts

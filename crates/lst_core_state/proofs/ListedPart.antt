@@ -12,13 +12,13 @@ use Rattle.lst_core_state.proofs.Lists.{links_low}
 use Rattle.lst_core_state.specs.declared.known.Known.{Known}
 use Rattle.lst_core_state.specs.declared.known.Done.{Done}
 use Rattle.lst_core_state.specs.declared.events.Event.{Event}
-use Rattle.lst_core_state.specs.declared.events.Event.TheVariants.{Look, Begin, Take, Log, State, Clock, Give, Close, DrawRecord, StoreKey, Claim, Latch, DrawTail, StoreCell, Install, Release, Stamp}
+use Rattle.lst_core_state.specs.declared.events.Event.TheVariants.{Look, Begin, Take, Log, State, Clock, Give, Close, DrawRecord, StoreKey, Claim, Latch, DrawTail, StoreCell, Install, Release, Stamp, Post}
 use Rattle.lst_layout.specs.declared.place.Place.{Place}
 use Rattle.lst_layout.specs.declared.place.Place.TheVariants.{ClockWord, CommitWord, EpochWord, RecordCounter, LogWord, BeginWord, StateWord, KeyWord, IndexWord, HeadWord, TailCounter, CellWord, DirectoryWord, FrameWord, PinWord, PostingWord}
 use Rattle.lst_core_state.specs.Cells.{record_count, range_of, tail_at}
 use Rattle.lst_core_state.specs.State.{Words, Core, writer_at, name_of, line, back_in, head_of}
 use Rattle.lst_layout.specs.Addresses.{place_of}
-use Rattle.lst_core_state.specs.Step.{session_of, Enabled, Stands, words_after, known_after, look_at, gives_up, given_up, took, held_off, record_drawn, records_full, claimed, claim_lost, latched, latch_lost, tail_drawn, tails_full, cell_started, word_stored}
+use Rattle.lst_core_state.specs.Step.{session_of, Enabled, Stands, words_after, known_after, look_at, gives_up, given_up, took, held_off, record_drawn, records_full, claimed, claim_lost, latched, latch_lost, tail_drawn, tails_full, cell_started, word_stored, posted, post_lost}
 use Rattle.lst_core_state.specs.Sound.{Drawn, Listed, Sound}
 use Rattle.lst_core_state.proofs.Functions.{either, each_put, put_here, put_else}
 use Rattle.lst_core_state.proofs.Steps.{name_session, name_number, hand_idle}
@@ -203,6 +203,8 @@ module _ (c : Core) (sound : Sound c) where
   listed_keeps (DrawTail s range) low ok stands = tails s range low ok stands
   listed_keeps (StoreCell s p x) low ok stands = either (λ (u : Known). Listed L (words_after L w (K s) (StoreCell s p x)) (put K s u)) (eqb p 0) (cell_started L w (K s) p x) (word_stored (K s) p x)
       (λ _. listed_step (StoreCell s p x) low ok stands (λ i. i) (cell_started L w (K s) p x) refl (sound.listed.latched s low) (λ _. refl) (λ range g h d. inl d)) (λ _. same (StoreCell s p x) low ok stands (λ i. i) refl (word_stored (K s) p x) refl refl refl)
-  listed_keeps (Install s) low ok stands = installs s low ok stands
+  listed_keeps (Install s) low ok stands = installs s low ok stands.0
   listed_keeps (Release s) low ok stands = listed_step (Release s) low ok stands (λ i. i) (known_after L w (K s) (Release s)) refl (λ p. absurd (omega arith)) (λ p. let z = ok.1 in absurd (omega arith)) (λ range g h d. inl d)
   listed_keeps (Stamp s range n) low ok stands = same (Stamp s range n) low ok stands (λ i. i) refl (K s) refl refl refl
+  listed_keeps (Post s column q) low ok stands = either (λ (u : Known). Listed L (words_after L w (K s) (Post s column q)) (put K s u)) (eqb (w.postings column q) 0) (posted (K s) column q) (post_lost w (K s) column q)
+      (λ _. same (Post s column q) low ok stands (λ i. i) refl (posted (K s) column q) refl refl refl) (λ _. same (Post s column q) low ok stands (λ i. i) refl (post_lost w (K s) column q) refl refl refl)

@@ -12,13 +12,14 @@ use Rattle.lst_model.specs.declared.acts.Write.{Write}
 use Rattle.lst_model.specs.Histories.{joined}
 use Rattle.lst_core_state.specs.Writes.{commit, write}
 use Rattle.lst_core_state.specs.declared.events.Event.{Event}
-use Rattle.lst_core_state.specs.declared.events.Event.TheVariants.{Look, Begin, Take, Log, State, Clock, Give, Close, DrawRecord, StoreKey, Claim, Latch, DrawTail, StoreCell, Install, Release, Stamp}
+use Rattle.lst_core_state.specs.declared.events.Event.TheVariants.{Look, Begin, Take, Log, State, Clock, Give, Close, DrawRecord, StoreKey, Claim, Latch, DrawTail, StoreCell, Install, Release, Stamp, Post}
 use Rattle.lst_core_state.specs.declared.known.Known.{Known}
 use Rattle.lst_core_state.specs.declared.known.Counter.{Counter}
 use Rattle.lst_core_state.specs.declared.known.Looks.{Looks}
 use Rattle.lst_core_state.proofs.Functions.{either}
 use Rattle.lst_core_state.specs.Cells.{record_count}
 use Rattle.lst_core_state.specs.State.{Words, newcomer, no_counter, writes_of, counter_of, act_in, record_in}
+use Rattle.lst_core_state.specs.Pages.{no_pages}
 use Rattle.lst_core_state.specs.Step as step
 use Rattle.lst_core_state.specs.Step.{Enabled, known_after, look_at, served, spent, drawn_full}
 use Rattle.lst_core_state.proofs.Histories.{length-history}
@@ -33,6 +34,7 @@ flags_none (suc n) zero = ap (λ (bs : List Bool). false ∷ bs) (flags_none n z
 flags_none (suc n) (suc k) = ap (λ (bs : List Bool). false ∷ bs) (flags_none n k)
 
 pub newcomer_is : (l : Limits) → numbers_of (newcomer l) ≡ newcomer_numbers
+unfolding no_pages
 newcomer_is l = λ i. record newcomer_numbers { served = flags_none 64 l.ranges i }
 
 -- ---- what the numbers allow is what the knowledge allows
@@ -58,6 +60,7 @@ allows_enabled l sized v (StoreCell s p x) within ok = ok
 allows_enabled l sized v (Install s) within ok = ok
 allows_enabled l sized v (Release s) within ok = ok
 allows_enabled l sized v (Stamp s range n) within ok = tt
+allows_enabled l sized v (Post s column q) within ok = ok
 
 pub enabled_allows : (l : Limits) → IsValid l → (v : Known) (e : Event) → step.IsWithin l e → Enabled l v e → Allows l (numbers_of v) e
 enabled_allows l sized v (Look s a) within ok = tt
@@ -77,6 +80,7 @@ enabled_allows l sized v (StoreCell s p x) within ok = ok
 enabled_allows l sized v (Install s) within ok = ok
 enabled_allows l sized v (Release s) within ok = ok
 enabled_allows l sized v (Stamp s range n) within ok = tt
+enabled_allows l sized v (Post s column q) within ok = ok
 
 -- ---- the numbers after a step
 
@@ -137,3 +141,4 @@ module _ (l : Limits) (sized : IsValid l) (w : Words) (v : Known) (counters : le
       λ i. record (numbers_of (known_after l w v (Install s))) { has_writes = lt-ltb 0 (length (joined v.own (write (w.keys (v.hold.latch - 1)) (act_in l w.cells v.hold.tail)))) (omega arith) i }
   numbers_law (Release s) within is = refl
   numbers_law (Stamp s range n) within is = refl
+  numbers_law (Post s column q) within is = either (λ (u : Known). numbers_of u ≡ numbers_of v) (eqb (w.postings column q) 0) (step.posted v column q) (step.post_lost w v column q) (λ _. refl) (λ _. refl)

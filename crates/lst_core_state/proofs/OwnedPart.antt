@@ -5,14 +5,14 @@ use Rattle.lst_layout.specs.Functions.{put}
 use Rattle.lst_core_state.specs.Lists.{Has, chain_of}
 use Rattle.lst_core_state.specs.declared.known.Known.{Known}
 use Rattle.lst_core_state.specs.declared.events.Event.{Event}
-use Rattle.lst_core_state.specs.declared.events.Event.TheVariants.{Look, Begin, Take, Log, State, Clock, Give, Close, DrawRecord, StoreKey, Claim, Latch, DrawTail, StoreCell, Install, Release, Stamp}
+use Rattle.lst_core_state.specs.declared.events.Event.TheVariants.{Look, Begin, Take, Log, State, Clock, Give, Close, DrawRecord, StoreKey, Claim, Latch, DrawTail, StoreCell, Install, Release, Stamp, Post}
 use Rattle.lst_layout.specs.declared.place.Place.{Place}
 use Rattle.lst_layout.specs.declared.place.Place.TheVariants.{ClockWord, CommitWord, EpochWord, RecordCounter, LogWord, BeginWord, StateWord, KeyWord, IndexWord, HeadWord, TailCounter, CellWord, DirectoryWord, FrameWord, PinWord, PostingWord}
 use Rattle.lst_core_state.specs.Cells.{record_count, range_of, tail_at}
 use Rattle.lst_core_state.specs.Index.{is_placed}
 use Rattle.lst_core_state.specs.State.{Words, Core, line, writer_at, back_in}
 use Rattle.lst_layout.specs.Addresses.{place_of}
-use Rattle.lst_core_state.specs.Step.{session_of, Enabled, Stands, words_after, known_after, look_at, gives_up, given_up, took, held_off, record_drawn, records_full, claimed, claim_lost, latched, latch_lost, tail_drawn, tails_full, cell_started, word_stored}
+use Rattle.lst_core_state.specs.Step.{session_of, Enabled, Stands, words_after, known_after, look_at, gives_up, given_up, took, held_off, record_drawn, records_full, claimed, claim_lost, latched, latch_lost, tail_drawn, tails_full, cell_started, word_stored, posted, post_lost}
 use Rattle.lst_core_state.specs.Sound.{Owned, OwnsOf, Sound}
 use Rattle.lst_core_state.proofs.Functions.{either}
 use Rattle.lst_core_state.proofs.Positions.{placed_more, placed_new, placed_says}
@@ -115,6 +115,9 @@ module _ (c : Core) (sound : Sound c) where
   owned_keeps (StoreCell s p x) low ok stands = either (λ (u : Known). Owned L (words_after L w (K s) (StoreCell s p x)) (put K s u)) (eqb p 0) (cell_started L w (K s) p x) (word_stored (K s) p x)
       (λ _. owned_same (StoreCell s p x) low ok stands (λ i. i) (cell_started L w (K s) p x) (index_same L w (words_after L w (K s) (StoreCell s p x)) refl refl) refl refl refl)
       (λ _. owned_same (StoreCell s p x) low ok stands (λ i. i) (word_stored (K s) p x) (index_same L w (words_after L w (K s) (StoreCell s p x)) refl refl) refl refl refl)
-  owned_keeps (Install s) low ok stands = install_owned L w K sound.sized sound.times sound.each sound.versions sound.owned s (known_after L w (K s) (Install s)) low ok stands refl refl refl
+  owned_keeps (Install s) low ok stands = install_owned L w K sound.sized sound.times sound.each sound.versions sound.owned s (known_after L w (K s) (Install s)) low ok stands.0 refl refl refl
   owned_keeps (Release s) low ok stands = owned_same (Release s) low ok stands (λ i. i) (known_after L w (K s) (Release s)) (index_same L w (words_after L w (K s) (Release s)) refl refl) refl refl refl
   owned_keeps (Stamp s range n) low ok stands = owned_same (Stamp s range n) low ok stands (λ i. i) (K s) (index_same L w (words_after L w (K s) (Stamp s range n)) refl refl) refl refl refl
+  owned_keeps (Post s column q) low ok stands = let w' : Words = words_after L w (K s) (Post s column q) in either (λ (u : Known). Owned L w' (put K s u)) (eqb (w.postings column q) 0) (posted (K s) column q) (post_lost w (K s) column q)
+      (λ _. owned_same (Post s column q) low ok stands (λ i. i) (posted (K s) column q) (index_same L w w' refl refl) refl refl refl)
+      (λ _. owned_same (Post s column q) low ok stands (λ i. i) (post_lost w (K s) column q) (index_same L w w' refl refl) refl refl refl)

@@ -12,9 +12,9 @@ use Rattle.lst_core_state.specs.Writes.{write, commit}
 use Rattle.lst_core_state.proofs.Writes.{all_acts_on-append, line_joined-else}
 use Rattle.lst_core_state.specs.declared.known.Known.{Known}
 use Rattle.lst_core_state.specs.declared.facts.Fact.{Fact}
-use Rattle.lst_core_state.specs.declared.facts.Fact.TheVariants.{IndexAt, RecordsAtLeast, TailsAtLeast, EpochAtLeast}
+use Rattle.lst_core_state.specs.declared.facts.Fact.TheVariants.{IndexAt, RecordsAtLeast, TailsAtLeast, EpochAtLeast, PostAt}
 use Rattle.lst_core_state.specs.declared.events.Event.{Event}
-use Rattle.lst_core_state.specs.declared.events.Event.TheVariants.{Look, Begin, Take, Log, State, Clock, Give, Close, DrawRecord, StoreKey, Claim, Latch, DrawTail, StoreCell, Install, Release, Stamp}
+use Rattle.lst_core_state.specs.declared.events.Event.TheVariants.{Look, Begin, Take, Log, State, Clock, Give, Close, DrawRecord, StoreKey, Claim, Latch, DrawTail, StoreCell, Install, Release, Stamp, Post}
 use Rattle.lst_layout.specs.declared.place.Place.{Place}
 use Rattle.lst_layout.specs.declared.place.Place.TheVariants.{ClockWord, CommitWord, EpochWord, RecordCounter, LogWord, BeginWord, StateWord, KeyWord, IndexWord, HeadWord, TailCounter, CellWord, DirectoryWord, FrameWord, PinWord, PostingWord}
 use Rattle.lst_layout.specs.Addresses.{place_of}
@@ -22,7 +22,7 @@ use Rattle.lst_core_state.specs.Cells.{record_count}
 use Rattle.lst_core_state.specs.Index.{is_placed, size}
 use Rattle.lst_core_state.specs.State.{Words, Core, history_of, act_in}
 use Rattle.lst_core_state.specs.Facts.{index_fact, index_facts, state_fact, cell_fact, stored_fact, commit_fact, chain_facts, post_fact}
-use Rattle.lst_core_state.specs.Step.{session_of, Enabled, Stands, words_after, known_after, look_at, gives_up, given_up, took, held_off, record_drawn, records_full, claimed, claim_lost, latched, latch_lost, tail_drawn, tails_full, cell_started, word_stored}
+use Rattle.lst_core_state.specs.Step.{session_of, Enabled, Stands, words_after, known_after, look_at, gives_up, given_up, took, held_off, record_drawn, records_full, claimed, claim_lost, latched, latch_lost, tail_drawn, tails_full, cell_started, word_stored, posted, post_lost}
 use Rattle.lst_core_state.specs.Sound.{IsRecorded, SeenIsRecorded, Recorded, RecordedOf, Sound}
 use Rattle.lst_core_state.proofs.Functions.{either, each_put}
 use Rattle.lst_core_state.proofs.Positions.{placed_says}
@@ -188,6 +188,8 @@ module _ (c : Core) (sound : Sound c) where
       record { seen_keys = q.seen_keys; own_keys = own_next (K s).facts (K s).own (write (w.keys r) (act_in L w.cells (K s).hold.tail)) q.own_keys (a.0, r, a.1); latched = λ p. absurd (omega arith) }
   recorded_step (Release s) low ok stands = let q = same (Release s) low ok in record { seen_keys = q.seen_keys; own_keys = q.own_keys; latched = λ p. absurd (omega arith) }
   recorded_step (Stamp s range n) low ok stands = same (Stamp s range n) low ok
+  recorded_step (Post s column q) low ok stands = either (RecordedOf w.keys) (eqb (w.postings column q) 0) (posted (K s) column q) (post_lost w (K s) column q)
+      (λ _. by (Post s column q) low ok (PostAt column q (K s).hold.tail ∷ [])) (λ _. by (Post s column q) low ok (post_fact w column q))
 
   pub recorded_keeps : (e : Event) → session_of e < L.sessions → Enabled L (K (session_of e)) e → Stands L w (K (session_of e)) e → (j : ℕ) → j < L.sessions → RecordedOf (words_after L w (K (session_of e)) e).keys (put K (session_of e) (known_after L w (K (session_of e)) e) j)
   recorded_keeps e low ok stands = each_put (λ (j : ℕ) (u : Known). j < L.sessions → RecordedOf (words_after L w (K (session_of e)) e).keys u) K (session_of e) (known_after L w (K (session_of e)) e)

@@ -4,7 +4,7 @@ use Rattle.lst_layout.specs.declared.limits.Limits.{Limits}
 use Rattle.lst_layout.specs.Functions.{put}
 use Rattle.lst_core_state.specs.declared.known.Known.{Known}
 use Rattle.lst_core_state.specs.declared.events.Event.{Event}
-use Rattle.lst_core_state.specs.declared.events.Event.TheVariants.{Look, Begin, Take, Log, State, Clock, Give, Close, DrawRecord, StoreKey, Claim, Latch, DrawTail, StoreCell, Install, Release, Stamp}
+use Rattle.lst_core_state.specs.declared.events.Event.TheVariants.{Look, Begin, Take, Log, State, Clock, Give, Close, DrawRecord, StoreKey, Claim, Latch, DrawTail, StoreCell, Install, Release, Stamp, Post}
 use Rattle.lst_layout.specs.declared.place.Place.{Place}
 use Rattle.lst_layout.specs.declared.place.Place.TheVariants.{ClockWord, CommitWord, EpochWord, RecordCounter, LogWord, BeginWord, StateWord, KeyWord, IndexWord, HeadWord, TailCounter, CellWord, DirectoryWord, FrameWord, PinWord, PostingWord}
 use Rattle.lst_core_state.specs.State.{Words, Core, rank, history_of, writes_of}
@@ -52,6 +52,7 @@ module _ (c : Core) (sound : Sound c) where
   times_keeps (Install s) low ok = sound.times
   times_keeps (Release s) low ok = sound.times
   times_keeps (Stamp s range n) low ok = sound.times
+  times_keeps (Post s column q) low ok = sound.times
 
   -- a session whose transactions and turn are as they were
   pub same : (s : ℕ) (v' : Known) → (s < L.sessions → RunsOf L w s v') → Each L w (put K s v')
@@ -97,3 +98,4 @@ module _ (c : Core) (sound : Sound c) where
   each_keeps (Install s) low ok = same s (known_after L w (K s) (Install s)) (sound.each s)
   each_keeps (Release s) low ok = same s (known_after L w (K s) (Release s)) (sound.each s)
   each_keeps (Stamp s range n) low ok = same s (K s) (sound.each s)
+  each_keeps (Post s column q) low ok = either (λ (u : Known). Each L w (put K s u)) _ _ _ (λ _. same s _ (sound.each s)) (λ _. same s _ (sound.each s))

@@ -96,6 +96,12 @@ module _ (l : Limits) (sized : IsValid l) where
       fulls = λ v a b. absurd (omega arith);
     };
     counters = λ s h. length-replicate l.ranges no_counter;
+    postings = record {
+      chained = λ r h t i. absurd (none r t i);
+      filled = λ column q p. absurd (omega arith);
+      once = λ column p q a e. absurd (omega arith);
+      marks = λ s h. record { posted = λ column p. absurd (omega arith); found = λ column p. absurd (omega arith); unposted = λ column p. absurd (omega arith) };
+    };
     listed = record {
       every = λ r h t i. absurd (none r t i);
       only = λ s h d a. absurd (let low = a.1 in omega arith);

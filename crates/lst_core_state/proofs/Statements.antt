@@ -12,7 +12,7 @@ use Rattle.lst_core_state.specs.declared.known.Known.{Known}
 use Rattle.lst_core_state.specs.declared.facts.Fact.{Fact}
 use Rattle.lst_layout.specs.Functions.{put}
 use Rattle.lst_core_state.specs.declared.events.Event.{Event}
-use Rattle.lst_core_state.specs.declared.events.Event.TheVariants.{Look, Begin, Take, Log, State, Clock, Give, Close, DrawRecord, StoreKey, Claim, Latch, DrawTail, StoreCell, Install, Release, Stamp}
+use Rattle.lst_core_state.specs.declared.events.Event.TheVariants.{Look, Begin, Take, Log, State, Clock, Give, Close, DrawRecord, StoreKey, Claim, Latch, DrawTail, StoreCell, Install, Release, Stamp, Post}
 use Rattle.lst_core_state.specs.Cells.{record_count}
 use Rattle.lst_core_state.specs.Index.{is_placed}
 use Rattle.lst_core_state.specs.State.{Words, Core, entry, writer_at, name_of, history_of, commits_of, act_in, FitsAfter}
@@ -35,6 +35,7 @@ use Rattle.lst_core_state.proofs.FitPart as fit
 use Rattle.lst_core_state.proofs.TailWordsPart as words
 use Rattle.lst_core_state.proofs.CountsPart as counts
 use Rattle.lst_core_state.proofs.ListedPart as listed
+use Rattle.lst_core_state.proofs.PostingsPart as postings
 use Rattle.lst_core_state.proofs.FactsPart.{fact_stays, more_facts}
 use Rattle.lst_core_state.proofs.RecordedPart.{grows_by, recorded_more}
 use Rattle.lst_core_state.proofs.FoundPart.{still, found_same}
@@ -138,6 +139,7 @@ module _ (c : Core) (sound : Sound c) (s : ℕ) (low : s < c.limits.sessions) (s
     tail_words = words.same c sound s v' low (sound.tail_words.drafts s low);
     counted = both.0;
     counters = both.1;
+    postings = postings.postings_same c sound (Look s 0) low tt tt (λ _ _. refl) (λ i. i) v' refl refl refl;
     listed = listed.same c sound (Look s 0) low tt tt (λ i. i) refl v' refl refl refl;
     facts = each_put (λ (j : ℕ) (u : Known). j < c.limits.sessions → FactsOf c.limits w u.facts) c.known s v' (λ h. more_facts c.limits w v.facts gs (sound.facts s h) may.facts) (λ j other. sound.facts j);
     recorded = each_put (λ (j : ℕ) (u : Known). j < c.limits.sessions → RecordedOf w.keys u) c.known s v' (λ h. let r = recorded_more c sound (Look s 0) low tt s h (v.facts ++ gs) (grows_by v.facts gs) in record { seen_keys = may.keys; own_keys = r.own_keys; latched = r.latched })
@@ -167,6 +169,7 @@ merger_may_grow c sound seen more may = record {
   tail_words = sound.tail_words;
   counted = sound.counted;
   counters = sound.counters;
+  postings = sound.postings;
   listed = sound.listed;
   facts = sound.facts;
   recorded = sound.recorded;
@@ -209,6 +212,7 @@ module _ (c : Core) (sound : Sound c) (e : Event) (within : IsWithin c.limits e)
       same (Install s) = refl
       same (Release s) = refl
       same (Stamp s range n) = refl
+      same (Post s column q) = refl
 
   -- a load publishes nothing
   merger_publishes : (e : Event) → IsWithin c.limits e → session_of e ≡ c.limits.sessions → published c e ≡ []
@@ -229,6 +233,7 @@ module _ (c : Core) (sound : Sound c) (e : Event) (within : IsWithin c.limits e)
   merger_publishes (Install s) inside is = refl
   merger_publishes (Release s) inside is = refl
   merger_publishes (Stamp s range n) inside is = refl
+  merger_publishes (Post s column q) inside is = refl
 
   merger_step : session_of e ≡ c.limits.sessions → Sound (after_merger c e) → StepOf c e (after_merger c e)
   merger_step is next = record {

@@ -6,7 +6,7 @@ use Rattle.lst_layout.specs.declared.limits.Limits.{Limits}
 use Rattle.lst_layout.specs.Functions.{put, put_in}
 use Rattle.lst_core_state.specs.declared.known.Known.{Known}
 use Rattle.lst_core_state.specs.declared.events.Event.{Event}
-use Rattle.lst_core_state.specs.declared.events.Event.TheVariants.{Look, Begin, Take, Log, State, Clock, Give, Close, DrawRecord, StoreKey, Claim, Latch, DrawTail, StoreCell, Install, Release, Stamp}
+use Rattle.lst_core_state.specs.declared.events.Event.TheVariants.{Look, Begin, Take, Log, State, Clock, Give, Close, DrawRecord, StoreKey, Claim, Latch, DrawTail, StoreCell, Install, Release, Stamp, Post}
 use Rattle.lst_core_state.specs.Cells.{record_count}
 use Rattle.lst_core_state.specs.Index.{is_placed, size}
 use Rattle.lst_core_state.specs.State.{Words, Core, entry, writer_at, name_of, line, act_in, record_in}
@@ -78,6 +78,7 @@ module _ (c : Core) (sound : Sound c) where
   steady (Install s) low ok stands = heads_same L w K sound.sized sound.times sound.each sound.versions (put w.heads ((K s).hold.latch - 1) (2 * number_in L ((K s).hold.latch - 1) (K s).hold.tail))
   steady (Release s) low ok stands = heads_same L w K sound.sized sound.times sound.each sound.versions (put w.heads ((K s).hold.latch - 1) (2 * (K s).hold.head))
   steady (Stamp s range n) low ok stands = stamp_same L w K sound.sized sound.times sound.each sound.versions s (range * L.tails + n) low stands.0 stands.1 stands.2
+  steady (Post s column q) low ok stands = λ t some. record { stays = some; words = λ _ _. refl; by = refl; key = refl; begin = refl; state = inl refl }
 
   -- an install is the only step that changes a chain
   abbrev pub IsInstall : Event → Type 0
@@ -104,6 +105,7 @@ module _ (c : Core) (sound : Sound c) where
       (λ e. let a : heads' r ≡ heads' (v.hold.latch - 1) = ap heads' e in let b : heads' (v.hold.latch - 1) ≡ 2 * v.hold.head = put_here w.heads (v.hold.latch - 1) (2 * v.hold.head) in let d : w.heads r ≡ w.heads (v.hold.latch - 1) = ap w.heads e in omega arith)
       (λ ne. ap (λ (x : ℕ). x / 2) (put_else w.heads (v.hold.latch - 1) (2 * v.hold.head) r ne))
   heads_kept (Stamp s range n) low ok stands other r h = refl
+  heads_kept (Post s column q) low ok stands other r h = refl
 
   module _ (e : Event) (low : session_of e < L.sessions) (ok : Enabled L (K (session_of e)) e) (stands : Stands L w (K (session_of e)) e) where
     abbrev w' : Words
@@ -134,7 +136,8 @@ module _ (c : Core) (sound : Sound c) where
   chains_grow (DrawTail s range) low ok stands r h = inl refl
   chains_grow (StoreCell s p x) low ok stands r h = inl (lines_stay (StoreCell s p x) low ok stands (λ i. i) r h)
   chains_grow (Install s) low ok stands r h = dite (ℕ_discrete r ((K s).hold.latch - 1))
-      (λ e. inr ((K s).hold.tail, subst (λ (q : ℕ). line L (words_after L w (K s) (Install s)) q ≡ (K s).hold.tail ∷ line L w q) (sym e) (install_chain L w K sound.sized sound.times sound.each sound.versions s low ok stands)))
-      (λ ne. inl (install_other L w K sound.sized sound.times sound.each sound.versions s low ok stands r h ne).0)
+      (λ e. inr ((K s).hold.tail, subst (λ (q : ℕ). line L (words_after L w (K s) (Install s)) q ≡ (K s).hold.tail ∷ line L w q) (sym e) (install_chain L w K sound.sized sound.times sound.each sound.versions s low ok stands.0)))
+      (λ ne. inl (install_other L w K sound.sized sound.times sound.each sound.versions s low ok stands.0 r h ne).0)
   chains_grow (Release s) low ok stands r h = inl (lines_stay (Release s) low ok stands (λ i. i) r h)
   chains_grow (Stamp s range n) low ok stands r h = inl (lines_stay (Stamp s range n) low ok stands (λ i. i) r h)
+  chains_grow (Post s column q) low ok stands r h = inl refl

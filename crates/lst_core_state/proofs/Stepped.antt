@@ -10,10 +10,11 @@ use Rattle.lst_layout.specs.Addresses as layout
 use Rattle.lst_layout.specs.Addresses.{place_of}
 use Rattle.lst_layout.proofs.Places.{at}
 use Rattle.lst_core_state.specs.declared.events.Event.{Event}
-use Rattle.lst_core_state.specs.declared.events.Event.TheVariants.{Look, Begin, Take, Log, State, Clock, Give, Close, DrawRecord, StoreKey, Claim, Latch, DrawTail, StoreCell, Install, Release, Stamp}
+use Rattle.lst_core_state.specs.declared.events.Event.TheVariants.{Look, Begin, Take, Log, State, Clock, Give, Close, DrawRecord, StoreKey, Claim, Latch, DrawTail, StoreCell, Install, Release, Stamp, Post}
 use Rattle.lst_core_state.specs.declared.known.Known.{Known}
 use Rattle.lst_core_state.specs.Cells.{record_count, tail_count}
 use Rattle.lst_core_state.specs.Index.{size}
+use Rattle.lst_core_state.specs.Postings.{postings_size}
 use Rattle.lst_core_state.specs.State.{Words, Core, rank, writes_of, counter_of, name_of}
 use Rattle.lst_core_state.specs.Step as step
 use Rattle.lst_core_state.specs.Step.{session_of, Enabled, Stands, words_after, number_in}
@@ -74,7 +75,7 @@ module _ (c : Core) (sound : Sound c) where
 
   -- where the step may be made, its word is one of the store's
   pub addressed : (e : Event) → session_of e < L.sessions → step.IsWithin L e → Enabled L (K (session_of e)) e → layout.IsWithin L (place_for L (numbers_of (K (session_of e))) e)
-  unfolding size
+  unfolding size postings_size
   addressed (Look s a) low within ok = (at L a sound.sized within.1).within
   addressed (Begin s b r) low within ok = (low, omega arith, let few : (K s).number < L.txns = ok.1 in omega arith)
   addressed (Take s) low within ok = tt
@@ -92,6 +93,7 @@ module _ (c : Core) (sound : Sound c) where
   addressed (Install s) low within ok = let k = sound.versions.hands s low in latched s low (k.holds (k.some ok))
   addressed (Release s) low within ok = latched s low ok.0
   addressed (Stamp s range n) low within ok = let h = tail_low range n within.1 within.2 within.3 in (h.0, h.1, omega arith)
+  addressed (Post s column q) low within ok = (within.1, ok.1, within.2)
 
   -- the store's words after the step
   pub shows : (e : Event) → session_of e < L.sessions → step.IsWithin L e → Enabled L (K (session_of e)) e → let n = numbers_of (K (session_of e)) in let p : Place = place_for L n e in
@@ -114,3 +116,4 @@ module _ (c : Core) (sound : Sound c) where
   shows (Install s) low within ok = refl
   shows (Release s) low within ok = refl
   shows (Stamp s range n) low within ok = refl
+  shows (Post s column q) low within ok = refl

@@ -7,13 +7,13 @@ use Rattle.lst_layout.specs.declared.limits.Limits.{Limits}
 use Rattle.lst_layout.specs.Functions.{put, put_in}
 use Rattle.lst_core_state.specs.declared.known.Known.{Known}
 use Rattle.lst_core_state.specs.declared.events.Event.{Event}
-use Rattle.lst_core_state.specs.declared.events.Event.TheVariants.{Look, Begin, Take, Log, State, Clock, Give, Close, DrawRecord, StoreKey, Claim, Latch, DrawTail, StoreCell, Install, Release, Stamp}
+use Rattle.lst_core_state.specs.declared.events.Event.TheVariants.{Look, Begin, Take, Log, State, Clock, Give, Close, DrawRecord, StoreKey, Claim, Latch, DrawTail, StoreCell, Install, Release, Stamp, Post}
 use Rattle.lst_layout.specs.declared.place.Place.{Place}
 use Rattle.lst_layout.specs.declared.place.Place.TheVariants.{ClockWord, CommitWord, EpochWord, RecordCounter, LogWord, BeginWord, StateWord, KeyWord, IndexWord, HeadWord, TailCounter, CellWord, DirectoryWord, FrameWord, PinWord, PostingWord}
 use Rattle.lst_core_state.specs.Cells.{record_count, range_of, IsColumn, IsCell}
 use Rattle.lst_core_state.specs.State.{Words, Core, state_at, record_in}
 use Rattle.lst_layout.specs.Addresses.{place_of}
-use Rattle.lst_core_state.specs.Step.{session_of, IsWithin, Enabled, Stands, words_after, known_after, look_at, gives_up, given_up, took, held_off, record_drawn, records_full, claimed, claim_lost, latched, latch_lost, tail_drawn, tails_full, cell_started, word_stored}
+use Rattle.lst_core_state.specs.Step.{session_of, IsWithin, Enabled, Stands, words_after, known_after, look_at, gives_up, given_up, took, held_off, record_drawn, records_full, claimed, claim_lost, latched, latch_lost, tail_drawn, tails_full, cell_started, word_stored, posted, post_lost}
 use Rattle.lst_core_state.specs.Sound.{Drawn, Drafted, TailWords, Sound}
 use Rattle.lst_core_state.proofs.Functions.{either, each_put}
 use Rattle.lst_core_state.proofs.VersionsKept.{one_range, counts_rise}
@@ -90,7 +90,7 @@ module _ (c : Core) (sound : Sound c) where
   looks s low (DirectoryWord i n) = same s (K s) low (sound.tail_words.drafts s low)
   looks s low (FrameWord i n) = same s (K s) low (sound.tail_words.drafts s low)
   looks s low (PinWord i) = same s (K s) low (sound.tail_words.drafts s low)
-  looks s low (PostingWord i n) = same s (look_at L w (K s) (PostingWord i n)) low (sound.tail_words.drafts s low)
+  looks s low (PostingWord i n) = same s (look_at L w (K s) (PostingWord i n)) low (λ held. let d = sound.tail_words.drafts s low held in record { wide = d.wide; is = d.is })
 
   -- a tail that is drawn now has no words yet
   fresh : (range p : ℕ) → range < L.ranges → w.counts range < L.tails → w.cells (range * L.tails + w.counts range + 1) p ≡ 0
@@ -152,3 +152,5 @@ module _ (c : Core) (sound : Sound c) where
   tail_words_keeps (Install s) low within ok stands = same s (known_after L w (K s) (Install s)) low (λ p. absurd (omega arith))
   tail_words_keeps (Release s) low within ok stands = same s (known_after L w (K s) (Release s)) low (λ p. absurd (omega arith))
   tail_words_keeps (Stamp s range n) low within ok stands = stamped s (range * L.tails + n) low stands.0 stands.1 stands.2
+  tail_words_keeps (Post s column q) low within ok stands = either (Part s) (eqb (w.postings column q) 0) (posted (K s) column q) (post_lost w (K s) column q)
+      (λ _. same s (posted (K s) column q) low (λ held. let d = sound.tail_words.drafts s low held in record { wide = d.wide; is = d.is })) (λ _. same s (post_lost w (K s) column q) low (sound.tail_words.drafts s low))

@@ -126,6 +126,18 @@ module _ (l : Limits) (w : Words) (known : ℕ → Known) (sized : IsValid l) (t
       (dite (ℕ_discrete (known s).hold.latch 0) (λ none. no_hand s v' w.clock turn' w.log w.begins w.states low none a)
       (λ some. kept_hand (record w { turn = turn' }) (λ r h. refl) (time_same s v' w.clock turn' w.log w.begins w.states (λ _ _ _. refl) (λ _ _. refl) (λ _ _. inl refl)) s v' low (λ _ z. z) (λ _. omega arith) a e f ro (stage (omega arith)) record { head = λ _. refl; tail = λ _. (refl, refl, refl) }))
 
+  -- a step that changes postings alone
+  post_same : (postings' : ℕ → ℕ → ℕ) (t : ℕ) → 0 < w.cells t 0 → Same l w (record w { postings = postings' }) t
+  post_same postings' t some = record { stays = some; words = λ _ _. refl; by = refl; key = refl; begin = refl; state = inl refl }
+
+  pub post_versions : (s : ℕ) (postings' : ℕ → ℕ → ℕ) (v' : Known) → s < l.sessions → v'.hold ≡ (known s).hold → v'.number ≡ (known s).number → v'.is_open ≡ (known s).is_open → v'.read_only ≡ (known s).read_only → (rank (known s).turn ≡ 0 → rank v'.turn ≡ 0) → Versions l (record w { postings = postings' }) (put known s v')
+  post_versions s postings' v' low a number is_open ro stage = let w' : Words = record w { postings = postings' } in let same = post_same postings' in
+      versions_step w' (λ _ _. refl) same s v' low (λ _ e. e) V.keys_apart V.unplaced (held_same s v' (ap latch_of a)) V.zero_blank (omega arith) (λ _. omega arith) (omega arith)
+      (λ t some even. (V.stored t some).stamped even) (λ e. (ap tail_of a, ap whole_of a ∙ e)) (λ t some. inl some)
+      (kept_hand w' (λ _ _. refl) same s v' low (λ _ z. z) (λ _. omega arith) a number is_open ro stage record { head = λ _. refl; tail = λ _. (refl, refl, refl) })
+      (λ j other h. record { head = λ _. refl; tail = λ _. (refl, refl, refl) })
+      (distinct_same l.sessions known s v' (λ u. u.hold.tail) low (ap tail_of a) V.tails_apart) (distinct_same l.sessions known s v' (λ u. u.hold.latch) low (ap latch_of a) V.latches_apart)
+
   begins_new : (s b x : ℕ) → (x % 16 ≡ s → x / 16 ≢ (known s).number + 1) → entry (put_in w.begins s ((known s).number + 1) (b + 1)) x ≡ entry w.begins x
   begins_new s b x other = put_in_else w.begins s ((known s).number + 1) (b + 1) (x % 16) (x / 16) other
 

@@ -9,13 +9,13 @@ use Rattle.lst_core_state.specs.declared.known.Known.{Known}
 use Rattle.lst_core_state.specs.declared.known.Stage.{Stage}
 use Rattle.lst_core_state.specs.declared.known.Stage.TheVariants.{Away, Taken, Fresh, Logged, Stated, Done}
 use Rattle.lst_core_state.specs.declared.events.Event.{Event}
-use Rattle.lst_core_state.specs.declared.events.Event.TheVariants.{Look, Begin, Take, Log, State, Clock, Give, Close, DrawRecord, StoreKey, Claim, Latch, DrawTail, StoreCell, Install, Release, Stamp}
+use Rattle.lst_core_state.specs.declared.events.Event.TheVariants.{Look, Begin, Take, Log, State, Clock, Give, Close, DrawRecord, StoreKey, Claim, Latch, DrawTail, StoreCell, Install, Release, Stamp, Post}
 use Rattle.lst_layout.specs.declared.place.Place.{Place}
 use Rattle.lst_layout.specs.declared.place.Place.TheVariants.{ClockWord, CommitWord, EpochWord, RecordCounter, LogWord, BeginWord, StateWord, KeyWord, IndexWord, HeadWord, TailCounter, CellWord, DirectoryWord, FrameWord, PinWord, PostingWord}
 use Rattle.lst_core_state.specs.Cells.{record_count}
 use Rattle.lst_core_state.specs.State.{Words, Core, rank, name_of, act_in, FitsAfter}
 use Rattle.lst_layout.specs.Addresses.{place_of}
-use Rattle.lst_core_state.specs.Step.{session_of, IsWithin, Enabled, Stands, words_after, known_after, look_at, refreshed, gives_up, given_up, took, held_off, record_drawn, records_full, claimed, claim_lost, latched, latch_lost, tail_drawn, tails_full, cell_started, word_stored}
+use Rattle.lst_core_state.specs.Step.{session_of, IsWithin, Enabled, Stands, words_after, known_after, look_at, refreshed, gives_up, given_up, took, held_off, record_drawn, records_full, claimed, claim_lost, latched, latch_lost, tail_drawn, tails_full, cell_started, word_stored, posted, post_lost}
 use Rattle.lst_core_state.specs.Sound.{Versions, Sound}
 use Rattle.lst_core_state.proofs.Functions.{either}
 use Rattle.lst_core_state.proofs.Positions.{placed_says, placed_more, placed_new, placed_here}
@@ -127,6 +127,9 @@ module _ (c : Core) (sound : Sound c) where
   versions_keeps (Latch s r) low within ok stands = latches s r low within.1 ok stands
   versions_keeps (DrawTail s range) low within ok stands = tails s range low ok stands
   versions_keeps (StoreCell s p x) low within ok stands = stores s p x low ok stands
-  versions_keeps (Install s) low within ok stands = cells.install_versions L w K sound.sized sound.times sound.each sound.versions s low ok stands (known_after L w (K s) (Install s)) (install_fit s low ok stands) refl refl
+  versions_keeps (Install s) low within ok stands = cells.install_versions L w K sound.sized sound.times sound.each sound.versions s low ok stands.0 (known_after L w (K s) (Install s)) (install_fit s low ok stands.0) refl refl
   versions_keeps (Release s) low within ok stands = kept.release_versions L w K sound.sized sound.times sound.each sound.versions s (known_after L w (K s) (Release s)) low ok.0 ok.1 refl refl
   versions_keeps (Stamp s range n) low within ok stands = cells.stamp_versions L w K sound.sized sound.times sound.each sound.versions s (range * L.tails + n) low stands.0 stands.1 stands.2
+  versions_keeps (Post s column q) low within ok stands = let w' : Words = words_after L w (K s) (Post s column q) in either (Part w' s) (eqb (w.postings column q) 0) (posted (K s) column q) (post_lost w (K s) column q)
+      (λ _. kept.post_versions L w K sound.sized sound.times sound.each sound.versions s w'.postings (posted (K s) column q) low refl refl refl refl (λ z. z))
+      (λ _. kept.post_versions L w K sound.sized sound.times sound.each sound.versions s w'.postings (post_lost w (K s) column q) low refl refl refl refl (λ z. z))

@@ -7,7 +7,7 @@ use Rattle.lst_model.specs.Histories.{Extends}
 use Rattle.lst_core_state.specs.Writes.{commit}
 use Rattle.lst_core_state.specs.declared.known.Known.{Known}
 use Rattle.lst_core_state.specs.declared.events.Event.{Event}
-use Rattle.lst_core_state.specs.declared.events.Event.TheVariants.{Look, Begin, Take, Log, State, Clock, Give, Close, DrawRecord, StoreKey, Claim, Latch, DrawTail, StoreCell, Install, Release, Stamp}
+use Rattle.lst_core_state.specs.declared.events.Event.TheVariants.{Look, Begin, Take, Log, State, Clock, Give, Close, DrawRecord, StoreKey, Claim, Latch, DrawTail, StoreCell, Install, Release, Stamp, Post}
 use Rattle.lst_layout.specs.declared.place.Place.{Place}
 use Rattle.lst_layout.specs.declared.place.Place.TheVariants.{ClockWord, CommitWord, EpochWord, RecordCounter, LogWord, BeginWord, StateWord, KeyWord, IndexWord, HeadWord, TailCounter, CellWord, DirectoryWord, FrameWord, PinWord, PostingWord}
 use Rattle.lst_core_state.specs.State.{Words, Core, rank, history_of, writes_of, commits_of}
@@ -81,6 +81,7 @@ module _ (c : Core) (sound : Sound c) where
   views_mine (Install s) low ok other = sound.views s low
   views_mine (Release s) low ok other = sound.views s low
   views_mine (Stamp s range n) low ok other = sound.views s low
+  views_mine (Post s column q) low ok other = either (ViewOf H s) _ _ _ (λ _. sound.views s low) (λ _. sound.views s low)
 
   clock_views : (s : ℕ) → s < L.sessions → Enabled L (K s) (Clock s) → Views L (history_of L (words_after L w (K s) (Clock s))) (put K s (known_after L w (K s) (Clock s)))
   clock_views s low ok = let v : Known = K s in let v' : Known = known_after L w v (Clock s) in let own = sound.each s low in let y = sound.views s low in
@@ -124,6 +125,7 @@ module _ (c : Core) (sound : Sound c) where
   views_keeps (Install s) low ok stands = views_put (Install s) low ok stands (λ i. i) refl
   views_keeps (Release s) low ok stands = views_put (Release s) low ok stands (λ i. i) refl
   views_keeps (Stamp s range n) low ok stands = views_put (Stamp s range n) low ok stands (λ i. i) refl
+  views_keeps (Post s column q) low ok stands = views_put (Post s column q) low ok stands (λ i. i) refl
 
   -- every step lets the history be, or appends to it
   pub grows : (e : Event) → session_of e < L.sessions → Enabled L (K (session_of e)) e → Stands L w (K (session_of e)) e → Extends (history_of L (words_after L w (K (session_of e)) e)) H

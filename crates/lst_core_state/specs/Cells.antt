@@ -1,6 +1,6 @@
 -- The words of a tail, and what they say. A tail's number counts the tails of its range, from 1 on; its identifier counts through
 -- all ranges: range * tails + number.
-use Rattle.std.specs.Prelude.{◌≡◌, ◌⊎◌, ℕ, zero, suc, ◌+◌, ◌-◌, ◌*◌, ◌/◌, ◌%◌, ◌^◌, ◌<◌, List, [], ◌∷◌, true, false, cond, eqb}
+use Rattle.std.specs.Prelude.{◌≡◌, ◌⊎◌, ℕ, zero, suc, ◌+◌, ◌-◌, ◌*◌, ◌/◌, ◌%◌, ◌^◌, ◌<◌, List, [], ◌∷◌, Bool, true, false, cond, not, eqb, ◌&&◌}
 use Rattle.lst_layout.specs.declared.limits.Limits.{Limits}
 use Rattle.lst_model.specs.declared.acts.Act.{Act}
 use Rattle.lst_model.specs.declared.acts.Act.TheVariants.{Put, Set, Del}
@@ -38,6 +38,10 @@ slot_of e = e / 65536 % 256
 
 abbrev pub nulls_of : ℕ → ℕ
 nulls_of e = e / 16777216
+
+-- under an encoding word the column is set, to a number
+unfoldable pub has_number : ℕ → ℕ → Bool
+has_number e c = has_bit (mask_of e) c && not (has_bit (nulls_of e) c)
 
 -- n words from a place on
 abbrev pub listed : (ℕ → ℕ) → ℕ → ℕ → List ℕ

@@ -1,6 +1,8 @@
 pub mod Cells
 pub mod Index
+pub mod Pages
 pub mod State
+pub mod Postings
 pub mod Facts
 pub mod Step
 pub mod Sound

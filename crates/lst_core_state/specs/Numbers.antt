@@ -1,11 +1,12 @@
 -- The numbers of what a session knows, and each step on them.
-use Rattle.std.specs.Prelude.{◌≡◌, ℕ, zero, suc, ◌+◌, ◌-◌, ◌*◌, ◌/◌, ◌%◌, ◌^◌, ◌<◌, ◌≤◌, List, [], ◌∷◌, Bool, true, false, ◌&&◌, ◌||◌, cond, eqb, nat_lt, length, bit_or, replicate, slice_index_or, slice_set}
+use Rattle.std.specs.Prelude.{◌≡◌, None, ℕ, zero, suc, ◌+◌, ◌-◌, ◌*◌, ◌/◌, ◌%◌, ◌^◌, ◌<◌, ◌≤◌, List, [], ◌∷◌, Bool, true, false, ◌&&◌, ◌||◌, cond, eqb, nat_lt, length, bit_or, replicate, slice_index_or, slice_set}
 use Rattle.lst_layout.specs.declared.limits.Limits.{Limits}
 use Rattle.lst_layout.specs.declared.place.Place.{Place}
-use Rattle.lst_layout.specs.declared.place.Place.TheVariants.{ClockWord, CommitWord, RecordCounter, LogWord, BeginWord, StateWord, KeyWord, IndexWord, HeadWord, TailCounter, CellWord}
+use Rattle.lst_layout.specs.declared.place.Place.TheVariants.{ClockWord, CommitWord, RecordCounter, LogWord, BeginWord, StateWord, KeyWord, IndexWord, HeadWord, TailCounter, CellWord, PostingWord}
 use Rattle.lst_layout.specs.Addresses.{place_of}
+use Rattle.lst_layout.specs.Areas.{IsIndexed}
 use Rattle.lst_core_state.specs.declared.events.Event.{Event}
-use Rattle.lst_core_state.specs.declared.events.Event.TheVariants.{Look, Begin, Take, Log, State, Clock, Give, Close, DrawRecord, StoreKey, Claim, Latch, DrawTail, StoreCell, Install, Release, Stamp}
+use Rattle.lst_core_state.specs.declared.events.Event.TheVariants.{Look, Begin, Take, Log, State, Clock, Give, Close, DrawRecord, StoreKey, Claim, Latch, DrawTail, StoreCell, Install, Release, Stamp, Post}
 use Rattle.lst_core_state.specs.declared.known.Known.{Known}
 use Rattle.lst_core_state.specs.declared.known.Counter.{Counter}
 use Rattle.lst_core_state.specs.declared.numbers.Numbers.{Numbers}
@@ -37,6 +38,9 @@ numbers_of v = record {
   stored = v.draft.stored;
   index = v.looks.index;
   served = flags 64 v.counters;
+  pin = v.pages.session.pin;
+  epoch = v.pages.stock.epoch;
+  built = v.pages.stock.built;
 }
 
 -- the numbers of a session that knows nothing
@@ -57,6 +61,9 @@ newcomer_numbers = record {
   stored = 0;
   index = 0;
   served = replicate 64 false;
+  pin = 0;
+  epoch = 0;
+  built = None;
 }
 
 -- the word that a step is on
@@ -78,6 +85,7 @@ place_for l n (StoreCell s p x) = CellWord n.hold.tail p
 place_for l n (Install s) = HeadWord (n.hold.latch - 1)
 place_for l n (Release s) = HeadWord (n.hold.latch - 1)
 place_for l n (Stamp s range t) = CellWord (range * l.tails + t) 0
+place_for l n (Post s c q) = PostingWord c q
 
 -- what a step makes of the word that it finds; a stamp stores `time`
 abbrev pub written_of : Limits → Numbers → ℕ → Event → ℕ → ℕ
@@ -98,6 +106,7 @@ written_of l n time (StoreCell s p y) x = y
 written_of l n time (Install s) x = 2 * number_in l (n.hold.latch - 1) n.hold.tail
 written_of l n time (Release s) x = 2 * n.hold.head
 written_of l n time (Stamp s range t) x = 2 * time
+written_of l n time (Post s c q) x = cond (eqb x 0) n.hold.tail x
 
 -- the record in hand is given up by a load of the record's key word x
 abbrev pub gives_up : Numbers → ℕ → ℕ → Bool
@@ -133,6 +142,7 @@ numbers_after l (StoreCell s p y) x n = cond (eqb p 0) (record n { hold = record
 numbers_after l (Install s) x n = record n { hold = no_hold; has_writes = true }
 numbers_after l (Release s) x n = record n { hold = no_hold }
 numbers_after l (Stamp s range t) x n = n
+numbers_after l (Post s c q) x n = n
 
 -- the same conditions as the session's own knowledge has
 abbrev pub Allows : Limits → Numbers → Event → Type 0
@@ -153,3 +163,4 @@ Allows l n (StoreCell s p x) = (0 < n.hold.tail) × (n.hold.is_whole ≡ false) 
 Allows l n (Install s) = n.hold.is_whole ≡ true
 Allows l n (Release s) = (0 < n.hold.latch) × (n.hold.tail ≡ 0)
 Allows l n (Stamp s range t) = Unit {0}
+Allows l n (Post s c q) = (n.hold.is_whole ≡ true) × IsIndexed l c

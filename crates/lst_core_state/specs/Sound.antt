@@ -3,6 +3,7 @@ use Rattle.std.specs.Prelude.{◌≡◌, ◌≢◌, ◌⊎◌, ℕ, ◌+◌, ◌
 use Rattle.std.specs.List.{Contains, AllPairs}
 use Rattle.lst_layout.specs.declared.limits.Limits.{Limits}
 use Rattle.lst_layout.specs.Limits.{IsValid}
+use Rattle.lst_probe.specs.Run.{IsReachable}
 use Rattle.lst_model.specs.declared.acts.Act.{Act}
 use Rattle.lst_model.specs.declared.acts.Write.{Write}
 use Rattle.lst_model.specs.declared.commits.Commit.{Commit}
@@ -19,8 +20,9 @@ use Rattle.lst_core_state.specs.declared.known.Looks.{Looks}
 use Rattle.lst_core_state.specs.declared.facts.Fact.{Fact}
 use Rattle.lst_core_state.specs.declared.facts.Fact.TheVariants.{IndexAt}
 use Rattle.lst_core_state.specs.declared.facts.Find.{Find}
-use Rattle.lst_core_state.specs.Cells.{record_count, tail_count, range_of, tail_at, IsCell}
+use Rattle.lst_core_state.specs.Cells.{record_count, tail_count, range_of, tail_at, has_bit, has_number, IsCell}
 use Rattle.lst_core_state.specs.Index.{size, position_of, is_placed}
+use Rattle.lst_core_state.specs.Postings.{postings_size, value_first, IsPosted, ArePosted}
 use Rattle.lst_core_state.specs.State.{Words, Core, rank, history_of, commits_of, entry, writer, writer_at, name_of, line, record_in, act_in, back_in, head_of, starts, sight, FitsAfter, counter_of}
 use Rattle.lst_core_state.specs.Facts.{IsFact, IsFind, WroteOf}
 
@@ -243,6 +245,35 @@ pub record TailWords (l : Limits) (counts : ℕ → ℕ) (cells : ℕ → ℕ �
   pub images : (t : ℕ) → 0 < cells t 0 → IsCell l.columns (cells t 1) (λ c. cells t (3 + c))
   pub undrawn : (t p : ℕ) → ((range : ℕ) → range < l.ranges → ¬ Drawn l counts range t) → cells t p ≡ 0
 
+-- ---- postings
+
+-- the position q of a column holds the tail t: it is stored, it holds the column with a number, and it stands in the run of that number
+-- with no empty position before it
+pub record Posting (l : Limits) (cells : ℕ → ℕ → ℕ) (tails : ℕ → ℕ) (column q t : ℕ) : Type 0 where
+  pub stored : 0 < cells t 0
+  pub number : has_number (cells t 1) column ≡ true
+  pub reached : IsReachable tails (postings_size l) (value_first l (cells t (3 + column))) q
+
+-- the marks of the columns of the tail in hand: where it was posted, the column is posted, and where it was found unposted, it isn't posted, unless
+-- the tail was posted since
+pub record Marks (l : Limits) (cells postings : ℕ → ℕ → ℕ) (h : Hold) (d : Draft) : Type 0 where
+  pub posted : (column : ℕ) → 0 < h.tail → has_bit d.posted column ≡ true → (h.is_whole ≡ true) × IsPosted l cells (postings column) column (h.latch - 1) (cells h.tail (3 + column))
+  pub found : (column : ℕ) → 0 < h.tail → has_bit d.unposted column ≡ true → (h.is_whole ≡ true) × (has_number (cells h.tail 1) column ≡ true)
+  pub unposted : (column : ℕ) → 0 < h.tail → has_bit d.unposted column ≡ true → has_bit d.posted column ≡ false → ¬ IsPosted l cells (postings column) column (h.latch - 1) (cells h.tail (3 + column))
+
+abbrev pub MarksOf : Limits → Words → Known → Type 0
+MarksOf l w v = Marks l w.cells w.postings v.hold v.draft
+
+-- of the tails on the chains each indexed column that they hold with a number is posted, and positions of a column hold different tails
+pub record Postings (l : Limits) (cells postings : ℕ → ℕ → ℕ) (chains : ℕ → List ℕ) (holds : ℕ → Hold) (drafts : ℕ → Draft) : Type 0 where
+  pub chained : (r : ℕ) → r < record_count l → (t : ℕ) → Has t (chains r) → ArePosted l cells postings r t
+  pub filled : (column q : ℕ) → 0 < postings column q → Posting l cells (postings column) column q (postings column q)
+  pub once : (column p q : ℕ) → 0 < postings column p → postings column p ≡ postings column q → p ≡ q
+  pub marks : (s : ℕ) → s < l.sessions → Marks l cells postings (holds s) (drafts s)
+
+abbrev pub PostingsOf : Limits → Words → (ℕ → Known) → Type 0
+PostingsOf l w known = Postings l w.cells w.postings (line l w) (λ s. (known s).hold) (λ s. (known s).draft)
+
 -- ---- the lists of what was drawn, latched and done
 
 -- each version on a chain is once in the list of its writer, and the list has nothing else
@@ -304,6 +335,7 @@ pub record Sound (c : Core) : Type 0 where
   pub tail_words : TailWords c.limits c.words.counts c.words.cells c.known
   pub counted : TailsCounted c.limits c.words.counts c.known
   pub counters : HasCounters c.limits c.known
+  pub postings : PostingsOf c.limits c.words c.known
   pub listed : Listed c.limits c.words c.known
   pub facts : (s : ℕ) → s < c.limits.sessions → FactsOf c.limits c.words (c.known s).facts
   pub recorded : (s : ℕ) → s < c.limits.sessions → RecordedOf c.words.keys (c.known s)

@@ -19,6 +19,7 @@ use Rattle.lst_core_state.specs.declared.known.Looks.{Looks}
 use Rattle.lst_core_state.specs.declared.known.Stage.{Stage}
 use Rattle.lst_core_state.specs.declared.known.Stage.TheVariants.{Away, Taken, Fresh, Logged, Stated, Done}
 use Rattle.lst_core_state.specs.Cells.{range_of, tail_range, tail_at, act_of, record_of, listed, tail_count}
+use Rattle.lst_core_state.specs.Pages.{no_pages}
 
 pub record Core : Type 0 where
   pub limits : Limits
@@ -42,7 +43,7 @@ abbrev pub no_placing : Placing
 no_placing = record { hand = 0; key = 0; has_key = false; counter = no_counter; drawn = [] }
 
 abbrev pub no_draft : Draft
-no_draft = record { words = []; stored = 0; posted = 0 }
+no_draft = record { words = []; stored = 0; posted = 0; unposted = 0 }
 
 abbrev pub no_looks : Looks
 no_looks = record { index = 0; start = 0; about = 0; tail = 0; state = 0; session = 0; number = 0 }
@@ -65,6 +66,7 @@ newcomer l = record {
   facts = [];
   finds = [];
   looks = no_looks;
+  pages = no_pages l;
 }
 
 -- how far a session is with its turn

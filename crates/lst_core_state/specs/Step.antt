@@ -1,16 +1,16 @@
 -- The kinds of step: where each is enabled, and what it changes.
 use Rattle.std.specs.Prelude.{◌≡◌, ℕ, ◌+◌, ◌-◌, ◌*◌, ◌/◌, ◌%◌, ◌^◌, ◌<◌, ◌≤◌, List, [], ◌∷◌, ◌++◌, Bool, true, false, cond, eqb, nat_lt, ◌&&◌, ◌||◌, bit_or, length, replicate, slice_set}
 use Rattle.lst_layout.specs.declared.limits.Limits.{Limits}
-use Rattle.lst_layout.specs.Areas.{words_of}
+use Rattle.lst_layout.specs.Areas.{words_of, IsIndexed}
 use Rattle.lst_model.specs.Histories.{joined}
 use Rattle.lst_layout.specs.Functions.{put, put_in}
 use Rattle.lst_core_state.specs.Lists.{Judged}
 use Rattle.lst_core_state.specs.Writes.{write, commit}
 use Rattle.lst_core_state.specs.declared.events.Event.{Event}
-use Rattle.lst_core_state.specs.declared.events.Event.TheVariants.{Look, Begin, Take, Log, State, Clock, Give, Close, DrawRecord, StoreKey, Claim, Latch, DrawTail, StoreCell, Install, Release, Stamp}
+use Rattle.lst_core_state.specs.declared.events.Event.TheVariants.{Look, Begin, Take, Log, State, Clock, Give, Close, DrawRecord, StoreKey, Claim, Latch, DrawTail, StoreCell, Install, Release, Stamp, Post}
 use Rattle.lst_layout.specs.declared.place.Place.{Place}
 use Rattle.lst_layout.specs.declared.place.Place.TheVariants.{ClockWord, EpochWord, RecordCounter, StateWord, KeyWord, IndexWord, HeadWord, TailCounter, CellWord, PostingWord}
-use Rattle.lst_core_state.specs.declared.facts.Fact.TheVariants.{RecordsAtLeast, TailsAtLeast, EpochAtLeast, IndexAt}
+use Rattle.lst_core_state.specs.declared.facts.Fact.TheVariants.{RecordsAtLeast, TailsAtLeast, EpochAtLeast, IndexAt, PostAt}
 use Rattle.lst_core_state.specs.declared.facts.Find.{Find}
 use Rattle.lst_core_state.specs.declared.facts.Find.TheVariants.{LatchedRecord, FreshClock, FreshEpoch, HeldTurn, FullRecords, FullTails, CountedTails, EmptyStart, TailLoad}
 use Rattle.lst_core_state.specs.declared.known.Known.{Known}
@@ -19,6 +19,7 @@ use Rattle.lst_core_state.specs.declared.known.Stage.{Stage}
 use Rattle.lst_core_state.specs.declared.known.Stage.TheVariants.{Away, Taken, Fresh, Logged, Stated, Done}
 use Rattle.lst_core_state.specs.Cells.{record_count, range_of, IsCell}
 use Rattle.lst_core_state.specs.Index.{size, is_placed, Reaches}
+use Rattle.lst_core_state.specs.Postings.{postings_size, IsPut, IsPostable, is_unposted}
 use Rattle.lst_core_state.specs.State.{Words, Core, rank, name_of, entry, writer_at, state_at, line, record_in, act_in, history_of, sight, FitsAfter, no_hold, counter_of}
 use Rattle.lst_layout.specs.Addresses.{place_of}
 use Rattle.lst_core_state.specs.Facts.{index_fact, index_facts, state_fact, cell_fact, stored_fact, commit_fact, chain_facts, post_fact, active_find, early_find}
@@ -41,6 +42,7 @@ session_of (StoreCell s p x) = s
 session_of (Install s) = s
 session_of (Release s) = s
 session_of (Stamp s range n) = s
+session_of (Post s c q) = s
 
 -- the fields of an event are within the limits. The merger is one more session, which only loads
 abbrev pub IsWithin : Limits → Event → Type 0
@@ -50,6 +52,7 @@ IsWithin l (Latch s r) = (s < l.sessions) × (r < record_count l)
 IsWithin l (DrawTail s range) = (s < l.sessions) × (range < l.ranges)
 IsWithin l (StoreCell s p x) = (s < l.sessions) × (p < 3 + l.columns)
 IsWithin l (Stamp s range n) = (s < l.sessions) × (range < l.ranges) × (0 < n) × (n ≤ l.tails)
+IsWithin l (Post s c q) = (s < l.sessions) × (c < l.columns) × (q < postings_size l)
 IsWithin l e = session_of e < l.sessions
 
 -- ---- where a step may be made
@@ -77,6 +80,7 @@ Enabled l v (StoreCell s p x) = (0 < v.hold.tail) × (v.hold.is_whole ≡ false)
 Enabled l v (Install s) = v.hold.is_whole ≡ true
 Enabled l v (Release s) = (0 < v.hold.latch) × (v.hold.tail ≡ 0)
 Enabled l v (Stamp s range n) = Unit {0}
+Enabled l v (Post s c q) = (v.hold.is_whole ≡ true) × IsIndexed l c
 
 -- the words of the tail in hand but the start word are those of a write on the latched record that fits what the transaction sees
 abbrev pub IsDrafted : Limits → Words → Known → ℕ → Type 0
@@ -93,8 +97,9 @@ Stands l w v (Claim s q) = Reaches l w.keys w.index v.placing.key q
 Stands l w v (Latch s r) = is_placed l w.index r ≡ true
 Stands l w v (DrawTail s range) = Judged (entry w.states) (entry w.begins) (writer_at w) (name_of s v.number) (line l w (v.hold.latch - 1))
 Stands l w v (StoreCell s p x) = IsDrafted l w v p
-Stands l w v (Install s) = w.cells v.hold.tail 2 ≡ v.hold.head
+Stands l w v (Install s) = IsPut l w v.hold
 Stands l w v (Stamp s range n) = IsCommitted w (range * l.tails + n)
+Stands l w v (Post s c q) = IsPostable l w v.hold c q
 Stands l w v e = Unit {0}
 
 -- ---- what a step changes
@@ -121,6 +126,7 @@ words_after l w v (StoreCell s p x) = record w { cells = put_in w.cells v.hold.t
 words_after l w v (Install s) = record w { heads = put w.heads (v.hold.latch - 1) (2 * number_in l (v.hold.latch - 1) v.hold.tail) }
 words_after l w v (Release s) = record w { heads = put w.heads (v.hold.latch - 1) (2 * v.hold.head) }
 words_after l w v (Stamp s range n) = record w { cells = put_in w.cells (range * l.tails + n) 0 (2 * (state_at w (range * l.tails + n) - 1)) }
+words_after l w v (Post s c q) = record w { postings = put_in w.postings c q (cond (eqb (w.postings c q) 0) v.hold.tail (w.postings c q)) }
 
 -- ---- what the session knows then
 
@@ -176,7 +182,10 @@ look_at l w v (CellWord t p) = record v {
   finds = v.finds ++ TailLoad t ∷ cond (eqb p 0 && eqb (w.cells t 0) 0) (EmptyStart t ∷ []) [];
   looks = cond (eqb p 0) (record v.looks { start = w.cells t 0; about = record_in l w.cells t + 1; tail = t }) v.looks;
 }
-look_at l w v (PostingWord c q) = record v { facts = v.facts ++ post_fact w c q }
+look_at l w v (PostingWord c q) = record v {
+  draft = record v.draft { unposted = cond (is_unposted l w v.hold c q) (bit_or v.draft.unposted (2 ^ c)) v.draft.unposted };
+  facts = v.facts ++ post_fact w c q;
+}
 look_at l w v _ = v
 
 -- the two ways in which a step may go, where it can go in two
@@ -218,7 +227,7 @@ latch_lost l w v r = record v { facts = v.facts ++ chain_facts l w r; finds = v.
 abbrev pub tail_drawn : Limits → Words → Known → ℕ → Known
 tail_drawn l w v range = record v {
   hold = record v.hold { tail = range * l.tails + w.counts range + 1 };
-  draft = record { words = replicate (3 + l.columns) 0; stored = 0; posted = 0 };
+  draft = record { words = replicate (3 + l.columns) 0; stored = 0; posted = 0; unposted = 0 };
   counters = slice_set v.counters range (spent (counter_of v range));
   facts = v.facts ++ TailsAtLeast range (w.counts range + 1) ∷ [];
 }
@@ -239,6 +248,12 @@ cell_started l w v p x = record v {
 
 abbrev pub word_stored : Known → ℕ → ℕ → Known
 word_stored v p x = record v { draft = record v.draft { words = slice_set v.draft.words p x; stored = bit_or v.draft.stored (2 ^ p) } }
+
+abbrev pub posted : Known → ℕ → ℕ → Known
+posted v c q = record v { draft = record v.draft { posted = bit_or v.draft.posted (2 ^ c) }; facts = v.facts ++ PostAt c q v.hold.tail ∷ [] }
+
+abbrev pub post_lost : Words → Known → ℕ → ℕ → Known
+post_lost w v c q = record v { facts = v.facts ++ post_fact w c q }
 
 abbrev pub known_after : Limits → Words → Known → Event → Known
 known_after l w v (Look s a) = look_at l w v (place_of l a)
@@ -262,6 +277,7 @@ known_after l w v (Install s) = record v {
 }
 known_after l w v (Release s) = record v { hold = no_hold }
 known_after l w v (Stamp s range n) = v
+known_after l w v (Post s c q) = cond (eqb (w.postings c q) 0) (posted v c q) (post_lost w v c q)
 
 -- ---- the state after a step
 

@@ -219,6 +219,11 @@ pub fn advance(layout: &Layout, now: &mut Numbers, event: Event, found: u64)
             session: _,
             range: _,
             number: _,
+        }
+        | Event::Post {
+            session: _,
+            column: _,
+            position: _,
         } => {}
     }
 }

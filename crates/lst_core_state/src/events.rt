@@ -83,4 +83,10 @@ pub enum Event {
         range: u32,
         number: u32,
     },
+    /// Exchange a position of an indexed column's postings from 0 to the tail in hand.
+    Post {
+        session: u32,
+        column: u32,
+        position: u32,
+    },
 }

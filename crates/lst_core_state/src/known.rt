@@ -1,6 +1,7 @@
 //! What a session knows.
 
 use crate::facts::{Fact, Find};
+use crate::pages::PageKnown;
 use lst_model::{Commit, Write};
 use std::collections::LinkedList;
 
@@ -62,8 +63,10 @@ pub struct Draft {
     pub words: LinkedList<u64>,
     /// Bit p is set where the word at the place p, not the start word, is stored.
     pub stored: u32,
-    /// Bit c is set where the indexed column c is posted.
+    /// Bit c is set where the tail was posted in the indexed column c.
     pub posted: u32,
+    /// Bit c is set where the run of the tail's number in column c was found to end with no posting of its record and number.
+    pub unposted: u32,
 }
 
 /// A write that is on a chain: by which transaction of the session, on which record, and its tail.
@@ -113,4 +116,5 @@ pub struct Known {
     pub facts: LinkedList<Fact>,
     pub finds: LinkedList<Find>,
     pub looks: Looks,
+    pub pages: PageKnown,
 }

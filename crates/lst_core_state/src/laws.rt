@@ -1,5 +1,5 @@
 //! The laws of the protocol. Each function is a law: its contract holds at all values, and its body does nothing.
-ghost use Rattle.lst_core_state.specs.Laws.{HistoriesAreSound, ChainsAreSights, AbsentIsUnseen, VisibleIsSeen, SeenMayGrow, MergerMayGrow, StepsAreSound};
+ghost use Rattle.lst_core_state.specs.Laws.{HistoriesAreSound, ChainsAreSights, AbsentIsUnseen, VisibleIsSeen, ChainsAreHistory, AbsentIsUnwritten, PostingsHaveRoom, VersionsAreShown, PostingsAreTails, MarkedArePosted, EndsAreMarked, UnpostedMayBePosted, SeenMayGrow, MergerMayGrow, StepsAreSound};
 ghost use Rattle.lst_core_state.specs.Runs.{EveryRunIsSound};
 
 /// Every list of enabled events, from the opening state of a store with any limits, leads to a sound state.
@@ -31,6 +31,32 @@ pub fn chains_are_sights()
 /// Whether a version was committed by a transaction's begin can be read off what the session has seen, at any time.
 pub fn visible_is_seen()
     ensures { VisibleIsSeen }
+{}
+
+/// In a sound state the acts on the key of a record in the index, up to any time by the clock, are those of its versions that
+/// were committed by then. No commit wrote a key that is in no position of the index.
+pub fn chains_are_history()
+    ensures placed { ChainsAreHistory }
+    ensures absent { AbsentIsUnwritten }
+{}
+
+/// In a sound state the postings of no column are full: each value's run comes to an empty position. The positions before it
+/// show each version on a chain that holds the indexed column with this number, by a tail of its record with the value. Each
+/// posting holds a stored tail that has the column with a number, on its record's chain or in hand. A column that a session has
+/// marked as posted of its tail in hand is posted.
+pub fn postings_are_complete()
+    ensures room { PostingsHaveRoom }
+    ensures shown { VersionsAreShown }
+    ensures tails { PostingsAreTails }
+    ensures marked { MarkedArePosted }
+{}
+
+/// A load of the position at which the run of a tail's number ends, with no posting of its record and number before it, marks the
+/// column as found unposted. In a sound state the tail may then be posted at each position of the run whose positions before
+/// are known to hold tails, until it is posted.
+pub fn unposted_may_be_posted()
+    ensures marked { EndsAreMarked }
+    ensures enabled { UnpostedMayBePosted }
 {}
 
 /// A state stays sound where a session has seen more of the history and has more facts, and so it does for the merger.

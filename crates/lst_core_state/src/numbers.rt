@@ -33,6 +33,12 @@ pub struct Numbers {
     pub index: u64,
     /// Whether a load serves the next draw of a tail, by range.
     pub served: [bool; 64],
+    /// Its pin word: 0 where it has no epoch pinned, else that epoch plus one.
+    pub pin: u64,
+    /// The epoch word, as the merger knows it.
+    pub epoch: u64,
+    /// The frame that the merger is building.
+    pub built: Option<u32>,
 }
 
 /// The numbers of a session that knows nothing.
@@ -57,6 +63,9 @@ const NEWCOMER: Numbers = Numbers {
     stored: 0,
     index: 0,
     served: [false; 64],
+    pin: 0,
+    epoch: 0,
+    built: None,
 };
 
 /// The numbers of this many sessions that know nothing.

@@ -59,6 +59,11 @@ pub fn target(layout: &Layout, now: &Numbers, event: Event) -> u64
             range,
             number,
         } => layout.tail_cells(range, number, 0),
+        Event::Post {
+            session: _,
+            column,
+            position,
+        } => layout.postings(column, position),
     }
 }
 
@@ -116,6 +121,17 @@ pub fn written(limits: &Limits, now: &Numbers, time: u64, event: Event, found: u
             range: _,
             number: _,
         } => 2 * time,
+        Event::Post {
+            session: _,
+            column: _,
+            position: _,
+        } => {
+            if found == 0 {
+                now.hold.tail as u64
+            } else {
+                found
+            }
+        }
     }
 }
 

@@ -32,6 +32,9 @@ use Rattle.lst_txn.specs.Transactions.{Opens, Commits}
 use Rattle.lst_index.specs.Searches.{Works, Keeps}
 use Rattle.lst_index.proofs.Views.{keeps_free}
 use Rattle.lst_write.specs.Holding.{Latches}
+use Rattle.lst_second.specs.Posting.{Posts}
+use Rattle.lst_second.proofs.Views.{posts_facts}
+use Rattle.lst_write.proofs.Posting.{posts_whole}
 use Rattle.lst_write.specs.Appending.{FitsSight, FindsFull, Appends, InstallsHeld}
 use Rattle.lst_walk.specs.Walks.{IsRowOf}
 use Rattle.lst_walk.proofs.Walking.{row_of_key}
@@ -105,11 +108,12 @@ module _ (store : Store) (seat : Sitting) (s : ℕ) (p : IsPair store seat) (low
     released_full b on range seat_of f r = let now = f.counts.view.now in
         pair_on on _ seat_of (learns_on seat.view b on.view s _ _ (learns_on seat.view j b s _ _ judged f.counts.view) r) (ap (λ (k : Known). k.placing.hand) now ∙ hand_held) (ap (λ (k : Known). rank k.turn) now ∙ turn_away) refl
 
-    pub installed : (b : View) (on : Sitting) (n : ℕ) (act : Act) → IsSeatOf store on → FitsSight (knows j s) rec act → Appends j b s rec head n act → InstallsHeld b on.view s rec n → IsPair store on
-    installed b on n act seat_of fits p' i = let now = p'.view.now in
+    pub installed : (b e : View) (on : Sitting) (n : ℕ) (act : Act) → IsSeatOf store on → FitsSight (knows j s) rec act → Appends j b s rec head n act → Posts b e s → InstallsHeld e on.view s rec n → IsPair store on
+    installed b e on n act seat_of fits p' q i = let now = p'.view.now in
         let key : HasKey (knows b s).facts rec fits.0 = (fits.1.0, subst (λ (k : Known). Contains k.facts (IndexAt fits.1.0 rec fits.0)) (sym now) (Contains-append_left (knows j s).facts p'.facts (IndexAt fits.1.0 rec fits.0) fits.1.1)) in
-        let h = i fits.0 head act key p'.whole in
-        pair_on on _ seat_of (learns_on seat.view b on.view s _ _ (learns_on seat.view j b s _ _ judged p'.view) h.view) (ap (λ (k : Known). k.placing.hand) now ∙ hand_held) (ap (λ (k : Known). rank k.turn) now ∙ turn_away) refl
+        let h = i fits.0 head act (key.0, posts_facts b e s q (IndexAt key.0 rec fits.0) key.1) (posts_whole b e s rec head n act q p'.whole) in
+        pair_on on _ seat_of (learns_on seat.view e on.view s _ _ (learns_on seat.view b e s _ _ (learns_on seat.view j b s _ _ judged p'.view) q.view) h.view)
+        (ap (λ (k : Known). k.placing.hand) q.view.now ∙ (ap (λ (k : Known). k.placing.hand) now ∙ hand_held)) (ap (λ (k : Known). rank k.turn) q.view.now ∙ (ap (λ (k : Known). rank k.turn) now ∙ turn_away)) refl
 
 -- ---- an act that fits
 

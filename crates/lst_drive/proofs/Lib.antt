@@ -1,3 +1,4 @@
 pub mod Stepping
 pub mod Writing
 pub mod Idling
+pub mod Parted

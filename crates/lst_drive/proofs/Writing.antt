@@ -20,6 +20,8 @@ use Rattle.lst_sights.specs.Watching.{Watched}
 use Rattle.lst_txn.specs.Transactions.{IsFree, Opens}
 use Rattle.lst_index.specs.Searches.{IsUnseen, Works, Keeps}
 use Rattle.lst_index.specs.Searches as index
+use Rattle.lst_second.specs.Posting.{Posts}
+use Rattle.lst_write.proofs.Posting.{posts_whole}
 use Rattle.lst_write.specs.Holding.{MayLatch, IsPlaced, Latches}
 use Rattle.lst_write.specs.Appending.{FitsSight, Appends, InstallsHeld}
 use Rattle.lst_drive.specs.Driving.{SeesActs}
@@ -29,7 +31,7 @@ sees_more k more rec key has = (has.0, Contains-append_left k.facts more (IndexA
 
 -- ---- one write
 
-module _ (v a b d w : View) (s rec head n : ℕ) (act : Act) (latches : Latches v a s rec head) (watched : Watched a b s) (keeps : KeptBy (knows a s) (knows b s)) (appends : Appends b d s rec head n act) (installs : InstallsHeld d w s rec n) where
+module _ (v a b d e w : View) (s rec head n : ℕ) (act : Act) (latches : Latches v a s rec head) (watched : Watched a b s) (keeps : KeptBy (knows a s) (knows b s)) (appends : Appends b d s rec head n act) (posts : Posts d e s) (installs : InstallsHeld e w s rec n) where
   sees_latched : (key : ℕ) (acts : List Act) → SeesActs (knows v s) rec key acts → SeesActs (knows a s) rec key acts
   sees_latched key acts x = subst (λ (k : Known). SeesActs k rec key acts) (sym latches.view.now) record { has = sees_more (knows v s) latches.facts rec key x.has; sees = x.sees }
 
@@ -42,14 +44,17 @@ module _ (v a b d w : View) (s rec head n : ℕ) (act : Act) (latches : Latches 
   sees_appended : (key : ℕ) (acts : List Act) → SeesActs (knows b s) rec key acts → SeesActs (knows d s) rec key acts
   sees_appended key acts x = subst (λ (k : Known). SeesActs k rec key acts) (sym appends.view.now) record { has = sees_more (knows b s) appends.facts rec key x.has; sees = x.sees }
 
-  sees_installed : (key : ℕ) (acts : List Act) → SeesActs (knows d s) rec key acts → SeesActs (knows w s) rec key (acts ++ act ∷ [])
-  sees_installed key acts x = let i = installs key head act x.has appends.whole in record {
+  sees_posted : (key : ℕ) (acts : List Act) → SeesActs (knows d s) rec key acts → SeesActs (knows e s) rec key acts
+  sees_posted key acts x = subst (λ (k : Known). SeesActs k rec key acts) (sym posts.view.now) record { has = sees_more (knows d s) posts.facts rec key x.has; sees = x.sees }
+
+  sees_installed : (key : ℕ) (acts : List Act) → SeesActs (knows e s) rec key acts → SeesActs (knows w s) rec key (acts ++ act ∷ [])
+  sees_installed key acts x = let i = installs key head act x.has (posts_whole d e s rec head n act posts appends.whole) in record {
     has = subst (λ (k : Known). HasKey k.facts rec key) (sym i.view.now) x.has;
     sees = i.sight ∙ ap (λ (before : List Act). before ++ act ∷ []) x.sees;
   }
 
   pub sees_written : (key : ℕ) (acts : List Act) → SeesActs (knows v s) rec key acts → SeesActs (knows w s) rec key (acts ++ act ∷ [])
-  sees_written key acts x = sees_installed key acts (sees_appended key acts (sees_judged key acts (sees_latched key acts x)))
+  sees_written key acts x = sees_installed key acts (sees_posted key acts (sees_appended key acts (sees_judged key acts (sees_latched key acts x))))
 
 -- ---- before the first
 

@@ -8,9 +8,9 @@ use Rattle.lst_rule.specs.declared.store.Store.{Store}
 use Rattle.lst_rule.specs.Seats.{Sitting}
 use Rattle.lst_rule.specs.Stores.{IsSeatOf}
 
--- one range, and 16 tail records
+-- one range, 16 tail records, and two indexed columns of 32 positions
 abbrev pub small : Limits
-small = record { columns = 2; ranges = 1; tails = 16; sessions = 2; txns = 8; spare = 1; indexed = 0 }
+small = record { columns = 2; ranges = 1; tails = 16; sessions = 2; txns = 8; spare = 1; indexed = 3 }
 
 -- no record, no turn and no latch is in hand
 pub record IsIdle (k : Known) : Type 0 where

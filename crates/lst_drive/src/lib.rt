@@ -7,7 +7,11 @@ mod machine;
 mod operations;
 mod pairs;
 #[cfg(test)]
+mod post_tests;
+#[cfg(test)]
 mod read_tests;
+#[cfg(test)]
+mod seat_tests;
 mod stages;
 #[cfg(test)]
 mod tests;

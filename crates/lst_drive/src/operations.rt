@@ -8,6 +8,7 @@ use arrayvec::ArrayVec;
 use lst_index::place;
 use lst_model::{Act, Key, Row};
 use lst_rule::{RecordId, Seat, Store};
+use lst_second::post_all;
 use lst_txn::{begin, close, take_turn};
 use lst_write::{append, install, judge, latch, release};
 
@@ -79,6 +80,7 @@ fn installs(store: &Store, seat: &mut Seat, s: u32, rec: u32, tail: u32) -> (Ans
     requires driven { IsAtStage seat.old s (Stage.Whole rec tail) }
     ensures { MovesTo store.now seat.old seat.new s result.1 }
 {
+    post_all(store, seat, s);
     install(store, seat, s, RecordId { number: rec }, tail);
     (Answer::Installed, Stage::In)
 }

@@ -13,13 +13,14 @@ use lst_layout::Limits;
 use lst_model::{Act, Key, Patch, Row, Time};
 use lst_rule::{RecordId, Seat, Store, load_cell};
 use lst_seat::open_store;
+use lst_second::post_all;
 use lst_txn::{TurnFault, begin, close, take_turn};
 use lst_walk::{column, row, stamp};
 use lst_write::{append, install, judge, latch, release};
 use std::alloc::Global;
 use std::test::Fail;
 
-/// One range, and 16 tail records.
+/// One range, 16 tail records, and two indexed columns of 32 positions.
 const SMALL: Limits = Limits {
     columns: 2,
     ranges: 1,
@@ -27,10 +28,10 @@ const SMALL: Limits = Limits {
     sessions: 2,
     txns: 8,
     spare: 1,
-    indexed: 0,
+    indexed: 3,
 };
 
-fn open_pair(alloc: Global) -> Result<(Store, Seat), Fail>
+pub(crate) fn open_pair(alloc: Global) -> Result<(Store, Seat), Fail>
     ensures { IfOk result (λ opened. IsPair opened.0 opened.1) }
 {
     let limits = SMALL;
@@ -41,7 +42,7 @@ fn open_pair(alloc: Global) -> Result<(Store, Seat), Fail>
 }
 
 /// A row of two cells.
-fn cells(first: u64, second: u64) -> Row
+pub(crate) fn cells(first: u64, second: u64) -> Row
     ensures { length result ≡ 2 }
 {
     let mut cells = ArrayVec::new();
@@ -50,13 +51,13 @@ fn cells(first: u64, second: u64) -> Row
     Row::of_numbers(cells)
 }
 
-fn put(first: u64, second: u64) -> Act
+pub(crate) fn put(first: u64, second: u64) -> Act
     ensures { IsActFor 2 result }
 {
     Act::Put(cells(first, second))
 }
 
-fn set_first(cell: u64) -> Act
+pub(crate) fn set_first(cell: u64) -> Act
     ensures { IsActFor 2 result }
 {
     let mut cells = ArrayVec::new();
@@ -76,7 +77,7 @@ fn set_first_to_null() -> Act
 }
 
 /// A row whose first cell is null.
-fn null_and(second: u64) -> Row
+pub(crate) fn null_and(second: u64) -> Row
     ensures { length result ≡ 2 }
 {
     let mut row = Row::of_numbers(ArrayVec::new());
@@ -95,7 +96,7 @@ fn set_second(cell: u64) -> Act
 }
 
 /// Session s begins: the begin, or None where it may not.
-fn start(store: &Store, seat: &mut Seat, s: u32) -> Option<Time>
+pub(crate) fn start(store: &Store, seat: &mut Seat, s: u32) -> Option<Time>
     requires pair { IsPair store.now seat.old }
     requires session { s < 2 }
     ensures { IsPair store.now seat.new }
@@ -173,13 +174,14 @@ fn write_on(store: &Store, seat: &mut Seat, s: u32, rec: RecordId, act: &Act) ->
         release(store, seat, s, rec, head);
         return None;
     };
+    post_all(store, seat, s);
     install(store, seat, s, rec, tail);
     Some(tail)
 }
 
 /// Session s writes under a key: as above, and None where it has no transaction open that may write, or the act doesn't fit the row
 /// that it sees.
-fn write(store: &Store, seat: &mut Seat, s: u32, key: Key, act: &Act) -> Option<u32>
+pub(crate) fn write(store: &Store, seat: &mut Seat, s: u32, key: Key, act: &Act) -> Option<u32>
     requires pair { IsPair store.now seat.old }
     requires session { s < 2 }
     requires act { IsActFor 2 act.now }

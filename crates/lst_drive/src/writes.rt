@@ -13,6 +13,7 @@ ghost use Rattle.lst_drive.specs.Driving.{SeesActs, Writes};
 use lst_index::{RecordId, find, place};
 use lst_model::{Act, Key, Patch, Row, Time};
 use lst_rule::{Seat, Store};
+use lst_second::post_all;
 use lst_txn::{begin, take_turn};
 use lst_write::{append, install, judge, latch, release};
 
@@ -39,6 +40,7 @@ fn write(store: &Store, seat: &mut Seat, s: u32, rec: RecordId, act: &Act) -> Op
         release(store, seat, s, rec, head);
         return None;
     };
+    post_all(store, seat, s);
     install(store, seat, s, rec, tail);
     Some(tail)
 }

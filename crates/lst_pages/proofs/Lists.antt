@@ -1,19 +1,11 @@
 -- Lists of what a function gives.
-use Rattle.std.proofs.Common.{◌≡◌, ℕ, zero, suc, ◌+◌, ◌<◌, ◌≤◌, List, ◌∷◌, refl, sym, ap, ◌∙◌, arith, length, take, drop, slice_index, slice_index_or}
+use Rattle.std.proofs.Common.{◌≡◌, ℕ, zero, suc, ◌+◌, ◌<◌, ◌≤◌, List, ◌∷◌, refl, sym, ◌∙◌, arith, length, take, drop, slice_index}
 use Rattle.std.proofs.lemmas.List.{length-drop, length-take-le, get_or-take, get_or-drop}
 use Rattle.std.proofs.lemmas.Grind.{same_number_lists}
+pub use Rattle.lst_layout.proofs.Functions.{get-listed, length-listed}
 use Rattle.lst_pages.specs.Lists.{listed}
 
 module _ {A : Type 0} where
-  pub get-listed : (f : ℕ → A) (k n i : ℕ) (d : A) → i < n → slice_index_or (listed f k n) i d ≡ f (k + i)
-  get-listed f k zero i d low = absurd (omega arith)
-  get-listed f k (suc n) zero d low = let e : k ≡ k + 0 = omega arith in ap f e
-  get-listed f k (suc n) (suc i) d low = let e : suc k + i ≡ k + suc i = omega arith in get-listed f (suc k) n i d (omega arith) ∙ ap f e
-
-  pub length-listed : (f : ℕ → A) (k n : ℕ) → length (listed f k n) ≡ n
-  length-listed f k zero = refl
-  length-listed f k (suc n) = ap suc (length-listed f (suc k) n)
-
   -- the items are the same where the functions are
   pub listed-same : (f g : ℕ → A) (k n : ℕ) → ((i : ℕ) → k ≤ i → i < k + n → g i ≡ f i) → listed g k n ≡ listed f k n
   listed-same f g k zero same = refl

@@ -1,5 +1,5 @@
 -- Right pages.
-use Rattle.std.proofs.Common.{◌≡◌, ℕ, ◌+◌, ◌<◌, ◌≤◌, List, [], ◌∷◌, ◌++◌, Some, None, cond, refl, sym, subst, ap, ◌∙◌, arith, length, take, drop, replicate, slice_index}
+use Rattle.std.proofs.Common.{◌≡◌, ℕ, ◌+◌, ◌<◌, ◌≤◌, List, ◌++◌, Some, None, cond, refl, sym, subst, ap, ◌∙◌, arith, length, take, drop, replicate, slice_index}
 use Rattle.std.proofs.lemmas.List.{take-append-le, length-append, length-replicate, get_or-replicate}
 use Rattle.lst_layout.specs.declared.TheConstants.{FRAME_VALUES, FRAME_WORDS, RANGE_RECORDS}
 use Rattle.lst_layout.specs.Frames.{time_place, null_place, null_bit}
@@ -48,11 +48,11 @@ right_same c ts words others same right = let tps = same 0 (omega arith) in reco
   entries = subst (λ (n : ℕ). HasEntries others (λ i. folded (touches c i) c blank (take n ts))) (sym tps) (entries-same words others _ same right.entries);
 }
 
--- a page stays right where a settled tail is appended
-pub right_settle : (c : ℕ) (ts : List PageTail) (t : PageTail) (words : ℕ → ℕ) → IsRightPage c ts words → IsRightPage c (ts ++ t ∷ []) words
-right_settle c ts t words r = record {
-  settled = let long = length-append ts (t ∷ []) in let low = r.settled in omega arith;
-  entries = subst (λ (us : List PageTail). HasEntries words (λ i. folded (touches c i) c blank us)) (sym (take-append-le (tps_in words) ts (t ∷ []) r.settled)) r.entries;
+-- a page stays right where settled tails are appended
+pub right_more : (c : ℕ) (ts more : List PageTail) (words : ℕ → ℕ) → IsRightPage c ts words → IsRightPage c (ts ++ more) words
+right_more c ts more words r = record {
+  settled = let long = length-append ts more in let low = r.settled in omega arith;
+  entries = subst (λ (us : List PageTail). HasEntries words (λ i. folded (touches c i) c blank us)) (sym (take-append-le (tps_in words) ts more r.settled)) r.entries;
 }
 
 -- words of 0 stand for 256 values of 0

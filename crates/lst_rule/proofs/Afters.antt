@@ -8,7 +8,7 @@ use Rattle.lst_model.specs.Histories.{Extends}
 use Rattle.lst_core_state.specs.declared.known.Known.{Known}
 use Rattle.lst_core_state.specs.declared.events.Event.{Event}
 use Rattle.lst_core_state.specs.declared.facts.Fact.{Fact}
-use Rattle.lst_core_state.specs.declared.events.Event.TheVariants.{Look, Begin, Take, Log, State, Clock, Give, Close, DrawRecord, StoreKey, Claim, Latch, DrawTail, StoreCell, Install, Release, Stamp}
+use Rattle.lst_core_state.specs.declared.events.Event.TheVariants.{Look, Begin, Take, Log, State, Clock, Give, Close, DrawRecord, StoreKey, Claim, Latch, DrawTail, StoreCell, Install, Release, Stamp, Post}
 use Rattle.lst_core_state.specs.State.{Words, Core, history_of}
 use Rattle.lst_core_state.specs.Step.{session_of, known_of, IsWithin, IsEnabled, words_after, known_after, after_own, after_merger, after}
 use Rattle.lst_core_state.specs.Facts.{IsFact}
@@ -37,6 +37,7 @@ merger_words l w u (StoreCell s p x) inside is = absurd (let h = inside.0 in ome
 merger_words l w u (Install s) inside is = absurd (let h : s < l.sessions = inside in omega arith)
 merger_words l w u (Release s) inside is = absurd (let h : s < l.sessions = inside in omega arith)
 merger_words l w u (Stamp s range n) inside is = absurd (let h = inside.0 in omega arith)
+merger_words l w u (Post s c q) inside is = absurd (let h = inside.0 in omega arith)
 
 -- who knows what
 pub known_own : (c : Core) (j : ℕ) → j ≢ c.limits.sessions → known_of c j ≡ c.known j

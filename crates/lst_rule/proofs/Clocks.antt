@@ -12,6 +12,7 @@ use Rattle.lst_core_state.specs.Facts.{early_find, index_facts}
 use Rattle.lst_core_state.specs.State.{history_of, mine}
 use Rattle.lst_core_state.specs.Step.{refreshed, took, held_off}
 use Rattle.lst_core_state.proofs.Histories.{starts_length}
+use Rattle.lst_rule.specs.declared.actions.Action.TheVariants.{Core}
 use Rattle.lst_rule.specs.declared.view.View.{View}
 use Rattle.lst_rule.specs.Rule.{knows, hosts, Told}
 use Rattle.lst_rule.specs.Learned.{Learns, Met}
@@ -34,7 +35,7 @@ clocked v w s x hosted k = record {
   own = λ low. ap (mine s) view.now ∙ (sym (t.allowed.sound.views s low).own ∙ ap (mine s) (sym (knows_own v t.words t.known t.merger t.allowed s hosted (λ f. omega arith))));
 }
   where
-    t : Told (Look s (address v.limits ClockWord)) (address v.limits ClockWord) x v w
+    t : Told (Core (Look s (address v.limits ClockWord))) (address v.limits ClockWord) x v w
     t = k.met.made.told
 
     W : Words

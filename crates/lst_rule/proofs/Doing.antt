@@ -7,7 +7,7 @@ use Rattle.lst_layout.specs.declared.limits.Limits.{Limits}
 use Rattle.lst_layout.specs.declared.place.Place.{Place}
 use Rattle.lst_layout.specs.declared.place.Place.TheVariants.{ClockWord, CommitWord, EpochWord, RecordCounter, LogWord, BeginWord, StateWord, KeyWord, IndexWord, HeadWord, TailCounter, CellWord, DirectoryWord, FrameWord, PinWord, PostingWord}
 use Rattle.lst_core_state.specs.declared.events.Event.{Event}
-use Rattle.lst_core_state.specs.declared.events.Event.TheVariants.{Look, Begin, Take, Log, State, Clock, Give, Close, DrawRecord, StoreKey, Claim, Latch, DrawTail, StoreCell, Install, Release, Stamp}
+use Rattle.lst_core_state.specs.declared.events.Event.TheVariants.{Look, Begin, Take, Log, State, Clock, Give, Close, DrawRecord, StoreKey, Claim, Latch, DrawTail, StoreCell, Install, Release, Stamp, Post}
 use Rattle.lst_core_state.specs.declared.numbers.Numbers.{Numbers}
 use Rattle.lst_core_state.specs.Numbers.{written_of, numbers_look, numbers_after}
 use Rattle.lst_rule.specs.Operations.{IsStore, IsExchange, IsDraw, IsLatch, IsQuiet}
@@ -31,6 +31,7 @@ stored l n time (StoreCell s p x1) is x y = refl
 stored l n time (Install s) is x y = refl
 stored l n time (Release s) is x y = refl
 stored l n time (Stamp s range t) is x y = refl
+stored l n time (Post s c q) is x y = absurd is
 
 pub stored_after : (l : Limits) (e : Event) → IsStore e → (n : Numbers) (x y : ℕ) → numbers_after l e x n ≡ numbers_after l e y n
 stored_after l (Look s a) is n x y = absurd is
@@ -50,6 +51,7 @@ stored_after l (StoreCell s p x1) is n x y = refl
 stored_after l (Install s) is n x y = refl
 stored_after l (Release s) is n x y = refl
 stored_after l (Stamp s range t) is n x y = refl
+stored_after l (Post s c q) is n x y = absurd is
 
 -- an exchange of 0 for what it would store
 pub exchanged : (l : Limits) (n : Numbers) (time : ℕ) (e : Event) → IsExchange e → (x : ℕ) → either (x == 0) (written_of l n 0 e 0) x ≡ written_of l n time e x
@@ -70,6 +72,7 @@ exchanged l n time (StoreCell s p x1) is x = absurd is
 exchanged l n time (Install s) is x = absurd is
 exchanged l n time (Release s) is x = absurd is
 exchanged l n time (Stamp s range t) is x = absurd is
+exchanged l n time (Post s c q) is x = refl
 
 -- an addition
 pub drawn : (l : Limits) (n : Numbers) (time : ℕ) (e : Event) → IsDraw e → (x : ℕ) → (x + 1) % 2 ^ 64 ≡ written_of l n time e x
@@ -90,6 +93,7 @@ drawn l n time (StoreCell s p x1) is x = absurd is
 drawn l n time (Install s) is x = absurd is
 drawn l n time (Release s) is x = absurd is
 drawn l n time (Stamp s range t) is x = absurd is
+drawn l n time (Post s c q) is x = absurd is
 
 and_one : (n : ℕ) → bit_and n 1 ≡ n % 2
 and_one n = let d : n / 1 ≡ n = omega arith in subst (λ (m : ℕ). bit_and m 1 ≡ m % 2) d (shr_and_one n 0)
@@ -116,6 +120,7 @@ latched l n time (StoreCell s p x1) is x = absurd is
 latched l n time (Install s) is x = absurd is
 latched l n time (Release s) is x = absurd is
 latched l n time (Stamp s range t) is x = absurd is
+latched l n time (Post s c q) is x = absurd is
 
 -- a quiet load
 pub quiet : (l : Limits) (x : ℕ) (n : Numbers) (p : Place) → IsQuiet p → numbers_look l x n p ≡ n

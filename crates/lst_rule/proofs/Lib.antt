@@ -1,4 +1,5 @@
 pub mod Afters
+pub mod Leading
 pub mod Allowing
 pub mod Enabling
 pub mod Learning
@@ -15,3 +16,10 @@ pub mod Quiets
 pub mod Surveying
 pub mod Stating
 pub mod Asking
+pub mod Parting
+pub mod Hearing
+pub mod Joining
+pub mod Changing
+pub mod Seating
+pub mod Paging
+pub mod Running

@@ -13,6 +13,7 @@ use Rattle.lst_core_state.specs.declared.events.Event.TheVariants.{Look}
 use Rattle.lst_core_state.specs.Step.{known_after, look_at}
 use Rattle.lst_core_state.specs.declared.numbers.Numbers.{Numbers}
 use Rattle.lst_core_state.specs.Numbers.{numbers_of, numbers_look}
+use Rattle.lst_rule.specs.declared.actions.Action.TheVariants.{Core}
 use Rattle.lst_rule.specs.declared.view.View.{View}
 use Rattle.lst_rule.specs.Rule.{knows, hosts, Ready, Told}
 use Rattle.lst_rule.specs.Learned.{Learns}
@@ -56,14 +57,14 @@ module _ (s a : ℕ) (p : Place) (u v : View) (numbers : List Numbers) (loads : 
   pub word_low : a < words_of L
   word_low = subst (λ (k : ℕ). k < words_of L) (sym loads.at) (below L p loads.place)
 
-  look_ready : Ready v (Look s i) i (λ x. x)
-  look_ready = subst (λ (k : ℕ). Ready v (Look s i) k (λ x. x)) (ap (address L) back) (ready_at v (Look s i) (λ x. x) loads.hosted (loads.low, below L p loads.place) tt (λ words known merger q. tt) (λ words known merger q x. refl))
+  look_ready : Ready v (Core (Look s i)) i (λ x. x)
+  look_ready = subst (λ (k : ℕ). Ready v (Core (Look s i)) k (λ x. x)) (ap (address L) back) (ready_at v (Core (Look s i)) (λ x. x) loads.hosted (loads.low, below L p loads.place) tt (λ words known merger q. tt) (λ words known merger q x. refl))
 
-  pub loads_ready : Ready u (Look s a) a (λ x. x)
-  loads_ready = subst (λ (z : View). Ready z (Look s a) a (λ x. x)) (sym loads.same) (subst (λ (k : ℕ). Ready v (Look s k) k (λ x. x)) (sym loads.at) look_ready)
+  pub loads_ready : Ready u (Core (Look s a)) a (λ x. x)
+  loads_ready = subst (λ (z : View). Ready z (Core (Look s a)) a (λ x. x)) (sym loads.same) (subst (λ (k : ℕ). Ready v (Core (Look s k)) k (λ x. x)) (sym loads.at) look_ready)
 
   abbrev Finds : View → ℕ → View → ℕ → Type 0
-  Finds z k w x = (t : Told (Look s k) k x z w) × (slice_index t.words k ≡ x)
+  Finds z k w x = (t : Told (Core (Look s k)) k x z w) × (slice_index t.words k ≡ x)
 
   pub loads_found : (w : View) (x : ℕ) → Finds u a w x → Finds v i w x
   loads_found w x h = subst (λ (k : ℕ). Finds v k w x) loads.at (subst (λ (z : View). Finds z a w x) loads.same h)
@@ -76,14 +77,14 @@ module _ (s a : ℕ) (p : Place) (u v : View) (numbers : List Numbers) (loads : 
   }
 
   counts : (w : View) (x : ℕ) → (g : Finds v i w x) → numbers_of (known_after L (shown L g.0.words) (knows v s) (Look s i)) ≡ numbers_look L x (told v s) p
-  counts w x g = becomes v (Look s i) g.0.words g.0.known g.0.merger g.0.allowed loads.hosted (loads.low, below L p loads.place) tt
+  counts w x g = becomes v (Core (Look s i)) g.0.words g.0.known g.0.merger g.0.allowed loads.hosted (loads.low, below L p loads.place) tt
       ∙ ((λ j. numbers_look L (slice_index g.0.words (address L (back j))) (told v s) (back j)) ∙ ap (λ (y : ℕ). numbers_look L y (told v s) p) g.1)
 
   pub loads_tell : (w : View) (x : ℕ) → Finds u a w x → (n : Numbers) → n ≡ numbers_look L x (told v s) p → Tells w (set numbers s n)
-  loads_tell w x h n is = let g = loads_found w x h in tells_after v w numbers (Look s i) i x s n here refl loads.hosted g.0 (counts w x g ∙ sym is)
+  loads_tell w x h n is = let g = loads_found w x h in tells_after v w numbers (Core (Look s i)) i x s n here refl loads.hosted g.0 (counts w x g ∙ sym is)
 
   pub loads_still : (w : View) (x : ℕ) → Finds u a w x → IsQuiet p → Tells w numbers
-  loads_still w x h q = let g = loads_found w x h in tells_still v w numbers (Look s i) i x s here refl loads.hosted g.0 (counts w x g ∙ quiet L x (told v s) p q)
+  loads_still w x h q = let g = loads_found w x h in tells_still v w numbers (Core (Look s i)) i x s here refl loads.hosted g.0 (counts w x g ∙ quiet L x (told v s) p q)
 
   pub loads_read : (n : Numbers) → n ≡ get_or numbers s n → n ≡ told v s
   loads_read n read = reads u v numbers s n loads.same loads.tells read loads.hosted

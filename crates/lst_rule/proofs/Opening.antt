@@ -17,6 +17,8 @@ use Rattle.lst_core_state.specs.Step.{known_of}
 use Rattle.lst_core_state.specs.Sound.{Sound}
 use Rattle.lst_core_state.proofs.Starts.{opening_sound}
 use Rattle.lst_core_state.specs.State.{state_over}
+use Rattle.lst_page_state.specs.Known.{PagesSound}
+use Rattle.lst_page_state.proofs.Beginning.{opening_is_sound}
 use Rattle.lst_rule.specs.declared.view.View.{View}
 use Rattle.lst_rule.specs.Rule.{crew, first_words, hosts, Fits, Ruled}
 use Rattle.lst_rule.specs.Learned.{Possible}
@@ -38,8 +40,14 @@ module _ (l : Limits) (sized : IsValid l) (ws : List ℕ) (is : IsOpening l ws) 
   abbrev c : Core
   c = state_over l ws (λ _. newcomer l) (newcomer l)
 
+  same : c ≡ runs.opening l
+  same = λ i. record { limits = l; words = opening_is_shown l ws is i; known = λ _. newcomer l; merger = newcomer l }
+
   pub opening_state : Sound c
-  opening_state = let same : c ≡ runs.opening l = λ i. record { limits = l; words = opening_is_shown l ws is i; known = λ _. newcomer l; merger = newcomer l } in subst Sound (sym same) (opening_sound l sized)
+  opening_state = subst Sound (sym same) (opening_sound l sized)
+
+  pub opening_pages : PagesSound c
+  opening_pages = subst PagesSound (sym same) (opening_is_sound l sized)
 
   hosts_low : (s : ℕ) → hosts (crew l) s ≡ true → s ≤ l.sessions
   hosts_low s e = dite (dec_lt s (l.sessions + 1)) (λ h. omega arith) (λ h. absurd (true≢false (sym e ∙ get_or_past (replicate (l.sessions + 1) true) s false (let e = length-replicate (l.sessions + 1) true in grind (arith, e, h)))))
@@ -68,6 +76,7 @@ module _ (l : Limits) (sized : IsValid l) (ws : List ℕ) (is : IsOpening l ws) 
     owner = λ _. 0;
     wide = is.sized;
     sound = opening_state;
+    pages = opening_pages;
     each = one;
   }
     where
@@ -76,4 +85,4 @@ module _ (l : Limits) (sized : IsValid l) (ws : List ℕ) (is : IsOpening l ws) 
       one (suc j) v e = absurd (some-ne-none v (sym e))
 
   pub crew_possible : Possible (crew l)
-  crew_possible = record { words = ws; known = λ _. newcomer l; merger = newcomer l; allowed = allowed ws (λ _. newcomer l) (newcomer l) (λ _. 0) 0 (crew l) is.sized opening_state crew_fits }
+  crew_possible = record { words = ws; known = λ _. newcomer l; merger = newcomer l; allowed = allowed ws (λ _. newcomer l) (newcomer l) (λ _. 0) 0 (crew l) is.sized opening_state opening_pages crew_fits }

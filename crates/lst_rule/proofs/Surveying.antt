@@ -11,6 +11,7 @@ use Rattle.lst_core_state.specs.declared.numbers.Numbers.{Numbers}
 use Rattle.lst_core_state.specs.State.{state_over}
 use Rattle.lst_core_state.specs.Sound.{Sound}
 use Rattle.lst_rule.specs.declared.store.Store.{Store}
+use Rattle.lst_page_state.specs.Known.{PagesSound}
 use Rattle.lst_rule.specs.declared.view.View.{View}
 use Rattle.lst_rule.specs.Rule.{hosts, Fits, Ruled, Allowed}
 use Rattle.lst_rule.specs.Learned.{Possible, Kept}
@@ -25,7 +26,7 @@ seats_survey l slots id m i all s r deep at small = (
   keeps,
   tt,
   subst (λ (ws : List ℕ). Ruled l record { words = ws; homes = s.homes; views = set s.views id w }) (sym (set-get_or s.words i 0)) ruled,
-  (record { words = s.words; known = r.known; merger = r.merger; allowed = allowed s.words r.known r.merger r.owner id v (subst (λ (z : Limits). length s.words ≡ words_of z) (sym is) r.wide) (subst (λ (z : Limits). Sound (state_over z s.words r.known r.merger)) (sym is) r.sound) (subst fits_in (sym is) fit); now = refl }, refl),
+  (record { words = s.words; known = r.known; merger = r.merger; allowed = allowed s.words r.known r.merger r.owner id v (subst (λ (z : Limits). length s.words ≡ words_of z) (sym is) r.wide) (subst (λ (z : Limits). Sound (state_over z s.words r.known r.merger)) (sym is) r.sound) (subst (λ (z : Limits). PagesSound (state_over z s.words r.known r.merger)) (sym is) r.pages) (subst fits_in (sym is) fit); now = refl }, refl),
 )
   where
     v : View
@@ -64,6 +65,7 @@ seats_survey l slots id m i all s r deep at small = (
       owner = r.owner;
       wide = r.wide;
       sound = r.sound;
+      pages = r.pages;
       each = λ j u e. ⊎_elim (λ (t : (j ≡ id) × (w ≡ u)). subst (λ (z : ℕ × View). Fits s.words (state_over l s.words r.known r.merger) r.owner z.0 z.1) (λ k. (sym t.0 k, t.1 k)) mine)
           (λ (t : (j ≢ id) × (get_elem? s.views j ≡ some u)). r.each j u t.1) (at_set s.views id j w u e);
     }
@@ -74,7 +76,7 @@ module _ (v w : View) (t : Surveyed v w) where
   -- the view is possible where it was, in the state that was met
   pub survey_allowed : HostsAll v → Allowed w t.words t.known t.merger
   survey_allowed all = let a = t.allowed in subst (λ (u : View). Allowed u t.words t.known t.merger) (sym t.now)
-      record { wide = a.wide; sound = a.sound; sized = a.sized; low = a.low; knew = a.knew; told = a.told; told_facts = a.told_facts; told_keys = a.told_keys; whole = λ _. refl; all = λ _. all }
+      record { wide = a.wide; sound = a.sound; pages = a.pages; sized = a.sized; low = a.low; knew = a.knew; told = a.told; told_facts = a.told_facts; told_keys = a.told_keys; whole = λ _. refl; all = λ _. all }
 
   pub survey_possible : HostsAll v → Possible w
   survey_possible all = record { words = t.words; known = t.known; merger = t.merger; allowed = survey_allowed all }

@@ -9,13 +9,16 @@ use Rattle.lst_layout.specs.Words.{shown}
 use Rattle.lst_core_state.specs.declared.known.Known.{Known}
 use Rattle.lst_core_state.specs.declared.events.Event.{Event}
 use Rattle.lst_core_state.specs.State.{newcomer, history_of}
-use Rattle.lst_core_state.specs.Step.{session_of, IsWithin, Enabled, known_after}
+use Rattle.lst_core_state.specs.Step.{session_of, IsWithin, Enabled}
 use Rattle.lst_core_state.proofs.Histories.{starts_length}
 use Rattle.lst_core_state.specs.declared.numbers.Numbers.{Numbers}
 use Rattle.lst_core_state.specs.Numbers.{numbers_of, place_for}
 use Rattle.lst_core_state.specs.Bounds.{IsWritable}
 use Rattle.lst_core_state.specs.State.{state_over}
+use Rattle.lst_rule.specs.declared.actions.Action.{Action}
+use Rattle.lst_rule.specs.declared.actions.Action.TheVariants.{Core}
 use Rattle.lst_rule.specs.declared.view.View.{View}
+use Rattle.lst_rule.specs.Actions.{actor, known_after_action}
 use Rattle.lst_rule.specs.Rule.{knows, hosts, view_after, Told}
 use Rattle.lst_rule.specs.Learned.{Possible}
 use Rattle.lst_rule.proofs.Enabling.{allowed_steps}
@@ -25,10 +28,10 @@ use Rattle.lst_rule.proofs.Bounded.{writable, numbers_few}
 use Rattle.lst_rule.specs.Seats.{Tells, told}
 
 -- the numbers after a step
-pub tells_after : (v w : View) (numbers : List Numbers) (e : Event) (i x s : ℕ) (n : Numbers) → Tells v numbers → session_of e ≡ s → hosts v s ≡ true → (t : Told e i x v w)
-    → numbers_of (known_after v.limits (shown v.limits t.words) (knows v (session_of e)) e) ≡ n → Tells w (set numbers s n)
-tells_after v w numbers e i x s n tells session hosted t becomes = record {
-  possible = possible_after v w e i x t;
+pub tells_after : (v w : View) (numbers : List Numbers) (a : Action) (i x s : ℕ) (n : Numbers) → Tells v numbers → actor v.limits a ≡ s → hosts v s ≡ true → (t : Told a i x v w)
+    → numbers_of (known_after_action v.limits (shown v.limits t.words) (knows v (actor v.limits a)) a) ≡ n → Tells w (set numbers s n)
+tells_after v w numbers a i x s n tells session hosted t becomes = record {
+  possible = possible_after v w a i x t;
   all = λ r h. let g = tells.all r (same_hosts r h) in let q = length-set numbers s n in omega arith;
   is = λ r h. dite (ℕ_discrete r s)
       (λ f. subst (λ (z : ℕ). get_or (set numbers s n) z (told w z) ≡ told w z) (sym f) (get_or-set_same numbers s n (told w s) (tells.all s hosted) ∙ sym here))
@@ -39,23 +42,23 @@ tells_after v w numbers e i x s n tells session hosted t becomes = record {
     same_hosts r h = sym (ap (λ (u : View). hosts u r) t.now) ∙ h
 
     k : ℕ
-    k = session_of e
+    k = actor v.limits a
 
     low : s < length v.known
-    low = let a = t.allowed.low s hosted in let b = t.allowed.sized in omega arith
+    low = let h = t.allowed.low s hosted in let b = t.allowed.sized in omega arith
 
     here : told w s ≡ n
-    here = ap (λ (u : View). told u s) t.now ∙ (subst (λ (z : ℕ). told (view_after e i x t.words v) z ≡ n) session
-        (ap numbers_of (get_or-set_same v.known k (known_after v.limits (shown v.limits t.words) (knows v k) e) (newcomer v.limits) (let a = low in let b = session in omega arith)) ∙ becomes))
+    here = ap (λ (u : View). told u s) t.now ∙ (subst (λ (z : ℕ). told (view_after a i x t.words v) z ≡ n) session
+        (ap numbers_of (get_or-set_same v.known k (known_after_action v.limits (shown v.limits t.words) (knows v k) a) (newcomer v.limits) (let h = low in let b = session in omega arith)) ∙ becomes))
 
     else : (r : ℕ) → r ≢ s → told w r ≡ told v r
-    else r other = ap (λ (u : View). told u r) t.now ∙ ap numbers_of (get_or-set_other v.known k r (known_after v.limits (shown v.limits t.words) (knows v k) e) (newcomer v.limits) (λ f. other (f ∙ session)))
+    else r other = ap (λ (u : View). told u r) t.now ∙ ap numbers_of (get_or-set_other v.known k r (known_after_action v.limits (shown v.limits t.words) (knows v k) a) (newcomer v.limits) (λ f. other (f ∙ session)))
 
 -- the same where the numbers stay
-pub tells_still : (v w : View) (numbers : List Numbers) (e : Event) (i x s : ℕ) → Tells v numbers → session_of e ≡ s → hosts v s ≡ true → (t : Told e i x v w)
-    → numbers_of (known_after v.limits (shown v.limits t.words) (knows v (session_of e)) e) ≡ numbers_of (knows v (session_of e)) → Tells w numbers
-tells_still v w numbers e i x s tells session hosted t stays = record {
-  possible = possible_after v w e i x t;
+pub tells_still : (v w : View) (numbers : List Numbers) (a : Action) (i x s : ℕ) → Tells v numbers → actor v.limits a ≡ s → hosts v s ≡ true → (t : Told a i x v w)
+    → numbers_of (known_after_action v.limits (shown v.limits t.words) (knows v (actor v.limits a)) a) ≡ numbers_of (knows v (actor v.limits a)) → Tells w numbers
+tells_still v w numbers a i x s tells session hosted t stays = record {
+  possible = possible_after v w a i x t;
   all = λ r h. tells.all r (same_hosts r h);
   is = λ r h. subst (λ (u : Numbers). get_or numbers r u ≡ u) (sym (same r)) (tells.is r (same_hosts r h));
 }
@@ -64,15 +67,15 @@ tells_still v w numbers e i x s tells session hosted t stays = record {
     same_hosts r h = sym (ap (λ (u : View). hosts u r) t.now) ∙ h
 
     k : ℕ
-    k = session_of e
+    k = actor v.limits a
 
     low : k < length v.known
-    low = let a = t.allowed.low s hosted in let b = t.allowed.sized in let c = session in omega arith
+    low = let h = t.allowed.low s hosted in let b = t.allowed.sized in let c = session in omega arith
 
     same : (r : ℕ) → told w r ≡ told v r
     same r = ap (λ (u : View). told u r) t.now ∙ dite (ℕ_discrete r k)
-        (λ f. subst (λ (z : ℕ). told (view_after e i x t.words v) z ≡ told v z) (sym f) (ap numbers_of (get_or-set_same v.known k (known_after v.limits (shown v.limits t.words) (knows v k) e) (newcomer v.limits) low) ∙ stays))
-        (λ other. ap numbers_of (get_or-set_other v.known k r (known_after v.limits (shown v.limits t.words) (knows v k) e) (newcomer v.limits) other))
+        (λ f. subst (λ (z : ℕ). told (view_after a i x t.words v) z ≡ told v z) (sym f) (ap numbers_of (get_or-set_same v.known k (known_after_action v.limits (shown v.limits t.words) (knows v k) a) (newcomer v.limits) low) ∙ stays))
+        (λ other. ap numbers_of (get_or-set_other v.known k r (known_after_action v.limits (shown v.limits t.words) (knows v k) a) (newcomer v.limits) other))
 
 -- what a session may do that the seat hosts
 pub record MayStep (v : View) (n : Numbers) (e : Event) : Type 0 where
@@ -84,7 +87,7 @@ pub may_step : (v : View) (s : ℕ) (e : Event) → Possible v → hosts v s ≡
 may_step v s e p hosted low session within ok = record {
   valid = p.allowed.sound.sized;
   place = subst (λ (k : ℕ). layout.IsWithin v.limits (place_for v.limits (told v k) e)) session
-      (allowed_steps v e p.words p.known p.merger p.allowed (subst (λ (k : ℕ). hosts v k ≡ true) (sym session) hosted) within (subst (λ (k : ℕ). Enabled v.limits (knows v k) e) (sym session) ok)).within;
+      (allowed_steps v (Core e) p.words p.known p.merger p.allowed (subst (λ (k : ℕ). hosts v k ≡ true) (sym session) hosted) within (subst (λ (k : ℕ). Enabled v.limits (knows v k) e) (sym session) ok)).within;
   writable = let same = knows_own v p.words p.known p.merger p.allowed s hosted (λ f. omega arith) in subst (λ (u : Known). IsWritable v.limits (numbers_of u) e) (sym same)
       (writable (state_over v.limits p.words p.known p.merger) p.allowed.sound s low e within (subst (λ (u : Known). Enabled v.limits u e) same ok));
 }

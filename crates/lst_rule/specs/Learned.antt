@@ -7,7 +7,12 @@ use Rattle.lst_core_state.specs.declared.known.Known.{Known}
 use Rattle.lst_core_state.specs.declared.events.Event.{Event}
 use Rattle.lst_core_state.specs.Step.{session_of, Stands, known_after}
 use Rattle.lst_core_state.specs.Targets.{time_for}
+use Rattle.lst_page_state.specs.declared.events.PageEvent.{PageEvent}
+use Rattle.lst_page_state.specs.Known.{stepper, PageStands, known_after_page}
+use Rattle.lst_rule.specs.declared.actions.Action.{Action}
+use Rattle.lst_rule.specs.declared.actions.Action.TheVariants as action
 use Rattle.lst_rule.specs.declared.view.View.{View}
+use Rattle.lst_rule.specs.Actions.{actor, ActionStands}
 use Rattle.lst_rule.specs.Rule.{knows, Allowed, Told}
 
 -- the view is possible in some state of the store
@@ -17,9 +22,17 @@ pub record Possible (v : View) : Type 0 where
   pub merger : Known
   pub allowed : Allowed v words known merger
 
--- the words allow the event, wherever the store is, as far as the view says
+-- the words allow the step, wherever the store is, as far as the view says
+abbrev pub MayStand : View → Action → Type 0
+MayStand v a = (words : List ℕ) (known : ℕ → Known) (merger : Known) → Allowed v words known merger → ActionStands v.limits (shown v.limits words) (knows v (actor v.limits a)) a
+
+-- of the core
 abbrev pub CanStand : View → Event → Type 0
 CanStand v e = (words : List ℕ) (known : ℕ → Known) (merger : Known) → Allowed v words known merger → Stands v.limits (shown v.limits words) (knows v (session_of e)) e
+
+-- and on pages
+abbrev pub PageCanStand : View → PageEvent → Type 0
+PageCanStand v e = (words : List ℕ) (known : ℕ → Known) (merger : Known) → Allowed v words known merger → PageStands v.limits (shown v.limits words) (knows v (stepper v.limits e)).pages e
 
 -- a stamp stores this time, wherever the store is
 abbrev pub Times : View → Event → ℕ → Type 0
@@ -41,12 +54,26 @@ pub record Kept (v w : View) : Type 0 where
 
 -- the step e was made on the word at the place, which it left as x
 pub record Made (v w : View) (e : Event) (p : Place) (x : ℕ) : Type 0 where
-  pub told : Told e (address v.limits p) x v w
+  pub told : Told (action.Core e) (address v.limits p) x v w
   pub view : Learns v w (session_of e) (known_after v.limits (shown v.limits told.words) (knows v (session_of e)) e)
   pub words : w.words ≡ slice_set v.words (address v.limits p) x
 
 -- and which it had found as y
 pub record Met (v w : View) (e : Event) (p : Place) (x y : ℕ) : Type 0 where
   pub made : Made v w e p x
+  pub found : word_at (shown v.limits made.told.words) p ≡ y
+  pub own : v.whole ≡ true → y ≡ slice_index v.words (address v.limits p)
+
+-- ---- the same of a step on pages
+
+-- the step e was made on the word at the place, which it left as x
+pub record PageMade (v w : View) (e : PageEvent) (p : Place) (x : ℕ) : Type 0 where
+  pub told : Told (action.Page e) (address v.limits p) x v w
+  pub view : Learns v w (stepper v.limits e) (known_after_page v.limits (shown v.limits told.words) (knows v (stepper v.limits e)) e)
+  pub words : w.words ≡ slice_set v.words (address v.limits p) x
+
+-- and which it had found as y
+pub record PageMet (v w : View) (e : PageEvent) (p : Place) (x y : ℕ) : Type 0 where
+  pub made : PageMade v w e p x
   pub found : word_at (shown v.limits made.told.words) p ≡ y
   pub own : v.whole ≡ true → y ≡ slice_index v.words (address v.limits p)

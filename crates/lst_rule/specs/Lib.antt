@@ -1,3 +1,4 @@
+pub mod Actions
 pub mod Rule
 pub mod Learned
 pub mod Seats
@@ -5,3 +6,6 @@ pub mod Stores
 pub mod Surveys
 pub mod Operations
 pub mod Statuses
+pub mod Joins
+pub mod PageSteps
+pub mod Runs

@@ -7,10 +7,11 @@ use Rattle.lst_rule.specs.declared.view.View.{View}
 use Rattle.lst_rule.specs.Rule.{knows, hosts}
 use Rattle.lst_rule.specs.Learned.{Possible}
 
--- which table a seat is of, and what it knows
+-- which table a seat is of, and what it knows; a note's seat has how many commits it tells of
 pub record Sitting : Type 0 where
   pub table : TableId
   pub view : View
+  pub note_time : ℕ
 
 abbrev pub told : View → ℕ → Numbers
 told v s = numbers_of (knows v s)

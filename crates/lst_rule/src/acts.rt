@@ -9,6 +9,7 @@ ghost use Rattle.lst_rule.specs.Operations.{IsStore, IsExchange, IsDraw, IsLatch
 ghost use Rattle.lst_rule.specs.Seats.{told};
 ghost use Rattle.lst_rule.specs.Stores.{IsSeatOf};
 
+use crate::actions::Action;
 use crate::seat::Seat;
 use crate::store::Store;
 use crate::{add_one, compare_exchange, set_lowest_bit, store_word};
@@ -33,7 +34,13 @@ pub(crate) fn store_event(store: &Store, seat: &mut Seat, s: u32, event: Event, 
     let now = seat.numbers(s, event);
     let word = target(&store.layout, now, event) as usize;
     let new = written(&store.layout.limits, now, time, event, 0);
-    store_word(&store.table.shared, &mut seat.place, event, word, new);
+    store_word(
+        &store.table.shared,
+        &mut seat.place,
+        Action::Core(event),
+        word,
+        new,
+    );
     advance(&store.layout, &mut seat.numbers[s as usize], event, 0);
 }
 
@@ -54,7 +61,14 @@ pub(crate) fn exchange_event(store: &Store, seat: &mut Seat, s: u32, event: Even
     let now = seat.numbers(s, event);
     let word = target(&store.layout, now, event) as usize;
     let new = written(&store.layout.limits, now, 0, event, 0);
-    let found = compare_exchange(&store.table.shared, &mut seat.place, event, word, 0, new);
+    let found = compare_exchange(
+        &store.table.shared,
+        &mut seat.place,
+        Action::Core(event),
+        word,
+        0,
+        new,
+    );
     advance(&store.layout, &mut seat.numbers[s as usize], event, found);
     found
 }
@@ -75,7 +89,12 @@ pub(crate) fn draw_event(store: &Store, seat: &mut Seat, s: u32, event: Event) -
 {
     let now = seat.numbers(s, event);
     let word = target(&store.layout, now, event) as usize;
-    let found = add_one(&store.table.shared, &mut seat.place, event, word);
+    let found = add_one(
+        &store.table.shared,
+        &mut seat.place,
+        Action::Core(event),
+        word,
+    );
     advance(&store.layout, &mut seat.numbers[s as usize], event, found);
     found
 }
@@ -96,7 +115,12 @@ pub(crate) fn latch_event(store: &Store, seat: &mut Seat, s: u32, event: Event) 
 {
     let now = seat.numbers(s, event);
     let word = target(&store.layout, now, event) as usize;
-    let found = set_lowest_bit(&store.table.shared, &mut seat.place, event, word);
+    let found = set_lowest_bit(
+        &store.table.shared,
+        &mut seat.place,
+        Action::Core(event),
+        word,
+    );
     advance(&store.layout, &mut seat.numbers[s as usize], event, found);
     found
 }

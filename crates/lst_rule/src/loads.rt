@@ -6,6 +6,7 @@ ghost use Rattle.lst_rule.specs.Rule.{hosts};
 ghost use Rattle.lst_rule.specs.Operations.{IsQuiet};
 ghost use Rattle.lst_rule.specs.Stores.{IsSeatOf, Looked, Clocked};
 
+use crate::actions::Action;
 use crate::load_word;
 use crate::seat::Seat;
 use crate::store::Store;
@@ -36,7 +37,7 @@ pub(crate) fn load_quietly(
     load_word(
         &store.table.shared,
         &mut seat.place,
-        event,
+        Action::Core(event),
         address as usize,
     )
 }
@@ -57,7 +58,7 @@ pub(crate) fn load_noted(store: &Store, seat: &mut Seat, s: u32, place: Place, a
     let found = load_word(
         &store.table.shared,
         &mut seat.place,
-        event,
+        Action::Core(event),
         address as usize,
     );
     look(

@@ -41,6 +41,7 @@ pub fn open_store(alloc: Global, layout: &Layout) -> Result<(Store, Seat), OutOf
         limits: layout.limits,
         hosted,
         numbers,
+        note_time: 0,
     };
     Ok((store, seat))
 }

@@ -1,6 +1,7 @@
 //! The rule of the table, and what each operation on a word tells.
-ghost use Rattle.lst_core_state.specs.declared.events.Event.{Event};
 ghost use Rattle.lst_core_state.specs.declared.events.Event.TheVariants.{Look};
+ghost use Rattle.lst_rule.specs.declared.actions.Action.{Action};
+ghost use Rattle.lst_rule.specs.declared.actions.Action.TheVariants.{Core};
 ghost use Rattle.lst_rule.specs.Rule.{Ruled, crew, loaded, stored, exchanged, added, bits_set};
 
 use crate::view::View;
@@ -8,7 +9,7 @@ use atomic_table::{Play, TableRule};
 use lst_layout::Limits;
 use std::marker::{Brand, PhantomData};
 
-/// The words and the views of all seats show a sound state of the core.
+/// The words and the views of all seats show a sound state of the core and of pages.
 pub struct StoreRule;
 
 impl TableRule<(), View, Limits> for StoreRule {
@@ -17,13 +18,13 @@ impl TableRule<(), View, Limits> for StoreRule {
     ghost first = { crew };
 }
 
-/// The event that a step is.
+/// What a step is.
 pub trait Means {
-    ghost event: { Event };
+    ghost action: { Action };
 }
 
 impl Means for Brand {
-    ghost event = { Look 0 0 };
+    ghost action = { Core (Look 0 0) };
 }
 
 /// A load.
@@ -32,7 +33,7 @@ pub struct Loads<E> {
 }
 
 impl<E: Means> Play<(), View> for Loads<E> {
-    ghost then = { loaded E.event };
+    ghost then = { loaded E.action };
 }
 
 /// A store.
@@ -41,7 +42,7 @@ pub struct Stores<E> {
 }
 
 impl<E: Means> Play<(), View> for Stores<E> {
-    ghost then = { stored E.event };
+    ghost then = { stored E.action };
 }
 
 /// An exchange of one number for another.
@@ -50,7 +51,7 @@ pub struct Exchanges<E> {
 }
 
 impl<E: Means> Play<(), View> for Exchanges<E> {
-    ghost then = { exchanged E.event };
+    ghost then = { exchanged E.action };
 }
 
 /// An addition.
@@ -59,7 +60,7 @@ pub struct Adds<E> {
 }
 
 impl<E: Means> Play<(), View> for Adds<E> {
-    ghost then = { added E.event };
+    ghost then = { added E.action };
 }
 
 /// Bits that are set.
@@ -68,5 +69,5 @@ pub struct SetsBits<E> {
 }
 
 impl<E: Means> Play<(), View> for SetsBits<E> {
-    ghost then = { bits_set E.event };
+    ghost then = { bits_set E.action };
 }

@@ -4,6 +4,7 @@ ghost use Rattle.std.specs.Prelude.{◌≡◌, ◌+◌, MatchOption};
 use crate::TableSeat;
 use lst_core_state::{Event, Numbers};
 use lst_layout::Limits;
+use lst_page_state::{MergerNumbers, PageEvent};
 use std::marker::Model;
 
 /// A seat at the table of a store. It hosts sessions, and for each keeps the numbers of what that session knows.
@@ -13,6 +14,8 @@ pub struct Seat {
     pub(crate) limits: Limits,
     pub(crate) hosted: Vec<bool>,
     pub(crate) numbers: Vec<Numbers>,
+    /// Of a note: how many commits it tells of.
+    pub(crate) note_time: u64,
 }
 
 impl Model for Seat {
@@ -21,7 +24,7 @@ impl Model for Seat {
 
     ghost Value = { Sitting };
 
-    ghost view = { λ s. record { table = s.place.table_id; view = s.place.me.0 } };
+    ghost view = { λ s. record { table = s.place.table_id; view = s.place.me.0; note_time = s.note_time } };
 
     ghost invariant = { λ s. (s.place.me.1 ≡ []) × (s.limits ≡ s.place.me.0.limits) × (s.hosted.items ≡ s.place.me.0.hosts) × Tells s.place.me.0 s.numbers.items };
 }
@@ -33,8 +36,12 @@ impl Seat {
     ghost use Rattle.lst_core_state.specs.Step.{session_of, Enabled, IsWithin};
     ghost use Rattle.lst_core_state.specs.Numbers.{numbers_of, place_for};
     ghost use Rattle.lst_core_state.specs.Bounds.{IsWritable};
+    ghost use Rattle.lst_page_state.specs.Known.{stepper, PageEnabled};
+    ghost use Rattle.lst_page_state.specs.Numbers as page_numbers;
+    ghost use Rattle.lst_page_state.specs.Step as page_step;
+    ghost use Rattle.lst_rule.specs.Actions.{stock_numbers};
     ghost use Rattle.lst_rule.specs.Rule.{knows, hosts};
-    ghost use Rattle.lst_rule.specs.Learned.{Possible};
+    ghost use Rattle.lst_rule.specs.Learned.{Possible, PageCanStand};
 
     /// The numbers of a session that is to make a step.
     pub(crate) fn numbers(&self, s: u32, event: Event) -> &Numbers
@@ -49,6 +56,23 @@ impl Seat {
         ensures writable { IsWritable self.now.view.limits result.now event }
     {
         &self.numbers[s as usize]
+    }
+
+    /// The numbers of the stock of frames, of whoever is to make a step on pages.
+    pub(crate) fn stock(&self, s: u32, event: PageEvent) -> MergerNumbers
+        requires actor { stepper self.now.view.limits event ≡ s }
+        requires host { hosts self.now.view (stepper self.now.view.limits event) ≡ true }
+        requires within { page_step.IsWithin self.now.view.limits event }
+        requires enabled { PageEnabled self.now.view.limits (knows self.now.view (stepper self.now.view.limits event)).pages event }
+        requires stands { PageCanStand self.now.view event }
+        ensures is { result ≡ stock_numbers (numbers_of (knows self.now.view (stepper self.now.view.limits event))) }
+        ensures fits { page_numbers.IsWritable result event }
+    {
+        let now = &self.numbers[s as usize];
+        MergerNumbers {
+            epoch: now.epoch,
+            built: now.built,
+        }
     }
 
     /// The limits of the store.
@@ -118,6 +142,14 @@ impl Seat {
         self.numbers[s as usize].seen
     }
 
+    /// The epoch that a session has pinned.
+    pub fn pinned(&self, s: u32) -> Option<u64>
+        requires { hosts self.now.view s ≡ true }
+        ensures { MatchOption result ((knows self.now.view s).pages.session.pin ≡ 0) (λ epoch. (knows self.now.view s).pages.session.pin ≡ epoch + 1) }
+    {
+        epoch_of(self.numbers[s as usize].pin)
+    }
+
     /// The record in hand of a session.
     pub fn rec(&self, s: u32) -> Option<u32>
         requires { hosts self.now.view s ≡ true }
@@ -157,4 +189,11 @@ fn one_less(number: u32) -> Option<u32>
     ensures { MatchOption result (number ≡ 0) (λ less. number ≡ less + 1) }
 {
     number.checked_sub(1)
+}
+
+/// The epoch that a pin word tells, where it is pinned.
+fn epoch_of(pin: u64) -> Option<u64>
+    ensures { MatchOption result (pin ≡ 0) (λ epoch. pin ≡ epoch + 1) }
+{
+    pin.checked_sub(1)
 }

@@ -1,7 +1,7 @@
 //! The steps of a session's writes, one call for each kind.
 ghost use Rattle.std.specs.Prelude.{◌≡◌, ◌+◌, ◌-◌, ◌*◌, ◌/◌, ◌%◌, ◌^◌, ◌<◌, ◌≤◌, true, cond, eqb};
-ghost use Rattle.lst_layout.specs.declared.place.Place.TheVariants.{RecordCounter, KeyWord, IndexWord, HeadWord, TailCounter, CellWord};
-ghost use Rattle.lst_core_state.specs.declared.events.Event.TheVariants.{DrawRecord, StoreKey, Claim, Latch, DrawTail, StoreCell, Install, Release, Stamp};
+ghost use Rattle.lst_layout.specs.declared.place.Place.TheVariants.{RecordCounter, KeyWord, IndexWord, HeadWord, TailCounter, CellWord, PostingWord};
+ghost use Rattle.lst_core_state.specs.declared.events.Event.TheVariants.{DrawRecord, StoreKey, Claim, Latch, DrawTail, StoreCell, Install, Release, Stamp, Post};
 ghost use Rattle.lst_core_state.specs.Step.{IsWithin, Enabled, number_in};
 ghost use Rattle.lst_rule.specs.Rule.{knows, hosts};
 ghost use Rattle.lst_rule.specs.Learned.{CanStand, Times, Made, Met};
@@ -115,6 +115,31 @@ pub fn step_store_cell(store: &Store, seat: &mut Seat, s: u32, place: u32, value
         },
         0,
     );
+}
+
+/// Exchanges a position of an indexed column's postings from 0 to the tail in hand, and answers what it found: the tail is posted where
+/// that is 0. Allowed once the tail is whole, for a column that it holds with a number and that isn't posted yet, where all positions of
+/// the number's run before this one are known to be taken.
+pub fn step_post(store: &Store, seat: &mut Seat, s: u32, column: u32, position: u32) -> u64
+    requires seat { IsSeatOf store.now seat.old }
+    requires host { hosts seat.old.view s ≡ true }
+    requires own { s < seat.old.view.limits.sessions }
+    requires within { IsWithin seat.old.view.limits (Post s column position) }
+    requires enabled { Enabled seat.old.view.limits (knows seat.old.view s) (Post s column position) }
+    requires stands { CanStand seat.old.view (Post s column position) }
+    ensures seat { IsSeatOf store.now seat.new }
+    ensures met { Met seat.old.view seat.new.view (Post s column position) (PostingWord column position) (cond (eqb result 0) (knows seat.old.view s).hold.tail result) result }
+{
+    exchange_event(
+        store,
+        seat,
+        s,
+        Event::Post {
+            session: s,
+            column,
+            position,
+        },
+    )
 }
 
 /// Stores the number of the tail in hand, within its range, into the indirection word of the latched record, without the latch bit.

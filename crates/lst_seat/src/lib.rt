@@ -1,4 +1,17 @@
-//! Opening a store: its words, and the seat that hosts every session and the merger.
+//! The seats of a store: the first one, which hosts every session and the merger; one a session, which may each go to a thread of its
+//! own; notes by which they tell each other what they have seen; and one seat again.
 #![tactic(auto)]
 
+mod gathers;
+mod lists;
+mod notes;
+mod parts;
+
+pub use gathers::gather;
+pub use lists::{SeatCause, SeatList, SeatRefusal};
 pub use lst_rule::open_store;
+pub use notes::{Note, hear, tell};
+pub use parts::part;
+
+#[cfg(test)]
+mod tests;

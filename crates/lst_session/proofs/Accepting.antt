@@ -20,6 +20,7 @@ use Rattle.lst_rule.specs.Rule.{knows, hosts, Allowed}
 use Rattle.lst_rule.specs.Learned.{Possible, Learns}
 use Rattle.lst_rule.proofs.Knowing.{whole_words}
 use Rattle.lst_rule.proofs.Learning.{learns_on}
+use Rattle.lst_second.specs.Posting.{ChangesPostings}
 use Rattle.lst_write.specs.Appending.{ChangesTail, with_count}
 use Rattle.lst_calls.specs.Traces.{Prepared, Installs}
 use Rattle.lst_crew_state.specs.Crews.{IsIdle}
@@ -58,16 +59,24 @@ module _ (u : View) (p : Possible u) (crew : IsCrewView u) (s rec key : ℕ) (lo
   abbrev m : View
   m = ready.between
 
+  abbrev d : View
+  d = ready.appended
+
   held : IsHeld u m s rec head
   held = held_on u p crew b s rec head low is_on h.holding.latches h.holding.word m ready.possible ready.judges.watched
 
   -- what the session knows
+  learns_appended : Learns u d s (knows d s)
+  learns_appended = subst (λ (k : Known). Learns u d s k) (sym ready.appends.view.now) (learns_on u m d s _ _ (held_learns u p crew b s rec head low is_on h.holding.latches h.holding.word m ready.judges.watched) ready.appends.view)
+
   learns_whole : Learns u e s (knows e s)
-  learns_whole = subst (λ (k : Known). Learns u e s k) (sym ready.appends.view.now) (learns_on u m e s _ _ (held_learns u p crew b s rec head low is_on h.holding.latches h.holding.word m ready.judges.watched) ready.appends.view)
+  learns_whole = subst (λ (k : Known). Learns u e s k) (sym ready.posts.view.now) (learns_on u d e s _ _ learns_appended ready.posts.view)
 
   same_writer : SameWriter (knows u s) (knows e s)
   same_writer = writer_on (knows u s) (knows m s) (knows e s) (held_writer u p crew b s rec head low is_on h.holding.latches h.holding.word m ready.judges.watched)
-      (writer_as (knows m s) (knows e s) _ ready.appends.view.now record { transactions = record { number = refl; begin = refl; read_only = refl; is_open = refl }; rec = refl; turn = λ away. away })
+      (writer_on (knows m s) (knows d s) (knows e s)
+      (writer_as (knows m s) (knows d s) _ ready.appends.view.now record { transactions = record { number = refl; begin = refl; read_only = refl; is_open = refl }; rec = refl; turn = λ away. away })
+      (writer_as (knows d s) (knows e s) _ ready.posts.view.now record { transactions = record { number = refl; begin = refl; read_only = refl; is_open = refl }; rec = refl; turn = λ away. away }))
 
   abbrev last : Known
   last = known_after e.limits (shown e.limits h.word.told.words) (knows e s) (Install s)
@@ -98,7 +107,7 @@ module _ (u : View) (p : Possible u) (crew : IsCrewView u) (s rec key : ℕ) (lo
   after = with_head (words_of e) rec (2 * n)
 
   after_is : words_of w ≡ after
-  after_is = installed_words e s rec head n act h.word.told.known h.word.told.merger sure hosted low_here ready.appends.whole w whole h.word
+  after_is = installed_words e s rec head n act h.word.told.known h.word.told.merger sure hosted low_here ready.whole w whole h.word
 
   abbrev own : ℕ
   own = name_of s (p.known s).number
@@ -112,15 +121,18 @@ module _ (u : View) (p : Possible u) (crew : IsCrewView u) (s rec key : ℕ) (lo
   few : n ≤ u.limits.tails
   few = subst (λ (l : Limits). n ≤ l.tails) held.limits ready.appends.few
 
-  changes : ChangesTail (with_count (words_of m) (range_of rec) n) (words_of e) (range_of rec * u.limits.tails + n)
-  changes = subst (λ (l : Limits). ChangesTail (with_count (words_of m) (range_of rec) n) (words_of e) (range_of rec * l.tails + n)) held.limits (ready.appends.words held.whole).1
+  changes : ChangesTail (with_count (words_of m) (range_of rec) n) (words_of d) (range_of rec * u.limits.tails + n)
+  changes = subst (λ (l : Limits). ChangesTail (with_count (words_of m) (range_of rec) n) (words_of d) (range_of rec * l.tails + n)) held.limits (ready.appends.words held.whole).1
+
+  posted : ChangesPostings (words_of d) (words_of e)
+  posted = ready.posts.words (learns_appended.whole ∙ crew.whole)
 
   is_written : IsWritten u.limits a after rec n own act
-  is_written = written u.limits a (words_of m) (words_of e) rec n own act held.stamped next changes
-      (subst (λ (l : Limits). 0 < (words_of e).cells (range_of rec * l.tails + n) 0) learns_whole.limits (tail_here e s rec head n act h.word.told.known h.word.told.merger sure hosted low_here ready.appends.whole))
-      (subst (λ (l : Limits). writer_at (words_of e) (range_of rec * l.tails + n) ≡ own) learns_whole.limits (tail_by e s rec head n act h.word.told.known h.word.told.merger sure hosted low_here ready.appends.whole ∙ ap (name_of s) number_is))
-      (subst (λ (l : Limits). record_in l (words_of e).cells (range_of rec * l.tails + n) ≡ rec) learns_whole.limits (tail_on e s rec head n act h.word.told.known h.word.told.merger sure hosted low_here ready.appends.whole))
-      (subst (λ (l : Limits). act_in l (words_of e).cells (range_of rec * l.tails + n) ≡ act) learns_whole.limits (tail_made e s rec head n act h.word.told.known h.word.told.merger sure hosted low_here ready.appends.whole))
+  is_written = written u.limits a (words_of m) (words_of d) (words_of e) rec n own act held.stamped next changes posted
+      (subst (λ (l : Limits). 0 < (words_of e).cells (range_of rec * l.tails + n) 0) learns_whole.limits (tail_here e s rec head n act h.word.told.known h.word.told.merger sure hosted low_here ready.whole))
+      (subst (λ (l : Limits). writer_at (words_of e) (range_of rec * l.tails + n) ≡ own) learns_whole.limits (tail_by e s rec head n act h.word.told.known h.word.told.merger sure hosted low_here ready.whole ∙ ap (name_of s) number_is))
+      (subst (λ (l : Limits). record_in l (words_of e).cells (range_of rec * l.tails + n) ≡ rec) learns_whole.limits (tail_on e s rec head n act h.word.told.known h.word.told.merger sure hosted low_here ready.whole))
+      (subst (λ (l : Limits). act_in l (words_of e).cells (range_of rec * l.tails + n) ≡ act) learns_whole.limits (tail_made e s rec head n act h.word.told.known h.word.told.merger sure hosted low_here ready.whole))
 
   -- the state that it tells
   next_told : store_told w ≡ with_accepted (store_told u) s key act
@@ -129,8 +141,8 @@ module _ (u : View) (p : Possible u) (crew : IsCrewView u) (s rec key : ℕ) (lo
       ∙ (writes_are_told c (is_crew u crew p) s rec n act after low (ap (λ (k : Known). k.is_open) (sym (known_is u crew p s low)) ∙ is_on) inside placed few is_written
       ∙ (λ i. with_accepted (sym (told_is u crew p) i) s (key_is i) act)))
 
-  words_are : words_of w ≡ record a { counts = put a.counts (range_of rec) n; heads = put a.heads rec (2 * n); cells = after.cells }
-  words_are = after_is ∙ written_rest u.limits a (words_of m) (words_of e) rec n own act held.stamped next changes
+  words_are : words_of w ≡ record a { counts = put a.counts (range_of rec) n; heads = put a.heads rec (2 * n); cells = after.cells; postings = after.postings }
+  words_are = after_is ∙ written_rest u.limits a (words_of m) (words_of d) (words_of e) rec n own act held.stamped next changes posted
 
   crew_again : IsCrewView w
   crew_again = record {

@@ -1,5 +1,5 @@
 -- The words once a tail is on its record's chain.
-use Rattle.std.proofs.Common.{◌≡◌, ℕ, ◌+◌, ◌-◌, ◌*◌, ◌/◌, ◌<◌, true, eqb, sym, subst, ap, ◌∙◌, arith}
+use Rattle.std.proofs.Common.{◌≡◌, ◌≢◌, ℕ, ◌+◌, ◌-◌, ◌*◌, ◌/◌, ◌<◌, true, eqb, sym, subst, ap, ◌∙◌, arith}
 use mathlib.Core.Logic.{dite}
 use native.Mathlib.Decide.{ℕ_discrete}
 use Rattle.lst_layout.specs.declared.limits.Limits.{Limits}
@@ -20,14 +20,15 @@ use Rattle.lst_rule.specs.Learned.{Made}
 use Rattle.lst_rule.proofs.Knowing.{is_fact, knows_own}
 use Rattle.lst_sights.specs.Watching.{IsStamped}
 use Rattle.lst_sights.proofs.Stamps.{made_words}
+use Rattle.lst_second.specs.Posting.{ChangesPostings}
 use Rattle.lst_write.specs.Appending.{tail_of, HasWhole, ChangesTail, with_count}
 use Rattle.lst_crew_state.specs.Effects.{TellAlike, IsWritten}
 use Rattle.lst_session.specs.Crews.{words_of}
 use Rattle.lst_session.proofs.CrewJudging.{with_head, with_latch}
 
--- indirection words tell nothing
-alike : (a b : Words) (heads : ℕ → ℕ) → b ≡ record a { heads = heads } → TellAlike a b
-alike a b heads is = record {
+-- indirection words and postings tell nothing
+alike : (a b : Words) (heads : ℕ → ℕ) (postings : ℕ → ℕ → ℕ) → b ≡ record a { heads = heads; postings = postings } → TellAlike a b
+alike a b heads postings is = record {
   clock = ap (λ (w : Words). w.clock) is;
   counter = ap (λ (w : Words). w.counter) is;
   log = ap (λ (w : Words). w.log) is;
@@ -38,31 +39,42 @@ alike a b heads is = record {
   cells = ap (λ (w : Words). w.cells) is;
 }
 
--- a: before the latch; b: as the act was judged; e: once the tail is whole
-module _ (l : Limits) (a b e : Words) (rec n x : ℕ) (act : Act) (stamped : IsStamped (with_latch a rec) b) (next : n ≡ b.counts (range_of rec) + 1) (changes : ChangesTail (with_count b (range_of rec) n) e (range_of rec * l.tails + n)) where
+-- a: before the latch; b: as the act was judged; d: once the tail is whole; e: once it is posted
+module _ (l : Limits) (a b d e : Words) (rec n x : ℕ) (act : Act) (stamped : IsStamped (with_latch a rec) b) (next : n ≡ b.counts (range_of rec) + 1) (changes : ChangesTail (with_count b (range_of rec) n) d (range_of rec * l.tails + n)) (posted : ChangesPostings d e) where
   abbrev tail : ℕ
   tail = range_of rec * l.tails + n
+
+  cells_same : e.cells ≡ d.cells
+  cells_same = ap (λ (w : Words). w.cells) posted
+
+  -- the words but cells and postings
+  rest : e ≡ record (with_latch a rec) { counts = put a.counts (range_of rec) n; cells = e.cells; postings = e.postings }
+  rest = posted ∙ ((λ i. record (changes.rest i) { postings = e.postings })
+      ∙ ((λ i. record (stamped.rest i) { counts = put (stamped.rest i).counts (range_of rec) n; cells = d.cells; postings = e.postings })
+      ∙ (λ i. record (with_latch a rec) { counts = put a.counts (range_of rec) n; cells = sym cells_same i; postings = e.postings })))
 
   heads_set : (r : ℕ) → put e.heads rec (2 * n) r ≡ put a.heads rec (2 * n) r
   heads_set r = dite (ℕ_discrete r rec)
       (λ same. subst (λ (y : ℕ). put e.heads rec (2 * n) y ≡ put a.heads rec (2 * n) y) (sym same) (put_here e.heads rec (2 * n) ∙ sym (put_here a.heads rec (2 * n))))
-      (λ ne. put_else e.heads rec (2 * n) r ne ∙ (ap (λ (w : Words). w.heads r) changes.rest ∙ (ap (λ (w : Words). w.heads r) stamped.rest
-      ∙ (put_else a.heads rec (2 * (a.heads rec / 2) + 1) r ne ∙ sym (put_else a.heads rec (2 * n) r ne)))))
+      (λ ne. put_else e.heads rec (2 * n) r ne ∙ (ap (λ (w : Words). w.heads r) rest ∙ (put_else a.heads rec (2 * (a.heads rec / 2) + 1) r ne ∙ sym (put_else a.heads rec (2 * n) r ne))))
 
-  pub written_rest : with_head e rec (2 * n) ≡ record a { counts = put a.counts (range_of rec) n; heads = put a.heads rec (2 * n); cells = e.cells }
-  written_rest = (λ i. record (changes.rest i) { heads = λ r. heads_set r i }) ∙ (λ i. record (stamped.rest i) { counts = put (stamped.rest i).counts (range_of rec) n; heads = put a.heads rec (2 * n); cells = e.cells })
+  pub written_rest : with_head e rec (2 * n) ≡ record a { counts = put a.counts (range_of rec) n; heads = put a.heads rec (2 * n); cells = e.cells; postings = e.postings }
+  written_rest = (λ i. record (rest i) { heads = λ r. heads_set r i })
 
   log_same : e.log ≡ b.log
-  log_same = ap (λ (w : Words). w.log) changes.rest
+  log_same = ap (λ (w : Words). w.log) posted ∙ ap (λ (w : Words). w.log) changes.rest
+
+  other_same : (t p : ℕ) → t ≢ range_of rec * l.tails + n → e.cells t p ≡ b.cells t p
+  other_same t p other = ap (λ (f : ℕ → ℕ → ℕ). f t p) cells_same ∙ changes.others t p other
 
   pub written : 0 < e.cells (range_of rec * l.tails + n) 0 → writer_at e (range_of rec * l.tails + n) ≡ x → record_in l e.cells (range_of rec * l.tails + n) ≡ rec → act_in l e.cells (range_of rec * l.tails + n) ≡ act
       → IsWritten l a (with_head e rec (2 * n)) rec n x act
   written here by on made = record {
-    rest = alike (record a { counts = put a.counts (range_of rec) n; cells = e.cells }) (with_head e rec (2 * n)) (put a.heads rec (2 * n)) written_rest;
+    rest = alike (record a { counts = put a.counts (range_of rec) n; cells = e.cells }) (with_head e rec (2 * n)) (put a.heads rec (2 * n)) e.postings written_rest;
     next = next ∙ ap (λ (w : Words). w.counts (range_of rec) + 1) stamped.rest;
-    others = λ t p other some. changes.others t p other ∙ stamped.others t p some;
-    stored = λ t other. ap (λ (y : ℕ). eqb y 0) (changes.others t 0 other) ∙ stamped.stored t;
-    writers = λ t other. (λ i. writer (log_same i) (changes.others t 0 other i)) ∙ stamped.writers t;
+    others = λ t p other some. other_same t p other ∙ stamped.others t p some;
+    stored = λ t other. ap (λ (y : ℕ). eqb y 0) (other_same t 0 other) ∙ stamped.stored t;
+    writers = λ t other. (λ i. writer (log_same i) (other_same t 0 other i)) ∙ stamped.writers t;
     here = here;
     by = by;
     on = on;

@@ -16,6 +16,7 @@ use Rattle.lst_rule.specs.declared.view.View.{View}
 use Rattle.lst_rule.specs.Rule.{knows, hosts, Allowed}
 use Rattle.lst_rule.specs.Learned.{Possible, Learns, Made}
 use Rattle.lst_rule.proofs.Knowing.{knows_own, whole_words}
+use Rattle.lst_rule.specs.declared.actions.Action.TheVariants as action
 use Rattle.lst_rule.proofs.Learning.{possible_after, learns_on}
 use Rattle.lst_sights.specs.Watching.{Watches, Watched, IsStamped}
 use Rattle.lst_sights.specs.Laws.{KeptBy}
@@ -73,7 +74,7 @@ module _ (u : View) (p : Possible u) (crew : IsCrewView u) (b : View) (s rec hea
   latched_writer = writer_as (knows u s) (knows b s) _ latches.view.now record { transactions = record { number = refl; begin = refl; read_only = refl; is_open = refl }; rec = refl; turn = λ away. away }
 
   latched_possible : Possible b
-  latched_possible = possible_after u b (Latch s rec) _ _ word.told
+  latched_possible = possible_after u b (action.Core (Latch s rec)) _ _ word.told
 
   latched_whole : b.whole ≡ true
   latched_whole = latches.view.whole ∙ crew.whole

@@ -24,3 +24,6 @@ pub mod Peeking
 pub mod Promising
 pub mod Keeping
 pub mod Recounting
+pub mod Parting
+pub mod Gathering
+pub mod Telling

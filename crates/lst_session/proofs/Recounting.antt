@@ -31,9 +31,9 @@ hosts_all store crew of s low = dite (ℕ_discrete s crew.seat.view.limits.sessi
 
 -- ---- the crew after it took stock
 
-crew_between : (store : Store) (crew : Crew) (b : View) → IsCrewOf store crew → Surveyed crew.seat.view b → IsCrewOf store (record { seat = record { table = crew.seat.table; view = b } })
+crew_between : (store : Store) (crew : Crew) (b : View) → IsCrewOf store crew → Surveyed crew.seat.view b → IsCrewOf store (record { seat = record crew.seat { view = b } })
 crew_between store crew b of t = record {
-  seat_of = survey_seat store crew.seat (record { table = crew.seat.table; view = b }) of.seat_of refl t;
+  seat_of = survey_seat store crew.seat (record crew.seat { view = b }) of.seat_of refl t;
   hosted = subst (λ (v : View). (s : ℕ) → s < v.limits.sessions → hosts v s ≡ true) (sym t.now) of.hosted;
   merger = subst (λ (v : View). hosts v v.limits.sessions ≡ true) (sym t.now) of.merger;
   idle = subst (λ (v : View). (s : ℕ) → s < v.limits.sessions → IsIdle (knows v s)) (sym t.now) of.idle;
@@ -76,4 +76,4 @@ module _ (v w : View) (s : ℕ) (r : Recounts v w s) where
 pub recount_crew : (store : Store) (crew : Crew) (n : Sitting) (s : ℕ) → IsCrewOf store crew → IsSeatOf store n → s < crew.seat.view.limits.sessions → Recounts crew.seat.view n.view s → IsCrewOf store (record { seat = n })
 recount_crew store crew n s of seat low r = let between = crew_between store crew r.between of r.surveyed in
     let few : s < r.between.limits.sessions = subst (λ (l : Limits). s < l.sessions) (sym (ap (λ (u : View). u.limits) r.surveyed.now)) low in
-    crew_on store (record { seat = record { table = crew.seat.table; view = r.between } }) n s between seat (only_looks r.between n.view s r.peeks).called (idle_still r.between n.view s r.peeks (between.idle s few))
+    crew_on store (record { seat = record crew.seat { view = r.between } }) n s between seat (only_looks r.between n.view s r.peeks).called (idle_still r.between n.view s r.peeks (between.idle s few))

@@ -11,7 +11,7 @@ use Rattle.lst_model.specs.Soundness.{Fits}
 use Rattle.lst_core_state.specs.declared.known.Known.{Known}
 use Rattle.lst_core_state.specs.declared.known.Placing.{Placing}
 use Rattle.lst_core_state.specs.declared.facts.Find.{Find}
-use Rattle.lst_core_state.specs.declared.facts.Find.TheVariants.{LatchedRecord, UnfinishedVersion, CountedTails, FullTails}
+use Rattle.lst_core_state.specs.declared.facts.Find.TheVariants.{LatchedRecord, UnfinishedVersion, CountedTails, FullRecords, FullTails}
 use Rattle.lst_core_state.specs.Cells.{range_of}
 use Rattle.lst_core_state.specs.State.{rank, mine, sight, no_hold}
 use Rattle.lst_rule.specs.declared.view.View.{View}
@@ -23,10 +23,13 @@ use Rattle.lst_rule.specs.Learned.{Learns}
 use Rattle.lst_rule.proofs.Learning.{learns_on}
 use Rattle.lst_sights.specs.Seen.{HasKey}
 use Rattle.lst_sights.specs.Judging.{WroteAt}
-use Rattle.lst_sights.specs.Watching.{Watched}
+use Rattle.std.specs.List.{All}
+use Rattle.std.proofs.lemmas.List.Elements.{All-nil, All-cons, All-head, All-tail}
+use Rattle.lst_sights.specs.Watching.{IsNotFull, Watched}
 use Rattle.lst_sights.proofs.Watching.{one_not_full}
 use Rattle.lst_index.specs.Searches.{Keeps}
 use Rattle.lst_index.specs.Placings.{Drew, DrawsAfterLook, WasUnplaced}
+use Rattle.lst_second.specs.Posting.{IsTailLoad, Posts}
 use Rattle.lst_write.specs.Holding.{Latches}
 use Rattle.lst_write.specs.Standings.{FoundSince}
 use Rattle.lst_write.specs.Appending.{Appends, FindsFull, tail_of}
@@ -142,6 +145,20 @@ appends_keeping v w s rec head n act a = record {
   latched = ap (λ (k : Known). k.latched) a.view.now;
 }
 
+posts_keeping : (v w : View) (s : ℕ) → Posts v w s → Keeping v w s
+posts_keeping v w s p = record {
+  goes = record {
+    steps = steps_by v w s _ p.view record {
+      grown = record { seen = same_extends (knows v s).seen; facts = (p.facts, refl); finds = (p.finds, refl) };
+      same = record { transaction = record { number = refl; begin = refl; read_only = refl; is_open = refl }; own = refl; mine = refl };
+      done = refl;
+      turn = λ e. e;
+    };
+    placing = ap (λ (k : Known). k.placing) p.view.now;
+  };
+  latched = ap (λ (k : Known). k.latched) p.view.now;
+}
+
 full_keeping : (v w : View) (s range : ℕ) → FindsFull v w s range → Keeping v w s
 full_keeping v w s range f = record {
   goes = record {
@@ -171,7 +188,8 @@ release_keeping v w s l = record {
 }
 
 prepares_keeping : (v w : View) (s rec head key : ℕ) (act : Act) → s < v.limits.sessions → (result : Result ℕ WriteRefusal) → Prepares v w s rec head key act result → Keeping v w s
-prepares_keeping v w s rec head key act own (Ok n) p = keeping_on v p.between w s (watched_keeping v p.between s own p.judges.watched) (appends_keeping p.between w s rec head n act p.appends)
+prepares_keeping v w s rec head key act own (Ok n) p = keeping_on v p.between w s (watched_keeping v p.between s own p.judges.watched)
+    (keeping_on p.between p.appended w s (appends_keeping p.between p.appended s rec head n act p.appends) (posts_keeping p.appended w s p.posts))
 prepares_keeping v w s rec head key act own (Err (Newer time)) p = watched_keeping v w s own p.0
 prepares_keeping v w s rec head key act own (Err (Unfinished session number)) p = watched_keeping v w s own p.0
 prepares_keeping v w s rec head key act own (Err TailFull) p = keeping_on v p.between w s (watched_keeping v p.between s own p.judges.watched) (full_keeping p.between w s (range_of rec) p.full)
@@ -218,11 +236,24 @@ counters_then u v w s rec e result c = none_full_then u v w s c e
 appends_room : (v w : View) (s rec head n : ℕ) (act : Act) → Appends v w s rec head n act → FindsNoneFull v w s
 appends_room v w s rec head n act a = record { more = CountedTails (range_of rec) a.count ∷ []; grows = ap (λ (k : Known). k.finds) a.view.now; room = one_not_full (CountedTails (range_of rec) a.count) tt }
 
+load_not_full : (f : Find) → IsTailLoad f → IsNotFull f
+load_not_full FullRecords load = absurd load
+load_not_full (FullTails range) load = absurd load
+load_not_full f load = tt
+
+loads_not_full : (fs : List Find) → All IsTailLoad fs → All IsNotFull fs
+loads_not_full [] loads = All-nil IsNotFull
+loads_not_full (f ∷ fs) loads = All-cons IsNotFull f fs (load_not_full f (All-head IsTailLoad f fs loads)) (loads_not_full fs (All-tail IsTailLoad f fs loads))
+
+posts_room : (v w : View) (s : ℕ) → Posts v w s → FindsNoneFull v w s
+posts_room v w s p = record { more = p.finds; grows = ap (λ (k : Known). k.finds) p.view.now; room = loads_not_full p.finds p.loads }
+
 full_room : (v w : View) (s range : ℕ) → FindsFull v w s range → FindsOneFull v w s (FullTails range)
 full_room v w s range f = record { before = CountedTails range f.count ∷ []; grows = ap (λ (k : Known). k.finds) f.counts.view.now; room = one_not_full (CountedTails range f.count) tt }
 
 prepares_counters : (v w : View) (s rec head key : ℕ) (act : Act) → (result : Result ℕ WriteRefusal) → Prepares v w s rec head key act result → Counters v w s rec result
-prepares_counters v w s rec head key act (Ok n) p = none_full_on v p.between w s (watched_room v p.between s p.judges.watched) (appends_room p.between w s rec head n act p.appends)
+prepares_counters v w s rec head key act (Ok n) p = none_full_on v p.between w s (watched_room v p.between s p.judges.watched)
+    (none_full_on p.between p.appended w s (appends_room p.between p.appended s rec head n act p.appends) (posts_room p.appended w s p.posts))
 prepares_counters v w s rec head key act (Err (Newer time)) p = watched_room v w s p.0
 prepares_counters v w s rec head key act (Err (Unfinished session number)) p = watched_room v w s p.0
 prepares_counters v w s rec head key act (Err TailFull) p = one_full_on v p.between w s (FullTails (range_of rec)) (watched_room v p.between s p.judges.watched) (full_room p.between w s (range_of rec) p.full)
@@ -275,7 +306,7 @@ module _ (v u w : View) (s rec key most : ℕ) (act : Act) (may : MayWrite v s) 
     there = to b l
 
     installs : appending.Installs b w s rec i.number key act
-    installs = i.installs key i.holding.head act (key_to b l) i.holding.prepares.appends.whole
+    installs = i.installs key i.holding.head act (key_to b l) i.holding.prepares.whole
 
     put : Grown (knows b s) (knows w s)
     put = let e = installs.view.now in record {

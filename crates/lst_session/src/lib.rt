@@ -7,16 +7,28 @@
 mod crew;
 #[cfg(test)]
 mod crew_tests;
+mod gathers;
 mod histories;
 mod laws;
 mod lines;
+#[cfg(test)]
+mod part_tests;
+mod parts;
+mod passes;
+mod phases;
+mod reader;
 mod replies;
 mod session;
 #[cfg(test)]
 mod tests;
 
 pub use crew::{Crew, open_crew};
+pub use gathers::gather;
 pub use laws::seen_is_sound;
 pub use lst_calls::{CommitRefusal, Outcome, WriteRefusal};
+pub use lst_seat::Note;
 pub use lst_txn::{BeginFault as BeginRefusal, Idle as NotBegun};
+pub use passes::{GatherCause, GatherRefusal, Merger, Sessions};
+pub use phases::next_phase;
+pub use reader::Reader;
 pub use session::Session;

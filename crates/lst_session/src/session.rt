@@ -11,7 +11,10 @@ use lst_model::{Act, Key, Patch, Row, Time};
 use lst_rule::{Seat, Store};
 use lst_txn::{BeginFault as BeginRefusal, Idle as NotBegun, as_of, begin, close};
 
-/// A session at a seat that hosts it, by its number.
+/// A session at a seat that hosts it, by its number. It may go to another thread.
+///
+/// What is dropped can't be had again: a transaction that is open then stays so for good, and its writes stay unfinished. A latch or the turn that
+/// it has in hand stays held for good as well; between two calls here it has none. `gather` then answers that this session is missing.
 #[derive(Drop)]
 pub struct Session {
     pub seat: Seat,

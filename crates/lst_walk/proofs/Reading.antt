@@ -11,6 +11,7 @@ use Rattle.lst_core_state.specs.declared.events.Event.TheVariants.{Look}
 use Rattle.lst_rule.specs.declared.view.View.{View}
 use Rattle.lst_rule.specs.Rule.{knows, hosts}
 use Rattle.lst_rule.specs.Learned.{Possible, Met}
+use Rattle.lst_rule.specs.declared.actions.Action.TheVariants as action
 use Rattle.lst_rule.proofs.Learning.{possible_after}
 use Rattle.lst_rule.specs.declared.store.Store.{Store}
 use Rattle.lst_rule.specs.Seats.{Sitting}
@@ -61,7 +62,7 @@ pub looked_watched : (v w : View) (s x : ℕ) (p : Place) → hosts v s ≡ true
 looked_watched v w s x p hosted inside is looked = looks_watch v w s x p hosted inside is looked.met
 
 pub looked_possible : (v w : View) (s x : ℕ) (p : Place) → Looked v w s p x → Possible w
-looked_possible v w s x p looked = possible_after v w (Look s (address v.limits p)) (address v.limits p) x looked.met.made.told
+looked_possible v w s x p looked = possible_after v w (action.Core (Look s (address v.limits p))) (address v.limits p) x looked.met.made.told
 
 -- a word of a version is a word of the store
 pub cell_within : (v : View) (s tail place : ℕ) → HasVersion v s tail → place < 3 + v.limits.columns → layout.IsWithin v.limits (CellWord tail place)

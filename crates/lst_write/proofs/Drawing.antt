@@ -145,7 +145,7 @@ module _ (v u : View) (s rec head count : ℕ) (latch : HasLatch (knows v s) rec
           ((λ i. tail_drawn (same i) W' (c.view.now i) (rec / 256))
           ∙ (λ i. record k {
             hold = record { latch = (ap (λ (z : Hold). z.latch) latch) i; head = (ap (λ (z : Hold). z.head) latch) i; tail = (ap (λ (z : ℕ). rec / 256 * l.tails + z + 1) h.found ∙ (let e : rec / 256 * l.tails + x + 1 ≡ rec / 256 * l.tails + (x + 1) = omega arith in e)) i; is_whole = (ap (λ (z : Hold). z.is_whole) latch) i };
-            draft = record { words = replicate (3 + l.columns) 0; stored = 0; posted = 0 };
+            draft = record { words = replicate (3 + l.columns) 0; stored = 0; posted = 0; unposted = 0 };
             counters = set c.counters (rec / 256) (spent (counter_of k' (rec / 256)));
             facts = (ap (λ (z : ℕ). (k.facts ++ c.facts) ++ TailsAtLeast (rec / 256) (z + 1) ∷ []) h.found ∙ append_assoc k.facts c.facts (TailsAtLeast (rec / 256) (x + 1) ∷ [])) i;
             finds = k.finds ++ CountedTails (rec / 256) count ∷ [];

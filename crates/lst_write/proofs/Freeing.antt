@@ -11,6 +11,7 @@ use Rattle.lst_core_state.specs.declared.events.Event.{Event}
 use Rattle.lst_core_state.specs.declared.events.Event.TheVariants.{Install, Release}
 use Rattle.lst_core_state.specs.State.{rank, no_hold, act_in}
 use Rattle.lst_core_state.specs.Step.{session_of}
+use Rattle.lst_rule.specs.declared.actions.Action.TheVariants as action
 use Rattle.lst_rule.specs.declared.view.View.{View}
 use Rattle.lst_rule.specs.Rule.{knows, hosts, Told}
 use Rattle.lst_rule.specs.Learned.{Made}
@@ -18,7 +19,7 @@ use Rattle.lst_rule.proofs.Knowing.{knows_own}
 use Rattle.lst_write.specs.Holding.{MayLatch}
 
 -- a session with a latch in hand may latch again without it
-free_again : (v w : View) (e : Event) (i x : ℕ) → hosts v (session_of e) ≡ true → session_of e < v.limits.sessions → 0 < (knows v (session_of e)).hold.latch → Told e i x v w
+free_again : (v w : View) (e : Event) (i x : ℕ) → hosts v (session_of e) ≡ true → session_of e < v.limits.sessions → 0 < (knows v (session_of e)).hold.latch → Told (action.Core e) i x v w
     → (k : Known) → k.is_open ≡ (knows v (session_of e)).is_open → k.read_only ≡ (knows v (session_of e)).read_only → k.turn ≡ (knows v (session_of e)).turn → k.hold ≡ no_hold → MayLatch k
 free_again v w e i x hosted own latch t k open_same writes_same turn_same hold_none = let s : ℕ = session_of e in
     let same : knows v s ≡ t.known s = knows_own v t.words t.known t.merger t.allowed s hosted (λ f. omega arith) in let hands = t.allowed.sound.versions.hands s own in

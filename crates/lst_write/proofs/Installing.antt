@@ -18,6 +18,8 @@ use Rattle.lst_rule.specs.declared.view.View.{View}
 use Rattle.lst_rule.specs.Rule.{knows, hosts, Allowed}
 use Rattle.lst_rule.specs.Learned.{Learns, CanStand, Made}
 use Rattle.lst_rule.proofs.Knowing.{is_fact, knows_own}
+use Rattle.lst_second.specs.Posting.{AllPosted}
+use Rattle.lst_second.proofs.Standing.{all_posted}
 use Rattle.lst_sights.specs.Seen.{HasKey}
 use Rattle.lst_write.specs.Appending.{HasWhole, Installs}
 
@@ -37,8 +39,8 @@ module _ (v : View) (s rec head n : ℕ) (act : Act) (hosted : hosts v s ≡ tru
   cell_is : (words : List ℕ) (known : ℕ → Known) (merger : Known) → Allowed v words known merger → IsFact v.limits (shown v.limits words) (CellIs (range_of rec * v.limits.tails + n) (name_of s (knows v s).number) H.encoding head H.values)
   cell_is words known merger a = is_fact v words known merger a s hosted (CellIs T (name_of s k.number) H.encoding head H.values) H.stored
 
-  pub install_stands : CanStand v (Install s)
-  install_stands words known merger a = subst (λ (h : Hold). (shown v.limits words).cells h.tail 2 ≡ h.head) (sym H.hold) (cell_is words known merger a).3
+  pub install_stands : AllPosted v.limits (knows v s) → CanStand v (Install s)
+  install_stands posted words known merger a = (subst (λ (h : Hold). (shown v.limits words).cells h.tail 2 ≡ h.head) (sym H.hold) (cell_is words known merger a).3, all_posted v words known merger a s hosted posted)
 
   module _ (w : View) (made : Made v w (Install s) (HeadWord ((knows v s).hold.latch - 1)) (2 * number_in v.limits ((knows v s).hold.latch - 1) (knows v s).hold.tail)) where
     abbrev W : Words

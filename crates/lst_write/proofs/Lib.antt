@@ -1,5 +1,6 @@
 pub mod Latching
 pub mod Keeping
+pub mod Posting
 pub mod Starts
 pub mod Clocks
 pub mod Verdicts

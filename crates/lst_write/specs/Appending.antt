@@ -79,7 +79,7 @@ pub record Draws (v w : View) (s rec head n : ℕ) : Type 0 where
   pub facts : List Fact
   pub view : Learns v w s (record (knows v s) {
     hold = tail_of v.limits rec head n false;
-    draft = record { words = replicate (3 + v.limits.columns) 0; stored = 0; posted = 0 };
+    draft = record { words = replicate (3 + v.limits.columns) 0; stored = 0; posted = 0; unposted = 0 };
     counters = counters;
     facts = (knows v s).facts ++ facts;
     finds = (knows v s).finds ++ CountedTails (range_of rec) count ∷ [];

@@ -7,6 +7,7 @@ ghost use Rattle.lst_rule.specs.Rule.{knows, hosts};
 ghost use Rattle.lst_rule.specs.Learned.{Learns, Kept, Made};
 ghost use Rattle.lst_layout.specs.declared.place.Place.TheVariants.{HeadWord};
 ghost use Rattle.lst_core_state.specs.declared.events.Event.TheVariants.{Install};
+ghost use Rattle.lst_second.specs.Posting.{AllPosted};
 ghost use Rattle.lst_rule.specs.Stores.{IsSeatOf};
 ghost use Rattle.lst_write.specs.Holding.{MayLatch, HasLatch};
 ghost use Rattle.lst_write.specs.Judgements.{HasJudged};
@@ -126,13 +127,14 @@ pub fn append(
     Ok(number)
 }
 
-/// Puts the tail in hand, which is whole, onto the record's chain, and gives the latch back: the write is one more of the open
-/// transaction's own.
+/// Puts the tail in hand, which is whole and posted, onto the record's chain, and gives the latch back: the write is one more of the
+/// open transaction's own.
 pub fn install(store: &Store, seat: &mut Seat, s: u32, rec: RecordId, tail: u32)
     requires seat { IsSeatOf store.now seat.old }
     requires host { hosts seat.old.view s ≡ true }
     requires own { s < seat.old.view.limits.sessions }
     requires whole { (head : ℕ) × (act : Act) × HasWhole seat.old.view.limits (knows seat.old.view s) s rec.number head tail act }
+    requires posted { AllPosted seat.old.view.limits (knows seat.old.view s) }
     ensures seat { IsSeatOf store.now seat.new }
     ensures installs { InstallsHeld seat.old.view seat.new.view s rec.number tail }
     ensures free { MayLatch (knows seat.new.view s) }

@@ -1,6 +1,6 @@
 use Rattle.std.proofs.Common.{◌≡◌, ap, arith}
 use Rattle.lst_core_state.specs.Cells.{record_count}
-use Rattle.lst_index.proofs.Claims.{can_claim, hand_few, won_works, won_placing, won_placed, lost_works, lost_placing, lost_shows, lost_few}
+use Rattle.lst_index.proofs.Claims.{can_claim, hand_few, won_works, won_placing, won_placed, lost_works, lost_placing, lost_shows, lost_few, lost_taken}
 use Rattle.lst_index.proofs.placing.claim.Goals as goal
 
 pub step_claim-word-requires-clause-stands : goal.step_claim-word-requires-clause-stands
@@ -25,3 +25,6 @@ returns-clause-lost c = (
   lost_shows _ _ _ _ _ _ c.step_claim-word.ensures.met c.if-word-eq0.false,
   lost_placing _ _ _ _ _ _ c.step_claim-word.ensures.met c.if-word-eq0.false,
 )
+
+pub returns-clause-taken : goal.returns-clause-taken
+returns-clause-taken c = lost_taken _ _ _ _ _ _ c.step_claim-word.ensures.met c.if-word-eq0.false

@@ -1,13 +1,14 @@
 use Rattle.std.proofs.Common.{◌≡◌, bit_or, ap, ◌∙◌}
 use Rattle.lst_layout.specs.Words.{shown}
 use Rattle.lst_core_state.specs.Targets.{time_for}
+use Rattle.lst_rule.specs.declared.actions.Action.TheVariants.{Core}
 use Rattle.lst_rule.specs.declared.view.View.{View}
 use Rattle.lst_rule.proofs.Doing.{latched}
 use Rattle.lst_rule.proofs.Acting.{Asks, acts_ready, acts_told, acts_met, acts_keep, still_seat}
 use Rattle.lst_rule.proofs.acts.latch_event.Goals as goal
 use Rattle.lst_rule.proofs.acts.latch_event.Goals.{After-target-word}
 
-asked : (c : After-target-word) (u : View) → u ≡ c.args.seat.now.view → Asks c.args.store.now.layout.limits c.numbers-now.result.now c.args.event c.args.s c.target-word.result u c.args.seat.now.view
+asked : (c : After-target-word) (u : View) → u ≡ c.args.seat.now.view → Asks c.args.store.now.layout.limits c.numbers-now.result.now (Core c.args.event) c.args.s c.target-word.result u c.args.seat.now.view
 asked c u same = record { same = same; limits = c.requires.seat.limits; numbers = c.numbers-now.ensures.is; session = c.requires.session; hosted = c.requires.host; within = c.requires.within; ok = c.requires.enabled; stands = c.requires.stands; at = c.target-word.ensures.address }
 
 pub set_lowest_bit-found-requires-clause-ready : goal.set_lowest_bit-found-requires-clause-ready
@@ -19,7 +20,7 @@ invariant_of-seat c = acts_keep _ _ _ _ _ _ _ (asked (goal.at.invariant_of-seat 
     (bit_or c.set_lowest_bit-found.result 1) c.set_lowest_bit-found.result c.set_lowest_bit-found.new.seat.me.0 c.set_lowest_bit-found.ensures.told c.index_mut.result.now c.advance.new.now c.index_mut.ensures.value c.advance.ensures
 
 pub returns-clause-seat : goal.returns-clause-seat
-returns-clause-seat c = still_seat _ _ _ c.args.event _ (bit_or c.set_lowest_bit-found.result 1) c.requires.seat (c.set_lowest_bit-found.ensures.table.0 ∙ ap (λ z. z.table) c.seat.view_is)
+returns-clause-seat c = still_seat _ _ _ (Core c.args.event) _ (bit_or c.set_lowest_bit-found.result 1) c.requires.seat (c.set_lowest_bit-found.ensures.table.0 ∙ ap (λ z. z.table) c.seat.view_is)
     (acts_told _ _ _ _ _ _ _ (asked (goal.at.returns-clause-seat c).After-target-word c.seat.inside.place.me.0 (ap (λ z. z.view) c.seat.view_is)) (bit_or c.set_lowest_bit-found.result 1) c.set_lowest_bit-found.new.seat.me.0 c.set_lowest_bit-found.ensures.told.0)
 
 pub returns-clause-met : goal.returns-clause-met

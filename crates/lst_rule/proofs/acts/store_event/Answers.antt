@@ -1,12 +1,13 @@
 use Rattle.std.proofs.Common.{ℕ, ◌≡◌, refl, ap, sym, ◌∙◌}
 use Rattle.lst_core_state.specs.Numbers.{written_of}
+use Rattle.lst_rule.specs.declared.actions.Action.TheVariants.{Core}
 use Rattle.lst_rule.specs.declared.view.View.{View}
 use Rattle.lst_rule.proofs.Doing.{stored, stored_after}
 use Rattle.lst_rule.proofs.Acting.{Asks, acts_ready, acts_told, acts_made, acts_keep, still_seat}
 use Rattle.lst_rule.proofs.acts.store_event.Goals as goal
 use Rattle.lst_rule.proofs.acts.store_event.Goals.{After-target-word}
 
-asked : (c : After-target-word) (u : View) → u ≡ c.args.seat.now.view → Asks c.args.store.now.layout.limits c.numbers-now.result.now c.args.event c.args.s c.target-word.result u c.args.seat.now.view
+asked : (c : After-target-word) (u : View) → u ≡ c.args.seat.now.view → Asks c.args.store.now.layout.limits c.numbers-now.result.now (Core c.args.event) c.args.s c.target-word.result u c.args.seat.now.view
 asked c u same = record { same = same; limits = c.requires.seat.limits; numbers = c.numbers-now.ensures.is; session = c.requires.session; hosted = c.requires.host; within = c.requires.within; ok = c.requires.enabled; stands = c.requires.stands; at = c.target-word.ensures.address }
 
 pub store_word-requires-clause-ready : goal.store_word-requires-clause-ready
@@ -18,7 +19,7 @@ invariant_of-seat c = acts_keep _ _ _ _ _ _ _ (asked (goal.at.invariant_of-seat 
     c.written-new.result _ c.store_word.new.seat.me.0 (c.store_word.ensures.told, refl) c.index_mut.result.now c.advance.new.now c.index_mut.ensures.value (c.advance.ensures ∙ stored_after c.args.store.now.layout.limits c.args.event c.requires.kind c.index_mut.result.now 0 _)
 
 pub returns-clause-seat : goal.returns-clause-seat
-returns-clause-seat c = still_seat _ _ _ c.args.event _ c.written-new.result c.requires.seat (c.store_word.ensures.table.0 ∙ ap (λ z. z.table) c.seat.view_is)
+returns-clause-seat c = still_seat _ _ _ (Core c.args.event) _ c.written-new.result c.requires.seat (c.store_word.ensures.table.0 ∙ ap (λ z. z.table) c.seat.view_is)
     (acts_told _ _ _ _ _ _ _ (asked (goal.at.returns-clause-seat c).After-target-word c.seat.inside.place.me.0 (ap (λ z. z.view) c.seat.view_is)) c.written-new.result c.store_word.new.seat.me.0 c.store_word.ensures.told)
 
 pub returns-clause-made : goal.returns-clause-made

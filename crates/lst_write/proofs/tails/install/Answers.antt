@@ -8,7 +8,7 @@ pub step_install-requires-clause-enabled : goal.step_install-requires-clause-ena
 step_install-requires-clause-enabled c = let q = c.requires.whole in install_enabled c.args.seat.now.view c.args.s c.args.rec.number q.0 c.args.tail q.1 c.requires.host c.requires.own q.2
 
 pub step_install-requires-clause-stands : goal.step_install-requires-clause-stands
-step_install-requires-clause-stands c = let q = c.requires.whole in install_stands c.args.seat.now.view c.args.s c.args.rec.number q.0 c.args.tail q.1 c.requires.host c.requires.own q.2
+step_install-requires-clause-stands c = let q = c.requires.whole in install_stands c.args.seat.now.view c.args.s c.args.rec.number q.0 c.args.tail q.1 c.requires.host c.requires.own q.2 c.requires.posted
 
 pub returns-clause-installs : goal.returns-clause-installs
 returns-clause-installs c key head act has whole = installed _ _ _ _ _ _ c.requires.host c.requires.own whole _ c.step_install.ensures.made key has

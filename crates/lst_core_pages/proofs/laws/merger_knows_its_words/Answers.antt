@@ -1,5 +1,0 @@
-use Rattle.lst_core_pages.proofs.Safety.{sound_known}
-use Rattle.lst_core_pages.proofs.laws.merger_knows_its_words.Goals as goal
-
-pub returns : goal.returns
-returns c = sound_known

@@ -1,0 +1,103 @@
+//! Two sessions with a seat each: both commit, and one tells the other what it has seen.
+ghost use Rattle.std.specs.Prelude.{◌≡◌, ◌<◌, IfOk, length, true};
+ghost use Rattle.lst_rule.specs.Rule.{hosts};
+ghost use Rattle.lst_rule.specs.Stores.{IsSeatOf};
+ghost use Rattle.lst_drive.specs.Parted.{HasOwn};
+ghost use Rattle.lst_model.specs.Lines.{IsPatch};
+
+use crate::put_set_and_delete;
+use arrayvec::ArrayVec;
+use lst_layout::Limits;
+use lst_model::{Key, Patch, Row, Time};
+use lst_rule::{Seat, Store};
+use lst_seat::{SeatList, gather, hear, open_store, part, tell};
+use std::alloc::Global;
+use std::test::Fail;
+
+/// One range, with a tail record for each of six writes.
+const SMALL: Limits = Limits {
+    columns: 2,
+    ranges: 1,
+    tails: 6,
+    sessions: 2,
+    txns: 1,
+    spare: 1,
+    indexed: 0,
+};
+
+/// A store that opens, the seats of its two sessions, and the merger's.
+fn open_two(alloc: Global) -> Result<(Store, (Seat, Seat), Seat), Fail>
+    ensures columns { IfOk result (λ opened. opened.0.layout.limits.columns ≡ 2) }
+    ensures sessions { IfOk result (λ opened. opened.0.layout.limits.sessions ≡ 2) }
+    ensures first { IfOk result (λ opened. HasOwn opened.0 0 opened.1.0) }
+    ensures second { IfOk result (λ opened. HasOwn opened.0 1 opened.1.1) }
+    ensures merger { IfOk result (λ opened. IsSeatOf opened.0 opened.2) }
+    ensures hosts { IfOk result (λ opened. hosts opened.2.view opened.2.view.limits.sessions ≡ true) }
+{
+    let limits = SMALL;
+    let Ok(layout) = limits.check() else {
+        return Err(Fail::from("the small limits are in range"));
+    };
+    let (store, seat) = open_store(alloc, &layout)?;
+    let Ok((seats, merger)) = part(alloc, &store, seat) else {
+        return Err(Fail::from("there is memory"));
+    };
+    let mut items = seats.into_vec();
+    let (Some(second), Some(first)) = (items.pop(), items.pop()) else {
+        return Err(Fail::from("there are two sessions"));
+    };
+    Ok((store, (first, second), merger))
+}
+
+fn row(first: u64, second: u64) -> Row
+    ensures { length result ≡ 2 }
+{
+    let mut cells = ArrayVec::new();
+    cells.push(first);
+    cells.push(second);
+    Row::of_numbers(cells)
+}
+
+/// Sets the first column alone.
+fn patch(first: u64) -> Patch
+    ensures { IsPatch 2 result }
+{
+    let mut cells = ArrayVec::new();
+    cells.push(Some(first));
+    cells.push(None);
+    Patch::of_numbers(cells)
+}
+
+/// A transaction of three writes of one key. Its time, or None where a call is refused.
+fn commit(store: &Store, seat: &mut Seat, s: u32, key: Key) -> Option<Time>
+    requires columns { store.now.layout.limits.columns ≡ 2 }
+    requires session { s < store.now.layout.limits.sessions }
+    requires own { HasOwn store.now s seat.old }
+    ensures { IsSeatOf store.now seat.new }
+{
+    put_set_and_delete(store, seat, s, key, row(10, 20), patch(11))
+}
+
+#[test]
+fn commits_are_told_and_gathered(rt: HostRuntime) -> Result<(), Fail> {
+    let (store, (mut first, mut second), merger) = open_two(rt.alloc())?;
+    assert_eq!(rt; commit(&store, &mut first, 0, 7), Some(1));
+    if !first.hosts(0) {
+        return Err(Fail::from("the seat hosts session 0"));
+    }
+    assert_eq!(rt; (first.seen(0), second.seen(1)), (1, 0));
+    // Session 1 makes no load of its own: it hears of the commit.
+    let note = tell(&store, &mut first);
+    hear(&store, &mut second, note);
+    assert_eq!(rt; second.seen(1), 1);
+    assert_eq!(rt; commit(&store, &mut second, 1, 8), Some(2));
+    assert_eq!(rt; first.seen(0), 1);
+    let mut items = Vec::new(rt.alloc());
+    items.push(second)?;
+    items.push(first)?;
+    let Ok(seat) = gather(&store, SeatList::from_vec(items), merger) else {
+        return Err(Fail::from("no session is missing"));
+    };
+    assert_eq!(rt; (seat.seen(0), seat.seen(1)), (2, 2));
+    Ok(())
+}

@@ -1,0 +1,17 @@
+pub mod Functions
+pub mod Lists
+pub mod Keeps
+pub mod Moves
+pub mod Starts
+pub mod Safety
+pub mod Tellings
+pub mod Growing
+pub mod Leaving
+pub mod Freeing
+pub mod Splitting
+pub mod OwnSteps
+pub mod MergerSteps
+pub mod Beginning
+pub mod ByWords
+pub mod Numbering
+pub mod OnChains

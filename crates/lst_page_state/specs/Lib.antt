@@ -1,0 +1,9 @@
+pub mod Lists
+pub mod State
+pub mod Step
+pub mod Numbers
+pub mod Sound
+pub mod Runs
+pub mod Settled
+pub mod Known
+pub mod Laws

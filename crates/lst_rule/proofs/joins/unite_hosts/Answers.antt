@@ -1,0 +1,23 @@
+use Rattle.std.proofs.Common.{◌≡◌, Bool, cond, get_or, false, ap, length, ◌∙◌, arith, ⊎_elim, inl, inr}
+use Rattle.std.proofs.lemmas.List.{get_or_default}
+use Rattle.lst_rule.proofs.Changing.{united_step, united_end, length-united_first}
+use Rattle.lst_rule.proofs.joins.unite_hosts.Goals as goal
+
+pub index-requires : goal.index-requires
+index-requires c = let a = c.shortest-end.ensures.low.0 in let l = c.len.ensures in let e = c.args.hosted.now.ok.0 in let f = c.loop-s.hosted.ok.0 in
+    let g = ap length c.loop-s.invariant ∙ length-united_first c.loop-s.s c.args.others.now c.args.hosted.now.items c.args.others.now in let t = c.loop-s-test.true in omega arith
+
+pub index_mut-requires : goal.index_mut-requires
+index_mut-requires c = let a = c.shortest-end.ensures.low.0 in let l = c.len.ensures in let e = c.args.hosted.now.ok.0 in let f = c.loop-s.hosted.ok.0 in
+    let g = ap length c.loop-s.invariant ∙ length-united_first c.loop-s.s c.args.others.now c.args.hosted.now.items c.args.others.now in let t = c.loop-s-test.true in omega arith
+
+pub loop-s-preserved : goal.loop-s-preserved
+loop-s-preserved c = let a = c.shortest-end.ensures.low in let t = c.loop-s-test.true in
+    united_step c.loop-s.s c.args.others.now c.args.hosted.now.items c.args.others.now c.loop-s.hosted.items false c.one_of.result c.loop-s.invariant
+    (let l = c.len.ensures in let e = c.args.hosted.now.ok.0 in let g = ap length c.loop-s.invariant ∙ length-united_first c.loop-s.s c.args.others.now c.args.hosted.now.items c.args.others.now in let b = a.0 in omega arith)
+    (let b = a.1 in omega arith) (let b = a.1 in omega arith) (c.one_of.ensures ∙ ap (λ (u : Bool). cond (get_or c.args.others.now c.loop-s.s false) (get_or c.args.others.now c.loop-s.s false) u) (c.index.ensures ∙ get_or_default c.loop-s.hosted.items c.loop-s.s c.index.result.now false (let l = c.len.ensures in let e = c.args.hosted.now.ok.0 in let g = ap length c.loop-s.invariant ∙ length-united_first c.loop-s.s c.args.others.now c.args.hosted.now.items c.args.others.now in let b = a.0 in omega arith)))
+
+pub returns : goal.returns
+returns c = let t = c.loop-s-test.false in let l = c.len.ensures in let e = c.args.hosted.now.ok.0 in
+    c.loop-s.invariant ∙ united_end c.loop-s.s c.args.others.now c.args.hosted.now.items c.args.others.now
+    (⊎_elim (λ p. inl (omega arith)) (λ q. inr (⊎_elim (λ p. inl (omega arith)) (λ p. inr (omega arith)) q)) c.shortest-end.ensures.is)

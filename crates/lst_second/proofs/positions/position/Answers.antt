@@ -1,0 +1,13 @@
+use Rattle.std.proofs.Common.{◌≤◌, ℕ, subst, sym, ap, ◌∙◌}
+use Rattle.lst_probe.specs.Run.{start_of}
+use Rattle.lst_second.proofs.Runs.{bits_some, position_is, position_below}
+use Rattle.lst_second.proofs.positions.position.Goals as goal
+
+pub start-first-requires-clause-some : goal.start-first-requires-clause-some
+start-first-requires-clause-some c = subst (λ (b : ℕ). 1 ≤ b) (sym c.posting_bits.ensures.bits) (bits_some c.args.layout.now.limits c.args.layout.now.valid)
+
+pub returns-clause-position : goal.returns-clause-position
+returns-clause-position c = position_is c.args.layout.now.limits c.args.layout.now.valid c.args.value c.args.offset c.start-first.result (c.start-first.ensures.start ∙ ap (start_of c.args.value) c.posting_bits.ensures.bits) c.posting_positions.result c.posting_positions.ensures.count
+
+pub returns-clause-below : goal.returns-clause-below
+returns-clause-below c = position_below c.args.layout.now.limits c.args.layout.now.valid c.args.value c.args.offset c.start-first.result (c.start-first.ensures.start ∙ ap (start_of c.args.value) c.posting_bits.ensures.bits) c.posting_positions.result c.posting_positions.ensures.count

@@ -1,0 +1,5 @@
+use Rattle.lst_second.proofs.Views.{posts_on}
+use Rattle.lst_second.proofs.posting.post.Goals as goal
+
+pub returns-in-Some-clause-posts : goal.returns-in-Some-clause-posts
+returns-in-Some-clause-posts c = posts_on _ _ _ _ c.entry.ensures.posts c.post_entry.ensures.posts

@@ -1,0 +1,15 @@
+use Rattle.std.proofs.Common.{List, sym, subst}
+use Rattle.std.specs.List.{All}
+use Rattle.lst_session.specs.declared.session.Session.{Session}
+use Rattle.lst_session.specs.Parting.{IsParted}
+use Rattle.lst_session.specs.Passes.{IsReady}
+use Rattle.lst_session.proofs.Parting.{parted, all_ready}
+use Rattle.lst_session.proofs.crew.Crew.part.Goals as goal
+
+pub returns-in-Ok-part-clause-parted : goal.returns-in-Ok-part-clause-parted
+returns-in-Ok-part-clause-parted c = subst (λ (passes : List Session). IsParted c.args.store.now c.args.self.seat.view passes (record { seat = c.in-Ok-part.seat })) (sym c.numbered.ensures)
+    (parted c.args.store.now c.args.self.seat.view c.requires.seat.limits c.in-Ok-part.seats c.in-Ok-part.seat c.in-Ok-part.ensures.parts)
+
+pub returns-in-Ok-part-clause-ready : goal.returns-in-Ok-part-clause-ready
+returns-in-Ok-part-clause-ready c of = subst (All (IsReady c.args.store.now)) (sym c.numbered.ensures)
+    (all_ready c.args.store.now c.args.self.seat.view c.requires.seat.limits c.in-Ok-part.seats c.in-Ok-part.seat c.in-Ok-part.ensures.parts of.idle)

@@ -1,0 +1,11 @@
+use Rattle.std.proofs.Common.{sym, subst}
+use Rattle.lst_rule.specs.Surveys.{HostsAll}
+use Rattle.lst_session.specs.declared.crew.Crew.{Crew}
+use Rattle.lst_session.proofs.Recounting.{hosts_all}
+use Rattle.lst_session.proofs.part_tests.part_at_last.Goals as goal
+
+pub part-requires-clause-all : goal.part-requires-clause-all
+part-requires-clause-all c = hosts_all c.args.store.now c.args.crew c.requires
+
+pub part-requires-2-clause-all : goal.part-requires-2-clause-all
+part-requires-2-clause-all c = subst (λ (crew : Crew). HostsAll crew.seat.view) (sym c.in-Err.ensures.refused) (hosts_all c.args.store.now c.args.crew c.requires)

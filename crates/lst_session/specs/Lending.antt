@@ -1,0 +1,23 @@
+-- What becomes of a session, or of a crew, whose seat is lent.
+use Rattle.std.specs.Prelude.{Result}
+use Rattle.std.specs.Borrow.{MutBor, Fml, LendsIfOk}
+use Rattle.lst_rule.specs.Seats.{Sitting}
+use Rattle.lst_rule.specs.contracts.seat.Seat.{the_row as seat_row}
+use Rattle.lst_txn.specs.declared.ends.Idle.{Idle}
+use Rattle.lst_session.specs.declared.session.Session.{Session}
+use Rattle.lst_session.specs.contracts.session.Session.{the_row as session_row}
+use Rattle.lst_session.specs.declared.crew.Crew.{Crew}
+use Rattle.lst_session.specs.contracts.crew.Crew.{the_row as crew_row}
+
+abbrev pub with_seat : Session → Sitting → Session
+with_seat session seat = record session { seat = seat }
+
+abbrev pub with_crew_seat : Crew → Sitting → Crew
+with_crew_seat crew seat = record crew { seat = seat }
+
+-- it ends with the seat as that was left; where none was lent it ends as it was
+abbrev pub LendsSeat : MutBor Session → Result (MutBor Sitting) Idle → Fml
+LendsSeat session result = LendsIfOk session_row seat_row session result (with_seat session.now) session.now
+
+abbrev pub LendsCrewSeat : MutBor Crew → Result (MutBor Sitting) Idle → Fml
+LendsCrewSeat crew result = LendsIfOk crew_row seat_row crew result (with_crew_seat crew.now) crew.now
