@@ -1,0 +1,3 @@
+pub mod Pins
+pub mod Frames
+pub mod Trios
