@@ -1,0 +1,11 @@
+pub mod Inspecting
+pub mod Settling
+pub mod Statuses
+pub mod Swapping
+pub mod Wording
+pub mod Folding
+pub mod Ending
+pub mod Storing
+pub mod Reading
+pub mod Building
+pub mod Merging

@@ -1,0 +1,5 @@
+pub mod Inspections
+pub mod Runs
+pub mod Pages
+pub mod Builds
+pub mod Swaps

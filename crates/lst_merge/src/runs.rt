@@ -1,0 +1,95 @@
+//! The run of a merge.
+ghost use Rattle.std.specs.Prelude.{◌≡◌, ◌⊎◌, ◌+◌, ◌*◌, ◌<◌, ◌≤◌, true, false};
+ghost use Rattle.lst_page_state.specs.Sound.{IsPage};
+ghost use Rattle.lst_rule.specs.Rule.{hosts};
+ghost use Rattle.lst_rule.specs.PageSteps.{stock_of};
+ghost use Rattle.lst_rule.specs.Stores.{IsSeatOf};
+ghost use Rattle.lst_merge.specs.Inspections.{merger_of, Inspects};
+ghost use Rattle.lst_merge.specs.Runs.{tps_known, HasSettled, Unsettled, IsRun};
+
+use crate::frames::page_frame;
+use crate::tails::time_of;
+use lst_rule::{Seat, Store, load_frame, load_tail_counter};
+use lst_sights::tail_of;
+
+/// The tails of a range that a merge of a page takes in: those with a number above `tps`, up to `end`.
+#[derive(Clone, Copy, PartialEq, Eq, Debug)]
+pub struct Run {
+    /// The TPS of the page.
+    pub tps: u32,
+    /// The number of the last tail, or the TPS where there is none.
+    pub end: u32,
+}
+
+/// Finds the run of a page: the tails of its range after its TPS that are settled, without a gap. Each is found in this call to be stored,
+/// and its transaction to be closed or committed by the clock; and so is the end: the tail after it is beyond the tail counter that is
+/// loaded in this call, or beyond the limit, or found not stored or unfinished.
+///
+/// No word of the store changes.
+pub fn run_end(store: &Store, seat: &mut Seat, range: u32, column: u32) -> Run
+    requires seat { IsSeatOf store.now seat.old }
+    requires host { hosts seat.old.view seat.old.view.limits.sessions ≡ true }
+    requires page { IsPage seat.old.view.limits range column }
+    ensures seat { IsSeatOf store.now seat.new }
+    ensures inspects { Inspects seat.old.view seat.new.view seat.old.view.limits.sessions }
+    ensures run { IsRun seat.old.view seat.new.view range column result }
+{
+    let merger = store.layout().limits.sessions;
+    let tps = page_tps(store, seat, range, column);
+    let count = load_tail_counter(store, seat, merger, range);
+    let last = last_tail(count, store.layout().limits.tails);
+    let mut end = tps;
+    while end < last {
+        if !is_settled(store, seat, range, end + 1) {
+            seat.consider();
+            return Run { tps, end };
+        }
+        end += 1;
+    }
+    seat.consider();
+    Run { tps, end }
+}
+
+/// The number of the last tail that may be stored in a range, by its tail counter and the limit.
+fn last_tail(count: u64, tails: u32) -> u32
+    ensures few { result ≤ tails }
+    ensures drawn { result ≤ count }
+    ensures last { (count ≤ result) ⊎ (tails ≤ result) }
+{
+    if count < tails as u64 {
+        count as u32
+    } else {
+        tails
+    }
+}
+
+/// The TPS of a page.
+fn page_tps(store: &Store, seat: &mut Seat, range: u32, column: u32) -> u32
+    requires seat { IsSeatOf store.now seat.old }
+    requires host { hosts seat.old.view seat.old.view.limits.sessions ≡ true }
+    requires page { IsPage seat.old.view.limits range column }
+    ensures seat { IsSeatOf store.now seat.new }
+    ensures inspects { Inspects seat.old.view seat.new.view seat.old.view.limits.sessions }
+    ensures tps { result ≡ tps_known (stock_of seat.old.view) range column }
+    ensures few { result ≤ seat.old.view.limits.tails }
+{
+    let merger = store.layout().limits.sessions;
+    let frame = page_frame(store, seat, range, column);
+    load_frame(store, seat, merger, frame, 0) as u32
+}
+
+/// Whether the tail of a range with this number, from 1 on, is found to be settled.
+fn is_settled(store: &Store, seat: &mut Seat, range: u32, number: u32) -> bool
+    requires seat { IsSeatOf store.now seat.old }
+    requires host { hosts seat.old.view seat.old.view.limits.sessions ≡ true }
+    requires range { range < store.now.layout.limits.ranges }
+    requires some { 0 < number }
+    requires few { number ≤ store.now.layout.limits.tails }
+    ensures seat { IsSeatOf store.now seat.new }
+    ensures inspects { Inspects seat.old.view seat.new.view seat.old.view.limits.sessions }
+    ensures yes { result ≡ true → HasSettled (merger_of seat.new.view) (range * store.now.layout.limits.tails + number) }
+    ensures no { result ≡ false → Unsettled seat.old.view seat.new.view (range * store.now.layout.limits.tails + number) }
+{
+    let tail = tail_of(store, range, number);
+    time_of(store, seat, tail).is_some()
+}
