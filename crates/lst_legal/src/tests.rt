@@ -21,7 +21,7 @@ const USUAL: Limits = Limits {
     indexed: 0,
 };
 
-/// The lines of a text. The words that no script has yet are read here.
+/// The lines of a text. What no script has yet, merges and a null, is read here.
 fn read_lines(alloc: Global, limits: &Limits, text: &str) -> Result<Vec<Line>, Fail> {
     let mut lines = Vec::new(alloc);
     for line in text.lines() {
@@ -36,24 +36,6 @@ fn read_lines(alloc: Global, limits: &Limits, text: &str) -> Result<Vec<Line>, F
             lines.push(Line::Merge {
                 range: 3,
                 column: 0,
-            })?;
-        } else if line == "1 sum 0" {
-            lines.push(Line::Call {
-                session: 1,
-                call: Call::Sum { column: 0 },
-            })?;
-        } else if line == "0 count" {
-            lines.push(Line::Call {
-                session: 0,
-                call: Call::Count,
-            })?;
-        } else if line == "0 find 0 7" {
-            lines.push(Line::Call {
-                session: 0,
-                call: Call::Find {
-                    column: 0,
-                    value: 7,
-                },
             })?;
         } else if line == "1 insert 7 null 20" {
             lines.push(insert_of_null())?;

@@ -1,5 +1,5 @@
 -- Words that fail no check are a line of the grammar.
-use Rattle.std.proofs.Common.{◌≡◌, ℕ, suc, Bool, true, false, not, ◌&&◌, cond, eqb, ltb, List, [], ◌∷◌, length, map, get_or, replicate, is_some, is_none, Option, Some, None, unwrap_or, option_map, inl, inr, refl, sym, ap, subst, ◌∙◌, arith}
+use Rattle.std.proofs.Common.{◌≡◌, ℕ, suc, ◌<◌, Bool, true, false, not, ◌&&◌, cond, eqb, ltb, List, [], ◌∷◌, length, map, get_or, replicate, is_some, is_none, Option, Some, None, unwrap_or, option_map, inl, inr, refl, sym, ap, subst, ◌∙◌, arith}
 use Rattle.std.specs.Prelude.{bytes_eq}
 use Rattle.std.specs.List.{list_all, list_any, AllByRecursion}
 use Rattle.std.proofs.lemmas.Bool.{and_parts, cases_Bool, not-false, eqb-true, ltb-true, false≢true, true≢false, or_left, or_right}
@@ -11,7 +11,7 @@ use Rattle.lst_model.specs.declared.lines.Line.TheVariants as lines
 use Rattle.lst_script.specs.declared.faults.FaultKind.TheVariants.{UnknownWord, BadNumber, BadSession, BadCount, BadRange, BadColumn, NothingToSet}
 use Rattle.lst_model.specs.Cells.{Cell}
 use Rattle.lst_script.specs.Numbers.{number_of, cell_of, keeps_column, change_of}
-use Rattle.lst_script.specs.Table.{Form, phase, begin, as_of, get, insert, update, delete, commit, abort, first_forms, session_forms, form_named, name_of, number, change, places_of}
+use Rattle.lst_script.specs.Table.{Form, phase, begin, as_of, get, insert, update, delete, sum, count, scan, find_keys, commit, abort, first_forms, session_forms, form_named, name_of, number, change, places_of}
 use Rattle.lst_script.specs.Grammar.{form_of_call, AreArguments, IsLine}
 use Rattle.lst_script.specs.Faults.{first_fault, is_skipped, is_call, all_pass, is_readable, is_range, is_column, sets_nothing, argument_checks, word_checks}
 use Rattle.lst_script.proofs.Places.{all_pass-replicate, cells_readable, changes_readable}
@@ -102,6 +102,23 @@ update_told limits (key ∷ changes) p =
     let read : list_all (λ word. is_some (change_of word)) changes ≡ true = sym (changes_readable changes) ∙ (sym (all_pass-replicate is_readable change limits.columns changes len) ∙ parts.1) in
     (key, changes, refl, some_value (number_of key) 0 parts.0, record { changes = values_of change_of None changes read; as_many = length-map changes (λ word. unwrap_or (change_of word) None) ∙ len; sets = sets_some changes read p.sets })
 
+-- a column's number that is below the limit
+column_told : (limits : Limits) (word : List ℕ) (later : Bool) → (ltb (unwrap_or (number_of word) 0) limits.columns && later) ≡ true → unwrap_or (number_of word) 0 < limits.columns
+column_told limits word later e = ltb-true _ _ (and_parts (ltb (unwrap_or (number_of word) 0) limits.columns) later e).0
+
+sum_told : (limits : Limits) (words : List (List ℕ)) → Passes limits sum words → AreArguments limits (call_as sum words) words
+sum_told limits [] p = absurd (omega (arith, p.as_many))
+sum_told limits (word ∷ []) p = (word, refl, one_number word p.readable, column_told limits word true p.columns)
+sum_told limits (word ∷ other ∷ words) p = absurd (omega (arith, p.as_many))
+
+find_told : (limits : Limits) (words : List (List ℕ)) → Passes limits find_keys words → AreArguments limits (call_as find_keys words) words
+find_told limits [] p = absurd (omega (arith, p.as_many))
+find_told limits (word ∷ []) p = absurd (omega (arith, p.as_many))
+find_told limits (first ∷ second ∷ []) p =
+    let parts = and_parts (is_some (number_of first)) (is_some (number_of second) && true) p.readable in
+    (first, second, refl, some_value (number_of first) 0 parts.0, column_told limits first true p.columns, one_number second parts.1)
+find_told limits (first ∷ second ∷ other ∷ words) p = absurd (omega (arith, p.as_many))
+
 abbrev ToldAt : Limits → Form → Type 0
 ToldAt limits form = (words : List (List ℕ)) → Passes limits form words → IsTold limits form words
 
@@ -114,9 +131,13 @@ all_told limits =
     let insert_is : ToldAt limits insert = λ words p. (refl, insert_told limits words p) in
     let update_is : ToldAt limits update = λ words p. (refl, update_told limits words p) in
     let delete_is : ToldAt limits delete = λ words p. (refl, number_told words p.as_many p.readable) in
+    let sum_is : ToldAt limits sum = λ words p. (refl, sum_told limits words p) in
+    let count_is : ToldAt limits count = λ words p. (refl, nil_from_length words p.as_many) in
+    let scan_is : ToldAt limits scan = λ words p. (refl, nil_from_length words p.as_many) in
+    let find_is : ToldAt limits find_keys = λ words p. (refl, find_told limits words p) in
     let commit_is : ToldAt limits commit = λ words p. (refl, nil_from_length words p.as_many) in
     let abort_is : ToldAt limits abort = λ words p. (refl, nil_from_length words p.as_many) in
-    (begin_is, (as_of_is, (get_is, (insert_is, (update_is, (delete_is, (commit_is, (abort_is, tt))))))))
+    (begin_is, (as_of_is, (get_is, (insert_is, (update_is, (delete_is, (sum_is, (count_is, (scan_is, (find_is, (commit_is, (abort_is, tt))))))))))))
 
 -- what holds of each form of a list holds of the one that a word names among them
 named_or : (P : Form → Type 0) (b : Bool) (first : Form) (later : Option Form) (form : Form) → P first → (later ≡ Some form → P form) → cond b (Some first) later ≡ Some form → P form

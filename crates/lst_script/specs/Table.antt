@@ -36,12 +36,12 @@ name_of commit = codes "commit"
 name_of abort = codes "abort"
 
 -- The names that are read, at the first place of a line and directly behind a session's number.
--- A word that names no line of these is unknown: so are, for now, `merge`, `sum`, `count`, `scan` and `find`.
+-- A word that names no line of these is unknown: so is, for now, `merge`.
 abbrev pub first_forms : List Form
 first_forms = phase ∷ []
 
 abbrev pub session_forms : List Form
-session_forms = begin ∷ as_of ∷ get ∷ insert ∷ update ∷ delete ∷ commit ∷ abort ∷ []
+session_forms = begin ∷ as_of ∷ get ∷ insert ∷ update ∷ delete ∷ sum ∷ count ∷ scan ∷ find_keys ∷ commit ∷ abort ∷ []
 
 -- the line among these that a word names
 abbrev pub form_named : List Form → List ℕ → Option Form

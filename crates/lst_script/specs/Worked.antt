@@ -2,7 +2,7 @@
 use Rattle.std.specs.Prelude.{◌≡◌, ℕ, List, [], ◌∷◌, Some, None, codes, Option}
 use Rattle.lst_layout.specs.Limits.{default_limits}
 use Rattle.lst_script.specs.declared.faults.FaultKind.{FaultKind}
-use Rattle.lst_script.specs.declared.faults.FaultKind.TheVariants.{UnknownWord, BadNumber, BadSession, BadCount, NothingToSet}
+use Rattle.lst_script.specs.declared.faults.FaultKind.TheVariants.{UnknownWord, BadNumber, BadSession, BadCount, BadColumn, NothingToSet}
 use Rattle.lst_script.specs.Texts.{text_lines}
 use Rattle.lst_script.specs.Faults.{line_fault}
 
@@ -27,6 +27,14 @@ pub record AreJudged : Type 0 where
   pub number_before_change : fault_of (codes "0 update x _ _") ≡ Some BadNumber
   pub nothing_set : fault_of (codes "0 update 7 _ _") ≡ Some NothingToSet
   pub something_set : fault_of (codes "0 update 7 _ 1") ≡ None
+  pub sum : fault_of (codes "0 sum 01") ≡ None
+  pub find : fault_of (codes "0 find 1 18446744073709551615") ≡ None
+  pub column_at_the_limit : fault_of (codes "0 sum 2") ≡ Some BadColumn
+  pub find_column_at_the_limit : fault_of (codes "0 find 2 1") ≡ Some BadColumn
+  pub number_before_column : fault_of (codes "0 find 2 x") ≡ Some BadNumber
+  pub no_column : fault_of (codes "0 sum") ≡ Some BadCount
+  pub count_of_nothing : fault_of (codes "0 count 0") ≡ Some BadCount
+  pub no_merge : fault_of (codes "merge 0 0") ≡ Some UnknownWord
 
 -- a carriage return before a newline is dropped, and the last newline opens no line
 pub record AreCut : Type 0 where

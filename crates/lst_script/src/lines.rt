@@ -6,7 +6,7 @@ ghost use Rattle.lst_layout.specs.Limits.{IsValid};
 ghost use Rattle.lst_layout.specs.declared.limits.Limits.{Limits};
 ghost use Rattle.lst_script.specs.Texts.{texts};
 ghost use Rattle.lst_script.specs.Numbers.{cell_of, change_of};
-ghost use Rattle.lst_script.specs.Table.{begin, get, insert, update};
+ghost use Rattle.lst_script.specs.Table.{begin, get, insert, update, sum, find_keys};
 ghost use Rattle.lst_script.specs.Reading.{ReadsEach, ReadsArguments, ReadsNothing, ReadsOneNumber, ReadsSession, ReadsWords, ReadsLine};
 ghost use Rattle.lst_script.specs.Verbs.{form_of_verb};
 
@@ -94,6 +94,46 @@ fn read_one_number(arguments: &[&[u8]]) -> Result<u64, FaultKind>
     }
 }
 
+/// A column, below the limit.
+fn read_sum(arguments: &[&[u8]], limits: &Limits) -> Result<Call, FaultKind>
+    ensures { ReadsArguments limits.now sum (texts arguments.now) result }
+{
+    let [column] = arguments else {
+        return Err(FaultKind::BadCount);
+    };
+    let Some(column) = number(column) else {
+        return Err(FaultKind::BadNumber);
+    };
+    if column >= u64::from(limits.columns) {
+        return Err(FaultKind::BadColumn);
+    }
+    Ok(Call::Sum {
+        column: column as u32,
+    })
+}
+
+/// A column, below the limit, and the number that is looked for in it.
+fn read_find(arguments: &[&[u8]], limits: &Limits) -> Result<Call, FaultKind>
+    ensures { ReadsArguments limits.now find_keys (texts arguments.now) result }
+{
+    let [column, value] = arguments else {
+        return Err(FaultKind::BadCount);
+    };
+    let Some(column) = number(column) else {
+        return Err(FaultKind::BadNumber);
+    };
+    let Some(value) = number(value) else {
+        return Err(FaultKind::BadNumber);
+    };
+    if column >= u64::from(limits.columns) {
+        return Err(FaultKind::BadColumn);
+    }
+    Ok(Call::Find {
+        column: column as u32,
+        value,
+    })
+}
+
 /// Nothing behind a name.
 fn read_nothing(arguments: &[&[u8]]) -> Result<(), FaultKind>
     ensures { (limits : Limits) → ReadsNothing limits begin (texts arguments.now) result }
@@ -129,6 +169,16 @@ fn read_call(verb: Verb, arguments: &[&[u8]], limits: &Limits) -> Result<Call, F
             let key = read_one_number(arguments)?;
             Ok(Call::Delete { key })
         }
+        Verb::Sum => read_sum(arguments, limits),
+        Verb::Count => {
+            read_nothing(arguments)?;
+            Ok(Call::Count)
+        }
+        Verb::Scan => {
+            read_nothing(arguments)?;
+            Ok(Call::Scan)
+        }
+        Verb::Find => read_find(arguments, limits),
         Verb::Commit => {
             read_nothing(arguments)?;
             Ok(Call::Commit)

@@ -33,7 +33,7 @@ fn expect_lines(rt: &impl Abort, read: Result<Script, ScriptFault>, count: usize
 #[test]
 fn every_built_line_is_read(rt: HostRuntime) -> Result<(), Fail> {
     let text =
-        b"0 begin\n0 insert 7 10 20\r\n\n# note\n  3  get  007 \n1 asof 3\n0 update 7 _ 21\n0 delete 18446744073709551615\n0 commit\nphase\n2 abort";
+        b"0 begin\n0 insert 7 10 20\r\n\n# note\n  3  get  007 \n1 asof 3\n0 update 7 _ 21\n0 delete 18446744073709551615\n0 sum 01\n1 count\n2 scan \r\n0 find 1 18446744073709551615\n0 commit\nphase\n2 abort";
     let script = parse(rt.alloc(), text, &Limits::default())?;
     let lines = [
         call(0, Call::Begin),
@@ -54,6 +54,16 @@ fn every_built_line_is_read(rt: HostRuntime) -> Result<(), Fail> {
             },
         ),
         call(0, Call::Delete { key: u64::MAX }),
+        call(0, Call::Sum { column: 1 }),
+        call(1, Call::Count),
+        call(2, Call::Scan),
+        call(
+            0,
+            Call::Find {
+                column: 1,
+                value: u64::MAX,
+            },
+        ),
         call(0, Call::Commit),
         Line::Phase,
         call(2, Call::Abort),
@@ -107,15 +117,40 @@ fn the_first_faulty_line_is_named(rt: HostRuntime) {
 }
 
 #[test]
-fn words_of_later_requests_are_unknown(rt: HostRuntime) {
-    for text in [
-        b"merge 0 0".as_slice(),
-        b"merge 4 0",
-        b"0 sum 2",
-        b"0 count",
-        b"0 scan",
-        b"0 find 0 1",
+fn a_scan_has_its_words_and_a_column_below_the_limit(rt: HostRuntime) {
+    for (text, kind) in [
+        (b"0 sum".as_slice(), FaultKind::BadCount),
+        (b"0 sum 0 1", FaultKind::BadCount),
+        (b"0 sum x y", FaultKind::BadCount),
+        (b"0 sum x", FaultKind::BadNumber),
+        (b"0 sum _", FaultKind::BadNumber),
+        (b"0 sum 18446744073709551616", FaultKind::BadNumber),
+        (b"0 sum 2", FaultKind::BadColumn),
+        (b"0 sum 4294967296", FaultKind::BadColumn),
+        (b"0 count 0", FaultKind::BadCount),
+        (b"0 scan 0", FaultKind::BadCount),
+        (b"0 find 0", FaultKind::BadCount),
+        (b"0 find 2 1 0", FaultKind::BadCount),
+        (b"0 find x 1", FaultKind::BadNumber),
+        (b"0 find 2 x", FaultKind::BadNumber),
+        (b"0 find 2 1", FaultKind::BadColumn),
+        (b"0 find 4294967297 1", FaultKind::BadColumn),
+        (b"4 sum 2", FaultKind::BadSession),
+        (b"0 sums 0", FaultKind::UnknownWord),
+        (b"sum 0", FaultKind::UnknownWord),
     ] {
+        let read = parse(rt.alloc(), text, &Limits::default());
+        assert_eq!(rt;
+            read.map(|script| script.len()),
+            Err(ScriptFault::Bad { line: 1, kind }),
+            "{kind:?}"
+        );
+    }
+}
+
+#[test]
+fn the_word_merge_is_unknown(rt: HostRuntime) {
+    for text in [b"merge 0 0".as_slice(), b"merge 4 0", b"merge"] {
         let read = parse(rt.alloc(), text, &Limits::default());
         let kind = FaultKind::UnknownWord;
         assert_eq!(rt;

@@ -8,9 +8,8 @@ use Rattle.lst_model.specs.declared.lines.Line.TheVariants as lines
 use Rattle.lst_model.specs.declared.lines.Call.{Call}
 use Rattle.lst_model.specs.declared.lines.Call.TheVariants.{Begin, AsOf, Get, Insert, Update, Delete, Sum, Count, Scan, Find, Commit, Abort}
 use Rattle.lst_model.specs.Lines.{CallFits}
-use Rattle.lst_session.specs.Replies.{IsCrewCall}
-use Rattle.lst_script.specs.Table.{Form, merge, sum, count, scan, find_keys, first_forms, session_forms, form_named, name_of}
-use Rattle.lst_script.specs.Grammar.{AreArguments, IsLine, form_of_call}
+use Rattle.lst_script.specs.Table.{Form, merge, first_forms, form_named, name_of}
+use Rattle.lst_script.specs.Grammar.{AreArguments, IsLine}
 use Rattle.lst_script.specs.Scripts.{AreScript, IsScript}
 use Rattle.lst_script.specs.Texts.{text_lines, line_words}
 use Rattle.lst_script.proofs.Scanning.{first_cases}
@@ -35,50 +34,6 @@ no_merge : ¬ Among merge first_forms
 no_merge (inl same) = cc
 no_merge (inr none) = none
 
-no_sum : ¬ Among sum session_forms
-no_sum (inl same) = cc
-no_sum (inr (inl same)) = cc
-no_sum (inr (inr (inl same))) = cc
-no_sum (inr (inr (inr (inl same)))) = cc
-no_sum (inr (inr (inr (inr (inl same))))) = cc
-no_sum (inr (inr (inr (inr (inr (inl same)))))) = cc
-no_sum (inr (inr (inr (inr (inr (inr (inl same))))))) = cc
-no_sum (inr (inr (inr (inr (inr (inr (inr (inl same)))))))) = cc
-no_sum (inr (inr (inr (inr (inr (inr (inr (inr none)))))))) = none
-
-no_count : ¬ Among count session_forms
-no_count (inl same) = cc
-no_count (inr (inl same)) = cc
-no_count (inr (inr (inl same))) = cc
-no_count (inr (inr (inr (inl same)))) = cc
-no_count (inr (inr (inr (inr (inl same))))) = cc
-no_count (inr (inr (inr (inr (inr (inl same)))))) = cc
-no_count (inr (inr (inr (inr (inr (inr (inl same))))))) = cc
-no_count (inr (inr (inr (inr (inr (inr (inr (inl same)))))))) = cc
-no_count (inr (inr (inr (inr (inr (inr (inr (inr none)))))))) = none
-
-no_scan : ¬ Among scan session_forms
-no_scan (inl same) = cc
-no_scan (inr (inl same)) = cc
-no_scan (inr (inr (inl same))) = cc
-no_scan (inr (inr (inr (inl same)))) = cc
-no_scan (inr (inr (inr (inr (inl same))))) = cc
-no_scan (inr (inr (inr (inr (inr (inl same)))))) = cc
-no_scan (inr (inr (inr (inr (inr (inr (inl same))))))) = cc
-no_scan (inr (inr (inr (inr (inr (inr (inr (inl same)))))))) = cc
-no_scan (inr (inr (inr (inr (inr (inr (inr (inr none)))))))) = none
-
-no_find_keys : ¬ Among find_keys session_forms
-no_find_keys (inl same) = cc
-no_find_keys (inr (inl same)) = cc
-no_find_keys (inr (inr (inl same))) = cc
-no_find_keys (inr (inr (inr (inl same)))) = cc
-no_find_keys (inr (inr (inr (inr (inl same))))) = cc
-no_find_keys (inr (inr (inr (inr (inr (inl same)))))) = cc
-no_find_keys (inr (inr (inr (inr (inr (inr (inl same))))))) = cc
-no_find_keys (inr (inr (inr (inr (inr (inr (inr (inl same)))))))) = cc
-no_find_keys (inr (inr (inr (inr (inr (inr (inr (inr none)))))))) = none
-
 -- a call has the cells and columns of the table
 call_fits : (limits : Limits) (call : Call) (words : List (List ℕ)) → AreArguments limits call words → CallFits limits.columns call
 call_fits limits Begin words are = tt
@@ -94,26 +49,10 @@ call_fits limits (Find column number) words are = are.4
 call_fits limits Commit words are = tt
 call_fits limits Abort words are = tt
 
--- a call that has a name is no scan
-call_is_taken : (call : Call) → Among (form_of_call call) session_forms → IsCrewCall call
-call_is_taken Begin among = tt
-call_is_taken (AsOf time) among = tt
-call_is_taken (Get key) among = tt
-call_is_taken (Insert key row) among = tt
-call_is_taken (Update key patch) among = tt
-call_is_taken (Delete key) among = tt
-call_is_taken (Sum column) among = no_sum among
-call_is_taken Count among = no_count among
-call_is_taken Scan among = no_scan among
-call_is_taken (Find column number) among = no_find_keys among
-call_is_taken Commit among = tt
-call_is_taken Abort among = tt
-
 line_taken : (words : List (List ℕ)) (line : Line) → IsLine store_limits words line → IsTaken line
 line_taken words lines.Phase is = (tt, tt)
 line_taken words (lines.Merge range column) is = absurd (no_merge (named is.0 first_forms merge is.4))
-line_taken words (lines.Call session call) is =
-    ((is.4, call_fits store_limits call is.5.arguments is.5.are_arguments), call_is_taken call (named is.5.name session_forms (form_of_call call) is.5.is_named))
+line_taken words (lines.Call session call) is = ((is.4, call_fits store_limits call is.5.arguments is.5.are_arguments), tt)
 
 all_cons : (line : Line) (script : List Line) → IsTaken line → All IsTaken script → All IsTaken (line ∷ script)
 all_cons line script first rest zero d within = first

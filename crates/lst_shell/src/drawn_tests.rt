@@ -3,14 +3,15 @@ ghost use Rattle.std.specs.Prelude.{◌≡◌, ◌<◌, IfOk};
 ghost use Rattle.lst_model.specs.Lines.{CallFits, IsPatch};
 ghost use Rattle.lst_plain.specs.Plains.{limits_of, IsPlainCall};
 ghost use Rattle.lst_session.specs.Crews.{IsCrewOf};
-ghost use Rattle.lst_session.specs.Replies.{IsCrewCall};
 
 use arrayvec::ArrayVec;
 use lst_layout::Limits;
 use lst_model::{Call, Line, Patch, Reply, Row};
 use lst_plain::Plain;
 use lst_rule::Store;
+use lst_scan::crew_line;
 use lst_session::{Crew, open_crew};
+use std::alloc::Global;
 use std::process::Abort;
 use std::test::Fail;
 
@@ -115,7 +116,6 @@ impl Drawer {
     fn draw_call(&mut self) -> Call
         ensures fits { CallFits 2 result }
         ensures plain { IsPlainCall result }
-        ensures crew { IsCrewCall result }
     {
         match self.draw(20) {
             0 | 1 | 2 => Call::Begin,
@@ -144,6 +144,7 @@ impl Drawer {
 
 /// Asks both for the answer to a drawn line.
 fn answers(
+    alloc: Global,
     store: &Store,
     crew: &mut Crew,
     plain: &mut Plain,
@@ -160,7 +161,7 @@ fn answers(
         session: drawer.draw_session(),
         call: drawer.draw_call(),
     };
-    let stored = crew.line(store, &line)?;
+    let stored = crew_line(alloc, store, crew, &line)?;
     let wanted = plain.line(&line)?;
     Ok((stored, wanted))
 }
@@ -183,7 +184,7 @@ fn compare(
     let mut drawer = Drawer { seed, keys };
     let mut refused = 0u32;
     for _ in 0..lines {
-        let (stored, wanted) = answers(&store, &mut crew, &mut plain, &mut drawer)?;
+        let (stored, wanted) = answers(rt.alloc(), &store, &mut crew, &mut plain, &mut drawer)?;
         assert_eq!(rt; stored, wanted);
         if let Reply::Refused { .. } = stored {
             refused = refused.wrapping_add(1);

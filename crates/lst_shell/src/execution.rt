@@ -10,6 +10,7 @@ use lst_layout::{Layout, Limits};
 use lst_model::{Line, OutOfMemory, Text};
 use lst_report::push_line;
 use lst_rule::Store;
+use lst_scan::crew_line;
 use lst_session::{Crew, open_crew};
 use std::alloc::Global;
 
@@ -29,7 +30,7 @@ pub(crate) fn execute(alloc: Global, script: &[Line]) -> Result<Ran, OutOfMemory
     let (store, mut crew) = open_crew(alloc, &layout())?;
     let mut text = Text::new(alloc);
     for line in script {
-        answer(&store, &mut crew, &mut text, line)?;
+        answer(alloc, &store, &mut crew, &mut text, line)?;
     }
     Ok(Ran {
         text,
@@ -38,7 +39,13 @@ pub(crate) fn execute(alloc: Global, script: &[Line]) -> Result<Ran, OutOfMemory
 }
 
 /// Runs a line, and adds the text of what it is answered.
-fn answer(store: &Store, crew: &mut Crew, text: &mut Text, line: &Line) -> Result<(), OutOfMemory>
+fn answer(
+    alloc: Global,
+    store: &Store,
+    crew: &mut Crew,
+    text: &mut Text,
+    line: &Line,
+) -> Result<(), OutOfMemory>
     requires crew { IsCrewOf store.now crew.old }
     requires tells { TellsState crew.old.seat.view }
     requires limits { crew.old.seat.view.limits ≡ store_limits }
@@ -48,7 +55,7 @@ fn answer(store: &Store, crew: &mut Crew, text: &mut Text, line: &Line) -> Resul
     ensures limits { OnOk result (crew.new.seat.view.limits ≡ store_limits) }
     ensures run { OnOk result ((rest : List ScriptLine) (whole : List ℕ) (last : State) → HasRun crew.old.seat.view text.old (line.now ∷ rest) whole last → HasRun crew.new.seat.view text.new rest whole last) }
 {
-    let reply = crew.line(store, line)?;
+    let reply = crew_line(alloc, store, crew, line)?;
     push_line(text, line, &reply)?;
     Ok(())
 }

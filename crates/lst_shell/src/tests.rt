@@ -144,6 +144,12 @@ const ACCOUNTS: &str =
 const ACCOUNTS_REPLIES: &str =
     "0 begun 0\n0 ok\n0 ok\n0 committed 1\n1 begun 1\n1 row 1000 0\n1 ok\n1 row 1000 0\n1 ok\n1 committed 2\n2 begun 2\n2 ok\n2 aborted\n2 begun 2\n2 row 970 1\n2 row 1030 1\n2 ended 2\n3 begun 2\n3 refused exists\n3 refused missing\n3 refused missing\n3 ended 2\n3 refused idle\n";
 
+const REPORT: &str =
+    "# A report on live rows: the key is the order; column 0 is the amount, column 1 the number of pieces.\n0 begin\n0 insert 3 100 5\n0 insert 1 250 2\n0 insert 2 400 1\n0 commit\nphase\n# The report reads as of time 1.\n3 asof 1\n3 count\n3 sum 0\n# Beside it orders are changed, added and taken away.\n1 begin\n1 update 1 300 _\n1 insert 4 900 3\n1 sum 0\n1 delete 2\n1 commit\n# Each line of the report is of the same state.\n3 sum 0\n3 scan\n3 commit\n# A later report sees the commit. A find needs an index on its column.\n2 begin\n2 count\n2 sum 0\n2 scan\n2 find 1 5\n2 commit\n# Nothing is scanned without a transaction.\n2 sum 0\n";
+
+const REPORT_REPLIES: &str =
+    "0 begun 0\n0 ok\n0 ok\n0 ok\n0 committed 1\n3 begun 1\n3 count 3\n3 sum 750\n1 begun 1\n1 ok\n1 ok\n1 sum 1700\n1 ok\n1 committed 2\n3 sum 750\n3 rows 1:250,2 2:400,1 3:100,5\n3 ended 1\n2 begun 2\n2 count 3\n2 sum 1300\n2 rows 1:300,2 3:100,5 4:900,3\n2 refused noindex\n2 ended 2\n2 refused idle\n";
+
 #[test]
 fn each_line_is_answered(rt: HostRuntime) -> Result<(), Fail> {
     let alloc = rt.alloc();
@@ -204,6 +210,25 @@ fn what_cannot_be_done_is_refused_and_the_transaction_goes_on(rt: HostRuntime) -
         "0 refused idle\n0 refused idle\n0 begun 0\n0 refused active\n0 aborted\n0 begun 0\n0 refused readonly\n0 ended 0\n",
     )?;
     answers(&rt, alloc, "0 asof 1\n", "0 refused future 0\n")
+}
+
+#[test]
+fn scans_are_answered(rt: HostRuntime) -> Result<(), Fail> {
+    let alloc = rt.alloc();
+    // Without a transaction, and of an empty table.
+    answers(
+        &rt,
+        alloc,
+        "0 sum 0\n0 count\n0 scan\n0 find 0 1\n0 begin\n0 sum 0\n0 count\n0 scan\n0 find 0 1\n",
+        "0 refused idle\n0 refused idle\n0 refused idle\n0 refused idle\n0 begun 0\n0 sum 0\n0 count 0\n0 rows\n0 refused noindex\n",
+    )?;
+    // A past state stays while others commit; own writes are seen at once, those of others are not.
+    answers_after_a_row(
+        &rt,
+        alloc,
+        "1 asof 1\n1 sum 1\n0 begin\n0 insert 6 1 18446744073709551615\n0 sum 1\n1 sum 1\n0 commit\n1 sum 1\n1 scan\n1 commit\n1 begin\n1 count\n1 scan\n",
+        "1 begun 1\n1 sum 20\n0 begun 1\n0 ok\n0 sum 18446744073709551635\n1 sum 20\n0 committed 2\n1 sum 20\n1 rows 7:10,20\n1 ended 1\n1 begun 2\n1 count 2\n1 rows 6:1,18446744073709551615 7:10,20\n",
+    )
 }
 
 #[test]
@@ -319,6 +344,11 @@ fn stock_is_answered_as_the_guide_says(rt: HostRuntime) -> Result<(), Fail> {
 #[test]
 fn accounts_are_answered_as_the_guide_says(rt: HostRuntime) -> Result<(), Fail> {
     answers(&rt, rt.alloc(), ACCOUNTS, ACCOUNTS_REPLIES)
+}
+
+#[test]
+fn a_report_is_answered_as_the_guide_says(rt: HostRuntime) -> Result<(), Fail> {
+    answers(&rt, rt.alloc(), REPORT, REPORT_REPLIES)
 }
 
 #[test]

@@ -1,0 +1,12 @@
+pub mod Totals
+pub mod Parts
+pub mod Seeing
+pub mod KeyWords
+pub mod Loops
+pub mod Dividing
+pub mod Finding
+pub mod Putting
+pub mod Leaving
+pub mod Replying
+pub mod Indexes
+pub mod Lining

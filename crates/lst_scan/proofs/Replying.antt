@@ -1,0 +1,45 @@
+-- The table that a crew's transaction sees is the machine's.
+use Rattle.std.proofs.Common.{◌≡◌, ℕ, ◌<◌, Bool, true, not, sym, ap, ◌∙◌}
+use Rattle.std.specs.Cmp.{nat_cmp_total}
+use Rattle.std.specs.FinMap.{same_map, nat_cmp-IsAntisymmetric}
+use Rattle.lst_model.specs.declared.replies.Reply.{Reply}
+use Rattle.lst_model.specs.declared.replies.Reply.TheVariants as reply
+use Rattle.lst_model.specs.declared.replies.Cause.TheVariants.{NotIndexed}
+use Rattle.lst_model.specs.Tables.{Rows, sum_of, count_of, scan_of, find_of}
+use Rattle.lst_machine.specs.State.{Opened}
+use Rattle.lst_machine.specs.Writes.{sight_of}
+use Rattle.lst_machine.specs.Calls.{in_open, refused_or, where_true, is_indexed}
+use Rattle.lst_rule.specs.declared.view.View.{View}
+use Rattle.lst_rule.specs.Rule.{knows}
+use Rattle.lst_rule.specs.Learned.{Possible}
+use Rattle.lst_sights.specs.Watching.{Watched}
+use Rattle.lst_session.specs.Crews.{store_told}
+use Rattle.lst_session.proofs.Crewed.{IsCrewView, crew_view, opened_some, watched_told}
+use Rattle.lst_session.proofs.Getting.{sight_is}
+use Rattle.lst_scan.specs.Scans.{table_seen}
+use Rattle.lst_scan.specs.Replies.{AnswersScans, CrewsAnswerScans}
+use Rattle.lst_scan.proofs.Seeing.{row_seen}
+
+module _ (v w : View) (s : ℕ) (crew : IsCrewView v) (p : Possible v) (low : s < v.limits.sessions) (opened : (knows v s).is_open ≡ true) (watched : Watched v w s) where
+  table_is : sight_of v.limits (store_told v) s (knows v s).begin ≡ table_seen (knows v s)
+  table_is = same_map nat_cmp_total nat_cmp-IsAntisymmetric (sight_of v.limits (store_told v) s (knows v s).begin) (table_seen (knows v s)) (λ key. sight_is v crew p s low opened key ∙ sym (row_seen (knows v s) key))
+
+  -- whatever is asked about it
+  by_table : (answer : Rows → Reply) → answer (table_seen (knows v s)) ≡ in_open ((store_told v).opened s) (λ (t : Opened). answer (sight_of v.limits (store_told v) s t.begin))
+  by_table answer = ap answer (sym table_is) ∙ (λ i. in_open (sym (opened_some v s low opened) i) (λ (t : Opened). answer (sight_of v.limits (store_told v) s t.begin)))
+
+  pub answers_scans : AnswersScans v w s
+  answers_scans = record {
+    sum = λ column. record { reply = by_table (λ table. reply.Sum (sum_of table column)); next = watched_told v w s watched crew.whole; limits = watched.learns.limits };
+    count = record { reply = by_table (λ table. reply.Count (count_of table)); next = watched_told v w s watched crew.whole; limits = watched.learns.limits };
+    rows = record { reply = by_table (λ table. reply.Rows (scan_of table)); next = watched_told v w s watched crew.whole; limits = watched.learns.limits };
+    found = λ column number indexed. record {
+      reply = ap (λ (b : Bool). refused_or (where_true (not b) NotIndexed) (reply.Keys (find_of (table_seen (knows v s)) column number))) (sym indexed)
+          ∙ by_table (λ table. refused_or (where_true (not (is_indexed v.limits column)) NotIndexed) (reply.Keys (find_of table column number)));
+      next = watched_told v w s watched crew.whole;
+      limits = watched.learns.limits;
+    };
+  }
+
+pub crews_answer_scans : CrewsAnswerScans
+crews_answer_scans store crew seat s is tells p low opened watched = answers_scans crew.seat.view seat.view s (crew_view store crew is tells) p low opened watched

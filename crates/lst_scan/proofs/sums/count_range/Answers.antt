@@ -1,0 +1,35 @@
+use Rattle.std.proofs.Common.{◌≡◌, ℕ, ◌+◌, ◌*◌, ◌≤◌, sym, subst, ◌∙◌, arith, true≢false}
+use Rattle.lst_model.specs.Tables.{count_of}
+use Rattle.lst_rule.specs.Rule.{knows}
+use Rattle.lst_scan.specs.Scans.{table_seen, between}
+use Rattle.lst_scan.proofs.Parts.{count_is}
+use Rattle.lst_scan.proofs.Seeing.{one_weight, no_weight}
+use Rattle.lst_scan.proofs.Loops.{Adds, adds_start, adds_next}
+use Rattle.lst_scan.proofs.sums.count_range.Goals.{then-is_some, else-is_some}
+use Rattle.lst_scan.proofs.sums.count_range.Goals as goal
+
+pub loop-number-init : goal.loop-number-init
+loop-number-init c = (adds_start c.args.store.now c.args.seat.now c.args.s (λ _. 1) (256 * c.args.range) c.consider.ensures c.requires.reader, omega arith, omega arith)
+
+pub loop-number-preserved : goal.loop-number-preserved
+loop-number-preserved c = let on = c.cell-found.ensures.cell in let invariant = c.loop-number.invariant in
+    let next = adds_next c.args.store.now c.args.seat.now.view c.loop-number.seat c.cell-found.new.seat c.args.s (λ _. 1) (256 * c.args.range) c.loop-number.number c.loop-number.rows invariant.0 c.consider-in-loop-number.ensures
+    c.cell-found.ensures.reader c.cell-found.ensures.watched on.0 on.1 in
+    let few = invariant.2 in let rises = invariant.0.rises in let low : c.loop-number.number + 1 ≤ 256 * (c.args.range + 1) = (let t = c.loop-number-test.true in omega arith) in
+    elim c.if-is_some.branch [
+      | then-is_some w ↦
+          let one = one_weight 0 on.0 c.cell-found.result on.2 (sym c.is_some.ensures ∙ w.if-is_some.true) in let is = w.rows-is in
+          (subst (λ (x : ℕ). Adds c.args.store.now c.args.seat.now.view c.cell-found.new.seat c.args.s (λ _. 1) (256 * c.args.range) (c.loop-number.number + 1) x) (omega arith) next, low, omega arith)
+      | else-is_some w ↦
+          let none = no_weight 0 on.0 c.cell-found.result on.2 (λ some. true≢false (sym some ∙ (sym c.is_some.ensures ∙ w.if-is_some.false))) in let is = w.rows-is in
+          (subst (λ (x : ℕ). Adds c.args.store.now c.args.seat.now.view c.cell-found.new.seat c.args.s (λ _. 1) (256 * c.args.range) (c.loop-number.number + 1) x) (omega arith) next, low, omega arith)
+    ]
+
+pub returns-clause-count : goal.returns-clause-count
+returns-clause-count c = λ place places. let invariant = c.loop-number.invariant in
+    subst (λ (n : ℕ). c.loop-number.rows ≡ count_of (between place (256 * c.args.range) n (table_seen (knows c.args.seat.now.view c.args.s))))
+    (let t = c.loop-number-test.false in let few = invariant.1 in omega arith)
+    (invariant.0.is place places ∙ sym (count_is (between place (256 * c.args.range) c.loop-number.number (table_seen (knows c.args.seat.now.view c.args.s)))))
+
+pub returns-clause-few : goal.returns-clause-few
+returns-clause-few c = let few = c.loop-number.invariant.2 in let end = c.loop-number.invariant.1 in omega arith

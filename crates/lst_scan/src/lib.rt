@@ -1,0 +1,22 @@
+//! Scans: sums, counts and lists over all rows that a session's open transaction sees, record by record.
+//!
+//! A record has at most one key, and a key at most one record. So the rows of a range of records are a part of the table, and the answers over
+//! parts add up to that over the whole.
+#![tactic(auto)]
+
+mod finds;
+mod laws;
+mod lines;
+mod lists;
+mod readers;
+mod records;
+mod sums;
+#[cfg(test)]
+mod tests;
+
+pub use finds::FindRefusal;
+pub use laws::{
+    crews_answer_scans, found_numbers_were_put, places_are_found, scans_leave_sessions, sums_add_up,
+};
+pub use lines::crew_line;
+pub use readers::{count, find, find_among, rows, sum, sum_part};

@@ -1,0 +1,136 @@
+//! The lines of a script, with their scans.
+ghost use Rattle.std.specs.Prelude.{◌≡◌, ◌<◌, IfOk, OnErr};
+ghost use Rattle.lst_model.specs.Lines.{LineFits};
+ghost use Rattle.lst_model.specs.declared.lines.Call.TheVariants as call;
+ghost use Rattle.lst_session.specs.Crews.{IsCrewOf, TellsState, Answers, AnswersLine};
+ghost use Rattle.lst_scan.specs.Lines.{IsNoMerge, KeepsState, HasScanned, SumLeaves, CountLeaves, ScanLeaves, FindLeaves, EachLineLeaves, LineLooks};
+
+use crate::finds::{FindRefusal, find};
+use crate::lists::rows;
+use crate::sums::{count, sum};
+use lst_model::{Call, Cause, Line, OutOfMemory, Reply};
+use lst_rule::Store;
+use lst_session::Crew;
+use std::alloc::Global;
+
+/// The answer to a line that is no merge: a scan is made by the session's open transaction, and all other lines by the crew. It promises of
+/// the session that calls what the call itself promises; and where the crew tells a state of the machine, the answer is the machine's, and the
+/// crew then tells the next one. For want of memory the session has only looked, and the crew tells the same state.
+pub fn crew_line(
+    alloc: Global,
+    store: &Store,
+    crew: &mut Crew,
+    line: &Line,
+) -> Result<Reply, OutOfMemory>
+    requires crew { IsCrewOf store.now crew.old }
+    requires fits { LineFits crew.old.seat.view.limits.sessions crew.old.seat.view.limits.ranges crew.old.seat.view.limits.columns line.now }
+    requires taken { IsNoMerge line.now }
+    ensures crew { IsCrewOf store.now crew.new }
+    ensures machine { TellsState crew.old.seat.view → IfOk result (λ reply. TellsState crew.new.seat.view × AnswersLine crew.old.seat.view crew.new.seat.view line.now reply) }
+    ensures session { IfOk result (λ reply. EachLineLeaves crew.old.seat.view crew.new.seat.view line.now reply) }
+    ensures looks { OnErr result (LineLooks crew.old.seat.view crew.new.seat.view line.now) }
+    ensures state { OnErr result (KeepsState crew.old.seat.view crew.new.seat.view) }
+{
+    match line {
+        Line::Call { session, call } => match call {
+            Call::Sum { column } => Ok(sum_call(store, crew, *session, *column)),
+            Call::Count => Ok(count_call(store, crew, *session)),
+            Call::Scan => scan_call(alloc, store, crew, *session),
+            Call::Find { column, value } => find_call(
+                alloc, store, crew, *session, *column, *value,
+            ),
+            _ => crew.line(store, line),
+        },
+        _ => crew.line(store, line),
+    }
+}
+
+fn idle() -> Reply
+    ensures { result ≡ Reply.Refused Cause.Idle }
+{
+    Reply::Refused { cause: Cause::Idle }
+}
+
+/// The answer to a sum.
+fn sum_call(store: &Store, crew: &mut Crew, s: u32, column: u32) -> Reply
+    requires crew { IsCrewOf store.now crew.old }
+    requires session { s < crew.old.seat.view.limits.sessions }
+    requires column { column < crew.old.seat.view.limits.columns }
+    ensures crew { IsCrewOf store.now crew.new }
+    ensures machine { TellsState crew.old.seat.view → TellsState crew.new.seat.view × Answers crew.old.seat.view crew.new.seat.view s (call.Sum column) result }
+    ensures session { SumLeaves crew.old.seat.view crew.new.seat.view s column result }
+{
+    crew.seat.consider();
+    if !crew.seat.is_open(s) {
+        return idle();
+    }
+    let total = sum(store, &mut crew.seat, s, column);
+    Reply::Sum { total }
+}
+
+/// The answer to a count.
+fn count_call(store: &Store, crew: &mut Crew, s: u32) -> Reply
+    requires crew { IsCrewOf store.now crew.old }
+    requires session { s < crew.old.seat.view.limits.sessions }
+    ensures crew { IsCrewOf store.now crew.new }
+    ensures machine { TellsState crew.old.seat.view → TellsState crew.new.seat.view × Answers crew.old.seat.view crew.new.seat.view s call.Count result }
+    ensures session { CountLeaves crew.old.seat.view crew.new.seat.view s result }
+{
+    crew.seat.consider();
+    if !crew.seat.is_open(s) {
+        return idle();
+    }
+    let rows = count(store, &mut crew.seat, s);
+    Reply::Count { rows }
+}
+
+/// The answer to a scan of all rows.
+fn scan_call(alloc: Global, store: &Store, crew: &mut Crew, s: u32) -> Result<Reply, OutOfMemory>
+    requires crew { IsCrewOf store.now crew.old }
+    requires session { s < crew.old.seat.view.limits.sessions }
+    ensures crew { IsCrewOf store.now crew.new }
+    ensures machine { TellsState crew.old.seat.view → IfOk result (λ reply. TellsState crew.new.seat.view × Answers crew.old.seat.view crew.new.seat.view s call.Scan reply) }
+    ensures session { IfOk result (λ reply. ScanLeaves crew.old.seat.view crew.new.seat.view s reply) }
+    ensures looks { OnErr result (HasScanned crew.old.seat.view crew.new.seat.view s) }
+    ensures state { OnErr result (KeepsState crew.old.seat.view crew.new.seat.view) }
+{
+    crew.seat.consider();
+    if !crew.seat.is_open(s) {
+        return Ok(idle());
+    }
+    match rows(alloc, store, &mut crew.seat, s) {
+        Ok(list) => Ok(Reply::Rows { list }),
+        Err(OutOfMemory) => Err(OutOfMemory),
+    }
+}
+
+/// The answer to a find.
+fn find_call(
+    alloc: Global,
+    store: &Store,
+    crew: &mut Crew,
+    s: u32,
+    column: u32,
+    number: u64,
+) -> Result<Reply, OutOfMemory>
+    requires crew { IsCrewOf store.now crew.old }
+    requires session { s < crew.old.seat.view.limits.sessions }
+    requires column { column < crew.old.seat.view.limits.columns }
+    ensures crew { IsCrewOf store.now crew.new }
+    ensures machine { TellsState crew.old.seat.view → IfOk result (λ reply. TellsState crew.new.seat.view × Answers crew.old.seat.view crew.new.seat.view s (call.Find column number) reply) }
+    ensures session { IfOk result (λ reply. FindLeaves crew.old.seat.view crew.new.seat.view s column number reply) }
+    ensures looks { OnErr result (HasScanned crew.old.seat.view crew.new.seat.view s) }
+    ensures state { OnErr result (KeepsState crew.old.seat.view crew.new.seat.view) }
+{
+    crew.seat.consider();
+    if !crew.seat.is_open(s) {
+        return Ok(idle());
+    }
+    match find(alloc, store, &mut crew.seat, s, column, number) {
+        Ok(list) => Ok(Reply::Keys { list }),
+        Err(FindRefusal::NotIndexed) => Ok(Reply::Refused {
+            cause: Cause::NotIndexed,
+        }),
+        Err(FindRefusal::OutOfMemory) => Err(OutOfMemory),
+    }
+}

@@ -1,0 +1,97 @@
+//! Sums and counts.
+ghost use Rattle.std.specs.Prelude.{◌≡◌, ℕ, ◌+◌, ◌*◌, ◌^◌, ◌<◌, ◌≤◌};
+ghost use Rattle.lst_model.specs.Tables.{sum_of, count_of};
+ghost use Rattle.lst_rule.specs.Rule.{knows};
+ghost use Rattle.lst_sights.specs.Watching.{Watched};
+ghost use Rattle.lst_walk.specs.Readers.{IsReader};
+ghost use Rattle.lst_scan.specs.Scans.{table_seen, Places, between};
+
+use crate::records::cell;
+use lst_rule::{RecordId, Seat, Store};
+
+/// The numbers of a column, 0 for null, added over all rows that the open transaction sees. A sum has 128 bits, and never wraps: there are
+/// fewer than 2^64 records.
+pub(crate) fn sum(store: &Store, seat: &mut Seat, s: u32, c: u32) -> u128
+    requires reader { IsReader store.now seat.old s }
+    requires column { c < store.now.layout.limits.columns }
+    ensures reader { IsReader store.now seat.new s }
+    ensures watched { Watched seat.old.view seat.new.view s }
+    ensures sum { result ≡ sum_of (table_seen (knows seat.old.view s)) c }
+{
+    seat.consider();
+    sum_part(store, seat, s, c, 0, store.layout().limits.ranges)
+}
+
+/// The same over the rows whose keys are on records of the ranges from `from` up to and without `to`.
+pub(crate) fn sum_part(store: &Store, seat: &mut Seat, s: u32, c: u32, from: u32, to: u32) -> u128
+    requires reader { IsReader store.now seat.old s }
+    requires column { c < store.now.layout.limits.columns }
+    requires rises { from ≤ to }
+    requires ranges { to ≤ store.now.layout.limits.ranges }
+    ensures reader { IsReader store.now seat.new s }
+    ensures watched { Watched seat.old.view seat.new.view s }
+    ensures sum { (place : ℕ → ℕ) → Places (knows seat.old.view s) place → result ≡ sum_of (between place (256 * from) (256 * to) (table_seen (knows seat.old.view s))) c }
+{
+    seat.consider();
+    let mut total: u128 = 0;
+    for range in from..to {
+        total += sum_range(store, seat, s, c, range);
+    }
+    total
+}
+
+/// The same over the rows of one range.
+fn sum_range(store: &Store, seat: &mut Seat, s: u32, c: u32, range: u32) -> u128
+    requires reader { IsReader store.now seat.old s }
+    requires column { c < store.now.layout.limits.columns }
+    requires range { range < store.now.layout.limits.ranges }
+    ensures reader { IsReader store.now seat.new s }
+    ensures watched { Watched seat.old.view seat.new.view s }
+    ensures sum { (place : ℕ → ℕ) → Places (knows seat.old.view s) place → result ≡ sum_of (between place (256 * range) (256 * (range + 1)) (table_seen (knows seat.old.view s))) c }
+    ensures few { result ≤ 2 ^ 72 }
+{
+    seat.consider();
+    let mut total: u128 = 0;
+    for number in 256 * range..256 * (range + 1) {
+        seat.consider();
+        let found = cell(store, seat, s, RecordId { number }, c);
+        total += u128::from(found.unwrap_or(0));
+    }
+    total
+}
+
+/// The number of rows that the open transaction sees.
+pub(crate) fn count(store: &Store, seat: &mut Seat, s: u32) -> u64
+    requires reader { IsReader store.now seat.old s }
+    ensures reader { IsReader store.now seat.new s }
+    ensures watched { Watched seat.old.view seat.new.view s }
+    ensures count { result ≡ count_of (table_seen (knows seat.old.view s)) }
+{
+    seat.consider();
+    let mut rows: u64 = 0;
+    for range in 0..store.layout().limits.ranges {
+        rows += count_range(store, seat, s, range);
+    }
+    rows
+}
+
+/// The number of those of one range.
+fn count_range(store: &Store, seat: &mut Seat, s: u32, range: u32) -> u64
+    requires reader { IsReader store.now seat.old s }
+    requires range { range < store.now.layout.limits.ranges }
+    ensures reader { IsReader store.now seat.new s }
+    ensures watched { Watched seat.old.view seat.new.view s }
+    ensures count { (place : ℕ → ℕ) → Places (knows seat.old.view s) place → result ≡ count_of (between place (256 * range) (256 * (range + 1)) (table_seen (knows seat.old.view s))) }
+    ensures few { result ≤ 256 }
+{
+    seat.consider();
+    let mut rows: u64 = 0;
+    for number in 256 * range..256 * (range + 1) {
+        seat.consider();
+        let found = cell(store, seat, s, RecordId { number }, 0);
+        if found.is_some() {
+            rows += 1;
+        }
+    }
+    rows
+}
