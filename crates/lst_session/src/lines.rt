@@ -13,6 +13,7 @@ impl Crew {
 
     /// The answer to a line. It promises of the session that calls what the call itself promises; and where the crew tells a state of the machine,
     /// the answer is the machine's, and the crew then tells the next one. It takes no scans and no merges.
+    #[inline(always)]
     pub fn line(&mut self, store: &Store, line: &Line) -> Result<Reply, OutOfMemory>
         requires crew { IsCrewOf store.now self.old }
         requires fits { LineFits self.old.seat.view.limits.sessions self.old.seat.view.limits.ranges self.old.seat.view.limits.columns line.now }
