@@ -70,8 +70,16 @@ EachLineLeaves v w line.Phase answer = (answer ≡ Silent) × (w ≡ v)
 EachLineLeaves v w (line.Merge range column) answer = ⊥
 EachLineLeaves v w (line.Call s call) answer = EachCallLeaves v w s call answer
 
--- for want of memory the session has only looked
+-- for want of memory: only a list and a find in an indexed column take any, once a transaction is found open, and then the session has only
+-- looked; any other call leaves all as it was
+abbrev pub CallLooks : View → View → ℕ → Call → Type 0
+CallLooks v w s call.Scan = HasScanned v w s
+CallLooks v w s (call.Find column number) = (is_indexed v.limits column ≡ true) × HasScanned v w s
+CallLooks v w s (call.Sum column) = ⊥
+CallLooks v w s call.Count = ⊥
+CallLooks v w s call = w ≡ v
+
 abbrev pub LineLooks : View → View → Line → Type 0
 LineLooks v w line.Phase = w ≡ v
 LineLooks v w (line.Merge range column) = ⊥
-LineLooks v w (line.Call s call) = OnlyLooks v w s × FindsNoneFull v w s
+LineLooks v w (line.Call s call) = CallLooks v w s call

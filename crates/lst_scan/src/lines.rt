@@ -1,5 +1,6 @@
 //! The lines of a script, with their scans.
-ghost use Rattle.std.specs.Prelude.{◌≡◌, ◌<◌, IfOk, OnErr};
+ghost use Rattle.std.specs.Prelude.{◌≡◌, ◌<◌, IfOk, OnErr, true};
+ghost use Rattle.lst_machine.specs.Calls.{is_indexed};
 ghost use Rattle.lst_model.specs.Lines.{LineFits};
 ghost use Rattle.lst_model.specs.declared.lines.Call.TheVariants as call;
 ghost use Rattle.lst_session.specs.Crews.{IsCrewOf, TellsState, Answers, AnswersLine};
@@ -15,7 +16,8 @@ use std::alloc::Global;
 
 /// The answer to a line that is no merge: a scan is made by the session's open transaction, and all other lines by the crew. It promises of
 /// the session that calls what the call itself promises; and where the crew tells a state of the machine, the answer is the machine's, and the
-/// crew then tells the next one. For want of memory the session has only looked, and the crew tells the same state.
+/// crew then tells the next one. Memory may be wanted for a list of rows and for a find in an indexed column, with a transaction open: then the
+/// session has only looked, and the crew tells the same state.
 pub fn crew_line(
     alloc: Global,
     store: &Store,
@@ -119,7 +121,7 @@ fn find_call(
     ensures crew { IsCrewOf store.now crew.new }
     ensures machine { TellsState crew.old.seat.view → IfOk result (λ reply. TellsState crew.new.seat.view × Answers crew.old.seat.view crew.new.seat.view s (call.Find column number) reply) }
     ensures session { IfOk result (λ reply. FindLeaves crew.old.seat.view crew.new.seat.view s column number reply) }
-    ensures looks { OnErr result (HasScanned crew.old.seat.view crew.new.seat.view s) }
+    ensures looks { OnErr result ((is_indexed crew.old.seat.view.limits column ≡ true) × HasScanned crew.old.seat.view crew.new.seat.view s) }
     ensures state { OnErr result (KeepsState crew.old.seat.view crew.new.seat.view) }
 {
     crew.seat.consider();
