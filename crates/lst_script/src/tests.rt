@@ -149,15 +149,43 @@ fn a_scan_has_its_words_and_a_column_below_the_limit(rt: HostRuntime) {
 }
 
 #[test]
-fn the_word_merge_is_unknown(rt: HostRuntime) {
-    for text in [b"merge 0 0".as_slice(), b"merge 4 0", b"merge"] {
+fn a_merge_has_a_range_and_a_column_below_their_limits(rt: HostRuntime) -> Result<(), Fail> {
+    let script = parse(rt.alloc(), b"merge 3 01\r\nmerge  0 0", &Limits::default())?;
+    let lines = [
+        Line::Merge {
+            range: 3,
+            column: 1,
+        },
+        Line::Merge {
+            range: 0,
+            column: 0,
+        },
+    ];
+    assert_eq!(rt; script.items(), lines.as_slice());
+    for (text, kind) in [
+        (b"merge".as_slice(), FaultKind::BadCount),
+        (b"merge 0", FaultKind::BadCount),
+        (b"merge 4 2 0", FaultKind::BadCount),
+        (b"merge x 2", FaultKind::BadNumber),
+        (b"merge 4 x", FaultKind::BadNumber),
+        (b"merge _ 0", FaultKind::BadNumber),
+        (b"merge 0 18446744073709551616", FaultKind::BadNumber),
+        (b"merge 4 0", FaultKind::BadRange),
+        (b"merge 4 2", FaultKind::BadRange),
+        (b"merge 4294967296 0", FaultKind::BadRange),
+        (b"merge 3 2", FaultKind::BadColumn),
+        (b"merge 0 4294967296", FaultKind::BadColumn),
+        (b"merged 0 0", FaultKind::UnknownWord),
+        (b"0 merge 0 0", FaultKind::UnknownWord),
+    ] {
         let read = parse(rt.alloc(), text, &Limits::default());
-        let kind = FaultKind::UnknownWord;
         assert_eq!(rt;
             read.map(|script| script.len()),
-            Err(ScriptFault::Bad { line: 1, kind })
+            Err(ScriptFault::Bad { line: 1, kind }),
+            "{kind:?}"
         );
     }
+    Ok(())
 }
 
 #[test]
