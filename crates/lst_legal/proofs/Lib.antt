@@ -1,4 +1,3 @@
-pub mod Indexing
 pub mod Sighting
 pub mod Shaped
 pub mod Composed

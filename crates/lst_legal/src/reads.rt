@@ -1,11 +1,9 @@
 //! Replies that tell what a transaction sees.
 ghost use Rattle.std.specs.Prelude.{◌≡◌, ◌↔◌, IsTrue};
-ghost use Rattle.lst_machine.specs.Calls.{is_indexed};
 ghost use Rattle.lst_model.specs.Tables.{row_of, sum_of, count_of};
-ghost use Rattle.lst_replies.specs.Explained.{TellsSight, is_not_indexed_reply, lacks_index};
+ghost use Rattle.lst_replies.specs.Explained.{TellsSight, is_not_indexed_reply};
 ghost use Rattle.lst_snapshots.specs.Sights.{seen};
 
-use lst_layout::Limits;
 use lst_model::{Call, Cause, Key, Reply};
 use lst_snapshots::{Sight, Snapshots};
 
@@ -45,27 +43,6 @@ fn tells_row(snapshots: &Snapshots, sight: &Sight, key: Key, reply: &Reply) -> b
         },
         Reply::Absent => sight.row(snapshots, key).is_none(),
         _ => true,
-    }
-}
-
-/// Whether a column has an index.
-fn is_indexed(limits: &Limits, column: u32) -> bool
-    ensures { result ≡ is_indexed limits.now column }
-{
-    let indexed = u32::from(limits.indexed);
-    if column >= 32 {
-        return false;
-    }
-    indexed >> column & 1 == 1
-}
-
-/// Whether a call is a find on a column without an index.
-pub(crate) fn lacks_index(limits: &Limits, call: &Call) -> bool
-    ensures { result ≡ lacks_index limits.now call.now }
-{
-    match call {
-        Call::Find { column, .. } => !is_indexed(limits, *column),
-        _ => false,
     }
 }
 

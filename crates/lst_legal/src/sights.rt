@@ -12,10 +12,11 @@ ghost use Rattle.lst_replies.specs.Seen.{seen as seen_answer};
 ghost use Rattle.lst_snapshots.specs.Sights.{seen};
 ghost use Rattle.lst_legal.specs.Sights.{IsSightOf, AreSights, TellsSeen};
 
-use crate::reads::{is_not_indexed_reply, lacks_index, tells_sight};
+use crate::reads::{is_not_indexed_reply, tells_sight};
 use crate::writes::is_write_answered;
 use lst_layout::Limits;
 use lst_legal_runs::{OpenOutline, Place, write_of};
+use lst_machine::lacks_index;
 use lst_model::{Call, OutOfMemory, Reply, Time};
 use lst_replies::Answer;
 use lst_snapshots::{Sight, Snapshots};

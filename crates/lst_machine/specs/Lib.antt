@@ -5,3 +5,7 @@ pub mod Merges
 pub mod Machine
 pub mod Others
 pub mod Orders
+pub mod Transactions
+pub mod Changes
+pub mod Scans
+pub mod Listings

@@ -1,24 +1,21 @@
 -- A key gets its record.
-use Rattle.std.proofs.Common.{◌≡◌, ℕ, zero, suc, ◌+◌, ◌/◌, ◌<◌, ◌≤◌, Bool, true, false, cond, not, List, [], ◌∷◌, ◌++◌, length, get_or, refl, sym, ap, ◌∙◌, subst, arith, ⊎_elim}
-use Rattle.std.proofs.lemmas.Bool.{eqb-true, eq-eqb, cases_lt}
+use Rattle.std.proofs.Common.{◌≡◌, ℕ, ◌/◌, ◌<◌, ◌≤◌, false, cond, not, List, [], ◌∷◌, ◌++◌, length, get_or, refl, sym, ap, ◌∙◌, subst, arith, ⊎_elim}
+use Rattle.std.proofs.lemmas.Bool.{eq-eqb, cases_lt}
 use Rattle.std.proofs.lemmas.List.{map-append, length-append, get_or_append_left}
 use Rattle.std.proofs.Math.Seq.{get_or-append_seam}
 use Rattle.std.specs.Prelude.{Option, Some, None, is_some, unwrap_or, MatchOption, ◌==◌, ◌&&◌}
-use Rattle.std.specs.List.{Contains}
 use Rattle.lst_layout.specs.declared.limits.Limits.{Limits}
-use Rattle.lst_model.specs.declared.acts.Act.{Act}
-use Rattle.lst_machine.specs.State.{Accepted, Opened, Store}
-use Rattle.lst_machine.specs.Writes.{place_of, range_of, with_key, is_placed, time_of, last_where, rival_of}
+use Rattle.lst_machine.specs.State.{Accepted, Store}
+use Rattle.lst_machine.specs.Writes.{place_of, range_of, time_of, last_where, rival_of}
 use Rattle.lst_machine.specs.Calls.{with_placed}
 use Rattle.lst_plain.specs.declared.versions.Pending.{Pending}
-use Rattle.lst_plain.specs.Rows.{Kept, fresh, newest, keys_of, kept_of, is_held}
-use Rattle.lst_plain.specs.Sessions.{SessionState}
-use Rattle.lst_plain.specs.Engines.{EngineState, session_of}
+use Rattle.lst_plain.specs.Rows.{Kept, fresh, newest, keys_of, kept_of}
+use Rattle.lst_plain.specs.Engines.{EngineState}
 use Rattle.lst_plain.specs.Steps.{with_record}
-use Rattle.lst_plain.specs.Telling.{own_acts, acts_by, has_write, is_live, is_apart, last_settled, accepted_on, IsReached, IsPending, KeyTells, SessionTells, StoreTells}
-use Rattle.lst_plain.proofs.Placing.{with_last, place-append, at_place, kept-add}
+use Rattle.lst_plain.specs.Telling.{own_acts, acts_by, has_write, is_live, is_apart, last_settled, accepted_on, IsReached, KeyTells, StoreTells}
+use Rattle.lst_plain.proofs.Placing.{with_last, place-append, kept-add}
 use Rattle.lst_plain.proofs.Acting.{acts_by-none, last-none}
-use Rattle.lst_plain.proofs.Seeing.{no_write, no_write_unplaced}
+use Rattle.lst_plain.proofs.Seeing.{no_write_unplaced}
 use Rattle.lst_plain.proofs.Opening.{pending_same}
 
 module _ (store : Store) (new : ℕ) (unplaced : place_of store.placed new ≡ None) (reached : IsReached store) where

@@ -1,5 +1,5 @@
 -- What the machine answers to each call, read from an engine that tells its state.
-use Rattle.std.proofs.Common.{◌≡◌, ◌≢◌, ℕ, zero, suc, ◌+◌, ◌*◌, ◌/◌, ◌<◌, ◌≤◌, Bool, true, false, cond, not, List, [], ◌∷◌, ◌++◌, length, get_or, refl, sym, ap, ◌∙◌, subst, arith}
+use Rattle.std.proofs.Common.{◌≡◌, ◌≢◌, ℕ, ◌+◌, ◌*◌, ◌/◌, ◌<◌, ◌≤◌, Bool, true, false, cond, not, List, [], ◌∷◌, ◌++◌, length, get_or, refl, sym, ap, ◌∙◌, subst, arith}
 use Rattle.std.proofs.lemmas.Bool.{eqb-true, eq-eqb, leb-false}
 use Rattle.std.proofs.lemmas.List.{length-map, map-append, get_or-map}
 use Rattle.std.proofs.lemmas.List.Elements.{Contains-get_or}
@@ -9,26 +9,25 @@ use Rattle.lst_layout.specs.declared.limits.Limits.{Limits}
 use Rattle.lst_model.specs.declared.acts.Act.{Act}
 use Rattle.lst_model.specs.declared.acts.Act.TheVariants.{Put, Set, Del}
 use Rattle.lst_model.specs.declared.acts.Write.{Write}
-use Rattle.lst_model.specs.declared.lines.Call.{Call}
-use Rattle.lst_model.specs.declared.lines.Call.TheVariants.{Begin, AsOf, Get, Insert, Update, Delete, Commit, Abort}
-use Rattle.lst_model.specs.declared.replies.Reply.{Reply}
-use Rattle.lst_model.specs.declared.replies.Reply.TheVariants.{Begun, Done, Row, Absent, Committed, Ended, Aborted, Refused}
+use Rattle.lst_model.specs.declared.lines.Call.TheVariants.{Begin, AsOf, Get, Insert, Commit, Abort}
+use Rattle.lst_model.specs.declared.replies.Reply.TheVariants.{Begun, Done, Absent, Committed, Ended, Aborted, Refused}
 use Rattle.lst_model.specs.declared.replies.Cause.{Cause}
-use Rattle.lst_model.specs.declared.replies.Cause.TheVariants.{Idle, Active, ReadOnly, Spent, Future, Missing, Exists, TableFull, TailFull}
+use Rattle.lst_model.specs.declared.replies.Cause.TheVariants.{Idle, Active, ReadOnly, Spent, Future, Missing, TableFull, TailFull}
 use Rattle.lst_model.specs.Cells.{Cell}
 use Rattle.lst_model.specs.Tables.{row_of}
-use Rattle.lst_machine.specs.State.{Accepted, Opened, Store}
+use Rattle.lst_machine.specs.State.{Opened, Store}
 use Rattle.lst_machine.specs.Writes.{place_of, is_placed, range_of, conflict_of, own_writes, sight_of}
 use Rattle.lst_machine.specs.Calls.{first_of, where_true, refused_or, in_open, begin_refusal, as_of_refusal, opened_unless, row_reply, early_insert_refusal, late_insert_refusal, insert_refusal, change_refusal, with_placed, is_range_full, accepted_unless, placed_unless, after_insert, after_change, end_reply, after_commit, after_abort, with_opened, with_commit, call_reply, store_after}
 use Rattle.lst_model.specs.Histories.{acts_on}
-use Rattle.lst_plain.specs.declared.session.Transaction.{Transaction}
+use Rattle.lst_machine.specs.declared.answers.Transaction.{Transaction}
 use Rattle.lst_plain.specs.declared.versions.Pending.{Pending}
 use Rattle.lst_plain.specs.Rows.{Kept, fresh, keys_of, kept_of, row_seen, conflict_in, is_held}
-use Rattle.lst_plain.specs.Sessions.{SessionState}
 use Rattle.lst_plain.specs.Engines.{EngineState, session_of, is_open, is_among, IsWhole}
-use Rattle.lst_plain.specs.Steps.{refusal_of_begin, with_transaction, with_record, kept_at, misfit, refusal_of_write, with_write, written_unless, row_written, reply_to_write, after_write, is_full, reply_to_first, after_first, with_end}
-use Rattle.lst_plain.specs.Plains.{IsChange}
-use Rattle.lst_plain.specs.Telling.{opened_as, own_acts, IsReached, KeyTells, SessionTells, StoreTells}
+use Rattle.lst_machine.specs.Changes.{misfit}
+use Rattle.lst_plain.specs.Steps.{refusal_of_begin, with_transaction, with_record, kept_at, refusal_of_write, written_unless, row_written, reply_to_write, after_write, is_full, reply_to_first, after_first, with_end}
+use Rattle.lst_machine.specs.Changes.{IsChange}
+use Rattle.lst_machine.specs.Transactions.{opened_as}
+use Rattle.lst_plain.specs.Telling.{own_acts, KeyTells, SessionTells, StoreTells}
 use Rattle.lst_plain.proofs.Placing.{with_last, place-append, at_place, kept-at, kept-absent}
 use Rattle.lst_plain.proofs.Seeing.{sight_is, conflict_is, range_low, own_by_key}
 use Rattle.lst_plain.proofs.Adding.{tells_placed}

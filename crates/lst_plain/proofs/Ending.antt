@@ -1,32 +1,29 @@
 -- A session's transaction ends, with a commit or without one.
-use Rattle.std.proofs.Common.{◌≡◌, ◌≢◌, ℕ, zero, suc, ◌+◌, ◌-◌, ◌/◌, ◌<◌, ◌≤◌, Bool, true, false, cond, not, List, [], ◌∷◌, ◌++◌, length, get_or, set, take, map, refl, sym, ap, ◌∙◌, subst, arith, ⊎_elim, get_or-set_same, get_or-set_other, length-append, leb, le-leb}
+use Rattle.std.proofs.Common.{◌≡◌, ℕ, ◌+◌, ◌<◌, ◌≤◌, Bool, true, false, cond, not, List, [], ◌∷◌, ◌++◌, length, map, refl, sym, ap, ◌∙◌, subst, arith, ⊎_elim, get_or-set_same, get_or-set_other, length-append, le-leb}
 use Rattle.std.proofs.lemmas.Bool.{eqb-true, eq-eqb, lt-leb, cases_lt}
-use Rattle.std.proofs.lemmas.List.{take-append-le, take_all, length-map, get_or-map}
+use Rattle.std.proofs.lemmas.List.{take-append-le, take_all}
 use Rattle.std.specs.Prelude.{Option, Some, None, is_some, MatchOption, ◌==◌, ◌&&◌, ◌||◌}
-use Rattle.std.specs.List.{Contains}
 use Rattle.lst_layout.specs.declared.limits.Limits.{Limits}
-use Rattle.lst_model.specs.declared.acts.Act.{Act}
 use Rattle.lst_model.specs.declared.acts.Write.{Write}
 use Rattle.lst_model.specs.declared.commits.Commit.{Commit}
-use Rattle.lst_model.specs.Cells.{Cell}
 use Rattle.lst_model.specs.Tables.{row_of}
 use Rattle.lst_model.specs.Histories.{acts_on, all_acts_on, row_from, table_at}
 use Rattle.lst_model.proofs.Folds.{row_from-append, get_table_at, all_acts_on-append}
 use Rattle.lst_machine.specs.State.{Accepted, Opened, Store}
-use Rattle.lst_machine.specs.Writes.{put, put_in, time_of, last_where, rival_of}
+use Rattle.lst_machine.specs.Writes.{put, put_in, time_of}
 use Rattle.lst_machine.specs.Calls.{with_closed, with_commit}
 use Rattle.lst_plain.specs.declared.versions.Version.{Version}
 use Rattle.lst_plain.specs.declared.versions.Pending.{Pending}
-use Rattle.lst_plain.specs.Rows.{Kept, fresh, newest, row_at, row_from_versions, settled, settled_row, settled_beside, keys_of, kept_of, is_held}
+use Rattle.lst_plain.specs.Rows.{Kept, newest, row_at, settled, settled_row, settled_beside, keys_of, kept_of, is_held}
 use Rattle.lst_plain.specs.Sessions.{SessionState, new_session}
 use Rattle.lst_plain.specs.Engines.{EngineState, session_of}
 use Rattle.lst_plain.specs.Steps.{with_end}
-use Rattle.lst_plain.specs.Telling.{own_acts, acts_by, is_by, has_write, is_live, is_apart, last_settled, accepted_on, opened_as, IsReached, IsPending, KeyTells, SessionTells, StoreTells}
+use Rattle.lst_plain.specs.Telling.{own_acts, is_by, is_live, is_apart, last_settled, accepted_on, IsReached, KeyTells, SessionTells, StoreTells}
 use Rattle.lst_plain.proofs.Timed.{row-append, row-late, newest-append, rising-append}
 use Rattle.lst_plain.proofs.Placing.{settled-key, kept-map}
 use Rattle.lst_plain.proofs.Acting.{ends, last-same, last-equal, or_last, time-append}
 use Rattle.lst_plain.proofs.Opening.{at_each, put-same, put-else, apart, pending_same}
-use Rattle.lst_plain.proofs.Accepting.{and-left, and-right, swapped}
+use Rattle.lst_plain.proofs.Accepting.{and-left, swapped}
 
 -- whose record the pending row is
 held_by : (kept : Kept) (pending : Pending) (session : ℕ) (b : Bool) → kept.pending ≡ Some pending → (pending.session == session) ≡ b → is_held kept.pending session ≡ b

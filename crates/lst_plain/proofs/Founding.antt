@@ -1,19 +1,18 @@
 -- A new engine.
-use Rattle.std.proofs.Common.{◌≡◌, ℕ, zero, suc, ◌+◌, ◌<◌, ◌≤◌, true, false, List, [], ◌∷◌, length, get_or, replicate, refl, sym, ap, ◌∙◌, subst, arith}
+use Rattle.std.proofs.Common.{◌≡◌, ℕ, zero, suc, ◌≤◌, [], get_or, replicate, refl, sym, ap, subst, arith}
 use Rattle.std.proofs.lemmas.List.{length-replicate}
 use Rattle.std.proofs.lemmas.List.Folds.{sum_by-replicate}
-use Rattle.std.specs.Prelude.{Option, Some, None}
-use Rattle.std.specs.List.{Contains, sum_by}
+use Rattle.std.specs.Prelude.{Some, None}
+use Rattle.std.specs.List.{Contains}
 use Rattle.lst_layout.specs.declared.limits.Limits.{Limits}
 use Rattle.lst_layout.specs.Limits.{IsValid}
 use Rattle.lst_model.specs.Tables.{row_of}
 use Rattle.lst_model.specs.Histories.{table_at}
 use Rattle.lst_model.proofs.Folds.{get_table_at}
 use Rattle.lst_machine.specs.State.{opening_store}
-use Rattle.lst_plain.specs.Rows.{fresh}
 use Rattle.lst_plain.specs.Sessions.{SessionState, new_session}
-use Rattle.lst_plain.specs.Engines.{EngineState, session_of, is_open, open_count, IsWhole}
-use Rattle.lst_plain.specs.Telling.{IsReached, KeyTells, SessionTells, StoreTells}
+use Rattle.lst_plain.specs.Engines.{EngineState, open_count, IsWhole}
+use Rattle.lst_plain.specs.Telling.{SessionTells, StoreTells}
 
 -- without commits, keys or open transactions
 abbrev pub new_engine : Limits → EngineState

@@ -7,14 +7,11 @@ use Rattle.std.proofs.lemmas.List.Sums.{sum_by-set, sum_by-le}
 use Rattle.std.proofs.Math.Nat.{mul-le-mul_right}
 use Rattle.std.proofs.Math.Seq.{get_or-append_seam}
 use Rattle.std.specs.Prelude.{Option, Some, None, is_some, unwrap_or, nat_le, ◌==◌, ◌&&◌, ◌||◌}
-use Rattle.std.specs.List.{Contains, sum_by}
-use Rattle.lst_layout.specs.declared.limits.Limits.{Limits}
-use Rattle.lst_layout.specs.Limits.{IsValid}
-use Rattle.lst_model.specs.declared.replies.Cause.{Cause}
+use Rattle.std.specs.List.{Contains}
 use Rattle.lst_model.specs.declared.replies.Cause.TheVariants.{Active, Spent}
 use Rattle.lst_model.specs.Cells.{Cell}
 use Rattle.lst_machine.specs.Calls.{first_of, where_true}
-use Rattle.lst_plain.specs.declared.session.Transaction.{Transaction}
+use Rattle.lst_machine.specs.declared.answers.Transaction.{Transaction}
 use Rattle.lst_plain.specs.declared.versions.Pending.{Pending}
 use Rattle.lst_plain.specs.Rows.{Kept, fresh, newest, settled, settled_row, settled_beside, with_pending, conflict_in, is_held}
 use Rattle.lst_plain.specs.Sessions.{SessionState, new_session, noted_places}

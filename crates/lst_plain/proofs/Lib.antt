@@ -10,3 +10,10 @@ pub mod Keeping
 pub mod Answering
 pub mod Founding
 pub mod Settling
+pub mod Firsts
+pub mod Following
+pub mod Answered
+pub mod Merging
+pub mod Scanned
+pub mod Blank
+pub mod Joined

@@ -1,20 +1,21 @@
 -- A session opens a transaction.
-use Rattle.std.proofs.Common.{◌≡◌, ℕ, zero, suc, ◌+◌, ◌<◌, ◌≤◌, Bool, true, false, cond, List, [], ◌∷◌, length, get_or, set, refl, sym, ap, ◌∙◌, subst, arith, get_or-set_same, get_or-set_other}
+use Rattle.std.proofs.Common.{◌≡◌, ℕ, ◌+◌, ◌<◌, ◌≤◌, Bool, true, false, cond, List, [], length, refl, sym, ap, ◌∙◌, subst, arith, get_or-set_same, get_or-set_other}
 use Rattle.std.proofs.lemmas.Bool.{eqb-true, eq-eqb}
-use Rattle.std.specs.Prelude.{Option, Some, None, is_some, ◌==◌}
+use Rattle.std.specs.Prelude.{Some, None, is_some, ◌==◌}
 use Rattle.lst_layout.specs.declared.limits.Limits.{Limits}
 use Rattle.lst_model.specs.Histories.{row_from}
-use Rattle.lst_machine.specs.State.{Accepted, Opened, Store}
+use Rattle.lst_machine.specs.State.{Opened, Store}
 use Rattle.lst_machine.specs.Writes.{put, range_of, time_of, rival_of}
 use Rattle.lst_machine.specs.Calls.{with_opened}
-use Rattle.lst_plain.specs.declared.session.Transaction.{Transaction}
+use Rattle.lst_machine.specs.declared.answers.Transaction.{Transaction}
 use Rattle.lst_plain.specs.declared.versions.Version.{Version}
 use Rattle.lst_plain.specs.declared.versions.Pending.{Pending}
 use Rattle.lst_plain.specs.Rows.{Kept, row_at, is_held, kept_of}
 use Rattle.lst_plain.specs.Sessions.{SessionState, new_session}
 use Rattle.lst_plain.specs.Engines.{EngineState, session_of}
 use Rattle.lst_plain.specs.Steps.{with_transaction}
-use Rattle.lst_plain.specs.Telling.{own_acts, acts_by, accepted_on, opened_as, IsReached, IsPending, KeyTells, SessionTells, StoreTells}
+use Rattle.lst_machine.specs.Transactions.{opened_as}
+use Rattle.lst_plain.specs.Telling.{own_acts, acts_by, accepted_on, IsReached, IsPending, KeyTells, SessionTells, StoreTells}
 
 -- what holds at one number and at each other one
 pub at_each : (P : ℕ → Type 0) (s : ℕ) → P s → ((j : ℕ) → (j == s) ≡ false → P j) → (j : ℕ) → P j

@@ -1,20 +1,17 @@
 -- What a session sees of a key, and what is in the way of its write, read from the key's record.
-use Rattle.std.proofs.Common.{◌≡◌, ℕ, zero, suc, ◌+◌, ◌*◌, ◌/◌, ◌<◌, ◌≤◌, Bool, true, false, cond, not, List, [], ◌∷◌, ◌++◌, length, refl, sym, ap, ◌∙◌, subst, arith, rules}
-use Rattle.std.proofs.lemmas.Bool.{eqb-true, eq-eqb}
+use Rattle.std.proofs.Common.{◌≡◌, ℕ, ◌*◌, ◌/◌, ◌<◌, ◌≤◌, Bool, true, false, cond, List, [], length, refl, sym, ap, ◌∙◌, arith}
+use Rattle.std.proofs.lemmas.Bool.{eqb-true}
 use Rattle.std.specs.Prelude.{Option, Some, None, is_some, unwrap_or, MatchOption, nat_lt, ◌==◌, ◌&&◌}
 use Rattle.lst_layout.specs.declared.limits.Limits.{Limits}
-use Rattle.lst_model.specs.declared.replies.Cause.{Cause}
 use Rattle.lst_model.specs.declared.replies.Cause.TheVariants.{Newer, Unfinished}
-use Rattle.lst_model.specs.Cells.{Cell}
 use Rattle.lst_model.specs.Tables.{row_of}
 use Rattle.lst_model.specs.Histories.{acts_on, row_from, table_at}
 use Rattle.lst_model.proofs.Folds.{get_all_applied}
 use Rattle.lst_machine.specs.State.{Accepted, Opened, Store}
-use Rattle.lst_machine.specs.Writes.{place_of, range_of, time_of, last_where, rival_of, conflict_at, conflict_with, conflict_of, accepted_below, own_writes, sight_of}
-use Rattle.lst_plain.specs.declared.versions.Version.{Version}
+use Rattle.lst_machine.specs.Writes.{place_of, range_of, time_of, conflict_at, conflict_with, conflict_of, accepted_below, own_writes, sight_of}
 use Rattle.lst_plain.specs.declared.versions.Pending.{Pending}
 use Rattle.lst_plain.specs.Rows.{Kept, row_at, newest, is_held, row_beside, row_seen, conflict_beside, conflict_in}
-use Rattle.lst_plain.specs.Telling.{accepted_on, acts_by, own_acts, has_write, is_live, is_apart, last_settled, IsReached, IsPending, KeyTells}
+use Rattle.lst_plain.specs.Telling.{accepted_on, own_acts, has_write, is_live, is_apart, last_settled, IsReached, IsPending, KeyTells}
 use Rattle.lst_plain.proofs.Placing.{at_place}
 use Rattle.lst_plain.proofs.Acting.{acts_by-none, acts_on-gathered, acts_below, last-equal}
 

@@ -5,4 +5,9 @@ pub mod Places
 pub mod Engines
 pub mod Steps
 pub mod Telling
+pub mod EngineOf
+pub mod Tails
+pub mod Lineages
+pub mod LineageOf
+pub mod Pages
 pub mod Plains

@@ -1,6 +1,6 @@
 -- What is kept of a session.
 use Rattle.std.specs.Prelude.{ℕ, List, [], ◌∷◌, ◌++◌, Bool, true, false, Option, None}
-use Rattle.lst_plain.specs.declared.session.Transaction.{Transaction}
+use Rattle.lst_machine.specs.declared.answers.Transaction.{Transaction}
 
 -- how many transactions it has begun, the open one, and the places of the records with a row that it made
 pub record SessionState : Type 0 where

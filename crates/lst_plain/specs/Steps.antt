@@ -1,15 +1,15 @@
 -- What a line changes of an engine, and why it is refused.
-use Rattle.std.specs.Prelude.{ℕ, ◌+◌, ◌*◌, ◌/◌, List, [], ◌∷◌, ◌++◌, Bool, true, false, cond, Option, Some, None, is_some, is_none, unwrap_or, map, length, slice_index, slice_index_or, slice_set, nat_lt, nat_le}
+use Rattle.std.specs.Prelude.{ℕ, ◌+◌, ◌*◌, ◌/◌, List, [], ◌∷◌, ◌++◌, Bool, cond, Option, Some, None, unwrap_or, map, length, slice_index, slice_index_or, slice_set, nat_le}
 use Rattle.lst_model.specs.declared.acts.Act.{Act}
-use Rattle.lst_model.specs.declared.acts.Act.TheVariants.{Put, Set, Del}
 use Rattle.lst_model.specs.declared.replies.Reply.{Reply}
 use Rattle.lst_model.specs.declared.replies.Reply.TheVariants.{Done, Refused}
 use Rattle.lst_model.specs.declared.replies.Cause.{Cause}
-use Rattle.lst_model.specs.declared.replies.Cause.TheVariants.{Active, Spent, Exists, Missing, TableFull, TailFull}
+use Rattle.lst_model.specs.declared.replies.Cause.TheVariants.{Active, Spent, TableFull, TailFull}
 use Rattle.lst_model.specs.Cells.{Cell}
 use Rattle.lst_model.specs.Histories.{row_after}
 use Rattle.lst_machine.specs.Calls.{first_of, where_true, refused_or}
-use Rattle.lst_plain.specs.declared.session.Transaction.{Transaction}
+use Rattle.lst_machine.specs.Changes.{misfit}
+use Rattle.lst_machine.specs.declared.answers.Transaction.{Transaction}
 use Rattle.lst_plain.specs.Rows.{Kept, fresh, row_seen, conflict_in, with_pending, settled, is_held}
 use Rattle.lst_plain.specs.Sessions.{SessionState, noted_places}
 use Rattle.lst_plain.specs.Engines.{EngineState, session_of, is_open}
@@ -30,12 +30,6 @@ with_record engine key = record engine { records = engine.records ++ fresh key �
 
 abbrev pub kept_at : EngineState → ℕ → Kept
 kept_at engine place = slice_index_or engine.records place (fresh 0)
-
--- an act that the row of its key does not fit
-abbrev pub misfit : Option (List Cell) → Act → Option Cause
-misfit row (Put cells) = where_true (is_some row) Exists
-misfit row (Set patch) = where_true (is_none row) Missing
-misfit row Del = where_true (is_none row) Missing
 
 -- what is asked of a write to the record at a place, by a session's transaction with this begin
 abbrev pub refusal_of_write : EngineState → ℕ → ℕ → ℕ → Act → Option Cause

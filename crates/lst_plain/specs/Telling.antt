@@ -1,16 +1,13 @@
 -- When an engine tells a state of the machine of one thread.
-use Rattle.std.specs.Prelude.{◌≡◌, ◌≢◌, ℕ, zero, ◌/◌, ◌<◌, ◌≤◌, List, [], ◌∷◌, Bool, true, false, cond, not, ◌&&◌, ◌||◌, Option, Some, None, is_some, length, slice_index, slice_index_or, MatchOption, ◌==◌}
-use Rattle.std.specs.List.{Contains}
+use Rattle.std.specs.Prelude.{◌≡◌, ◌≢◌, ℕ, ◌/◌, ◌<◌, ◌≤◌, List, [], ◌∷◌, Bool, true, false, cond, not, ◌&&◌, ◌||◌, Option, Some, None, is_some, length, slice_index, MatchOption, ◌==◌}
 use Rattle.std.specs.List.Sorted.{IsNonDecreasingBy}
 use Rattle.lst_layout.specs.declared.limits.Limits.{Limits}
 use Rattle.lst_model.specs.declared.acts.Act.{Act}
-use Rattle.lst_model.specs.declared.commits.Commit.{Commit}
-use Rattle.lst_model.specs.Cells.{Cell}
 use Rattle.lst_model.specs.Tables.{row_of}
 use Rattle.lst_model.specs.Histories.{table_at, row_from}
 use Rattle.lst_machine.specs.State.{Accepted, Opened, Store}
 use Rattle.lst_machine.specs.Writes.{place_of, range_of, time_of, last_where, rival_of}
-use Rattle.lst_plain.specs.declared.session.Transaction.{Transaction}
+use Rattle.lst_machine.specs.Transactions.{opened_as}
 use Rattle.lst_plain.specs.declared.versions.Version.{Version}
 use Rattle.lst_plain.specs.declared.versions.Pending.{Pending}
 use Rattle.lst_plain.specs.Rows.{Kept, keys_of, kept_of, row_at, newest, is_held}
@@ -87,10 +84,6 @@ pub record KeyTells (kept : Kept) (store : Store) (key : ℕ) : Type 0 where
   pub others : (session : ℕ) → is_some (store.opened session) ≡ true → is_held kept.pending session ≡ false → own_acts store session key ≡ []
   pub pending : (pending : Pending) → kept.pending ≡ Some pending → IsPending store key kept.versions pending
   pub last : MatchOption (last_settled store key kept.pending) (newest kept.versions ≡ 0) (λ write. time_of store.history write.session write.number ≡ Some (newest kept.versions))
-
-abbrev pub opened_as : Option Transaction → Option Opened
-opened_as None = None
-opened_as (Some transaction) = Some (record { begin = transaction.begin; read_only = transaction.read_only })
 
 -- a session's number and open transaction
 pub record SessionTells (state : SessionState) (store : Store) (session : ℕ) : Type 0 where

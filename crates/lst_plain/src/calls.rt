@@ -9,26 +9,18 @@ ghost use Rattle.lst_plain.specs.Rows.{Kept, newest, is_held, settled};
 ghost use Rattle.lst_plain.specs.Engines.{session_of, is_open};
 ghost use Rattle.lst_plain.specs.Steps.{refusal_of_begin, with_transaction, with_end};
 ghost use Rattle.lst_plain.specs.Telling.{StoreTells};
-ghost use Rattle.lst_plain.specs.Plains.{engine_of, IsPlainCall, AnswersCall};
+ghost use Rattle.lst_plain.specs.EngineOf.{engine_of, AnswersCall};
 
-use crate::engine::Plain;
+use crate::engine::Engine;
 use crate::records::Records;
-use crate::session::Transaction;
+use lst_machine::{Transaction, refused};
 use lst_model::{Act, Call, Cause, Key, OutOfMemory, Reply, Time};
 
-/// A refusal for this cause.
-pub(crate) fn refused(cause: Cause) -> Reply
-    ensures { result ≡ Reply.Refused cause }
-{
-    Reply::Refused { cause }
-}
-
-impl Plain {
+impl Engine {
     /// The answer to a session's call.
     pub(crate) fn call(&mut self, session: u32, call: &Call) -> Result<Reply, OutOfMemory>
         requires within { session < self.old.limits.sessions }
         requires fits { CallFits self.old.limits.columns call.now }
-        requires plain { IsPlainCall call.now }
         ensures limits { self.new.limits ≡ self.old.limits }
         ensures ok { IfOk result (λ reply. AnswersCall self.old self.new session call.now reply) }
         ensures err { OnErr result (engine_of self.new ≡ engine_of self.old) }
@@ -42,7 +34,9 @@ impl Plain {
             Call::Delete { key } => self.change(session, *key, &Act::Del),
             Call::Commit => Ok(self.commit(session)),
             Call::Abort => Ok(self.abort(session)),
-            _ => unreachable!(),
+            Call::Sum { .. } | Call::Count | Call::Scan | Call::Find { .. } => {
+                self.scan(session, call)
+            }
         }
     }
 

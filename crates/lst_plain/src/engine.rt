@@ -1,15 +1,15 @@
-//! The engine and its lines.
+//! The store part of the engine.
 ghost use Rattle.lst_plain.specs.Engines.{IsWhole};
 
 use crate::records::Records;
 use crate::session::Session;
 use lst_layout::{Layout, Limits};
-use lst_model::{Line, OutOfMemory, Reply, Time};
+use lst_model::{OutOfMemory, Time};
 use std::alloc::Global;
 
-/// An engine on one thread that keeps the rows of each key as a list of versions.
+/// What answers the calls of sessions: the rows of each key as a list of versions.
 #[derive(Drop)]
-pub struct Plain {
+pub(crate) struct Engine {
     /// The limits of its store.
     pub(crate) limits: Limits,
     /// The number of commits.
@@ -21,44 +21,27 @@ pub struct Plain {
     ghost whole: { IsWhole (record { limits = limits; clock = clock; sessions = sessions.items; records = records; accepted = accepted.items }) },
 }
 
-impl Plain {
-    ghost use Rattle.std.specs.Prelude.{◌≡◌, IfOk, OnErr};
-    ghost use Rattle.lst_layout.specs.declared.limits.Limits.{Limits};
-    ghost use Rattle.lst_model.specs.Lines.{LineFits};
-    ghost use Rattle.lst_machine.specs.State.{State, opening};
-    ghost use Rattle.lst_plain.specs.Plains.{limits_of, Tells, IsPlainLine, AnswersLine};
+impl Engine {
+    ghost use Rattle.std.specs.Prelude.{◌≡◌, IfOk};
+    ghost use Rattle.lst_machine.specs.State.{opening_store};
+    ghost use Rattle.lst_plain.specs.Telling.{StoreTells};
+    ghost use Rattle.lst_plain.specs.EngineOf.{engine_of};
 
     /// An engine for stores of this layout, without commits, keys or open transactions.
-    pub fn new(alloc: Global, layout: &Layout) -> Result<Plain, OutOfMemory>
-        ensures limits { IfOk result (λ plain. limits_of plain ≡ layout.now.limits) }
-        ensures opening { IfOk result (λ plain. Tells plain layout.now.limits opening) }
+    pub fn new(alloc: Global, layout: &Layout) -> Result<Engine, OutOfMemory>
+        ensures limits { IfOk result (λ engine. engine.limits ≡ layout.now.limits) }
+        ensures opening { IfOk result (λ engine. StoreTells (engine_of engine) layout.now.limits opening_store) }
     {
         let limits = layout.limits;
         let sessions = new_sessions(alloc, limits.sessions)?;
         let accepted = vec![in alloc; 0; limits.ranges as usize]?;
-        Ok(Plain {
+        Ok(Engine {
             limits,
             clock: 0,
             sessions,
             records: Records::new(alloc),
             accepted,
         })
-    }
-
-    /// The answer to a line, which is the machine's for each state of it that the engine told; the engine then tells the
-    /// next one. It takes no scans and no merges. For want of memory it tells what it told before.
-    pub fn line(&mut self, line: &Line) -> Result<Reply, OutOfMemory>
-        requires fits { LineFits self.old.limits.sessions self.old.limits.ranges self.old.limits.columns line.now }
-        requires plain { IsPlainLine line.now }
-        ensures limits { limits_of self.new ≡ limits_of self.old }
-        ensures ok { IfOk result (λ reply. AnswersLine self.old self.new line.now reply) }
-        ensures err { OnErr result ((limits : Limits) (state : State) → Tells self.old limits state → Tells self.new limits state) }
-    {
-        match line {
-            Line::Phase => Ok(Reply::Silent),
-            Line::Call { session, call } => self.call(*session, call),
-            Line::Merge { .. } => unreachable!(),
-        }
     }
 }
 
@@ -74,4 +57,11 @@ fn new_sessions(alloc: Global, count: u32) -> Result<Vec<Session>, OutOfMemory>
         sessions.push(Session::new(alloc))?;
     }
     Ok(sessions)
+}
+
+/// The last tail of a range: its number is how many writes the range has accepted.
+#[derive(Clone, Copy)]
+pub(crate) struct Tail {
+    pub range: usize,
+    pub number: u32,
 }

@@ -1,11 +1,14 @@
 //! The records of the keys.
-ghost use Rattle.std.specs.Prelude.{◌≡◌, ℕ, List, ◌+◌, ◌<◌, ◌≤◌, [], ◌∷◌, ◌++◌, length, OnOk, OnErr, Some, None, slice_index_or, slice_set};
+ghost use Rattle.std.specs.Prelude.{◌≡◌, ℕ, List, ◌+◌, ◌<◌, ◌≤◌, [], ◌∷◌, ◌++◌, length, IfOk, OnOk, OnErr, Some, None, slice_index_or, slice_set};
+ghost use Rattle.lst_model.specs.Tables.{Rows, row_of, scan_of};
 ghost use Rattle.lst_machine.specs.Writes.{place_of};
-ghost use Rattle.lst_plain.specs.Rows.{Kept, fresh, newest, keys_of, with_pending, settled};
+ghost use Rattle.lst_plain.specs.Rows.{Kept, fresh, newest, keys_of, kept_of, row_seen, with_pending, settled};
+ghost use Rattle.lst_plain.specs.Places.{IsIndexed};
 
 use crate::record::Record;
 use crate::versions::Pending;
-use lst_model::{Key, OutOfMemory, Time};
+use lst_machine::list_row;
+use lst_model::{Key, OutOfMemory, Row, RowList, Time};
 use std::alloc::Global;
 use std::collections::BTreeMap;
 use std::marker::Model;
@@ -44,6 +47,11 @@ impl Records {
         }
     }
 
+    /// The allocator.
+    pub(crate) fn alloc(&self) -> Global {
+        self.alloc
+    }
+
     /// The number of records.
     pub fn len(&self) -> usize
         ensures { result ≡ length self.now }
@@ -64,6 +72,19 @@ impl Records {
         ensures { result.now ≡ slice_index_or self.now place result.now }
     {
         &self.items[place]
+    }
+
+    /// The rows that a session's open transaction sees that began at this time, by rising key.
+    pub fn rows(&self, session: u32, begin: Time) -> Result<RowList, OutOfMemory>
+        ensures { IfOk result (λ rows. (table : Rows) → ((key : ℕ) → row_of table key ≡ row_seen (kept_of self.now key) session begin) → rows ≡ scan_of table) }
+    {
+        rows_in(
+            self.alloc,
+            &self.places,
+            self.items.as_slice(),
+            session,
+            begin,
+        )
     }
 
     /// Adds the record of a key that has none. For want of memory the records stay as they are.
@@ -107,5 +128,40 @@ impl Records {
         ensures { self.new ≡ slice_set self.old place (settled time session (slice_index_or self.old place (fresh 0))) }
     {
         self.items[place].settle(session, time);
+    }
+}
+
+/// The rows of all keys that a session's open transaction sees that began at this time, by rising key.
+fn rows_in(
+    alloc: Global,
+    places: &BTreeMap<Key, usize>,
+    records: &[Record],
+    session: u32,
+    begin: Time,
+) -> Result<RowList, OutOfMemory>
+    requires { IsIndexed places.now records.now }
+    ensures { IfOk result (λ rows. (table : Rows) → ((key : ℕ) → row_of table key ≡ row_seen (kept_of records.now key) session begin) → rows ≡ scan_of table) }
+{
+    let mut rows = RowList::new(alloc);
+    for key in places.keys() {
+        let row = row_in(places, records, *key, session, begin);
+        list_row(&mut rows, *key, row)?;
+    }
+    Ok(rows)
+}
+
+fn row_in(
+    places: &BTreeMap<Key, usize>,
+    records: &[Record],
+    key: Key,
+    session: u32,
+    begin: Time,
+) -> Option<Row>
+    requires { IsIndexed places.now records.now }
+    ensures { result ≡ row_seen (kept_of records.now key) session begin }
+{
+    match places.get(&key) {
+        Some(place) => records[*place].row(session, begin),
+        None => None,
     }
 }

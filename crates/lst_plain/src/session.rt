@@ -2,16 +2,10 @@
 ghost use Rattle.std.specs.Prelude.{◌≡◌, ◌+◌, ◌<◌, ◌^◌, [], false, OnOk, OnErr, Some, None};
 ghost use Rattle.lst_plain.specs.Sessions.{new_session, noted_places};
 
-use lst_model::{OutOfMemory, Time};
+use lst_machine::Transaction;
+use lst_model::OutOfMemory;
 use std::alloc::Global;
 use std::marker::Model;
-
-/// An open transaction.
-#[derive(Clone, Copy)]
-pub(crate) struct Transaction {
-    pub begin: Time,
-    pub read_only: bool,
-}
 
 /// How many transactions a session has begun, the open one, and the places of the records that have a row that it
 /// made.

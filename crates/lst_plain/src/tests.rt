@@ -1,12 +1,13 @@
 //! Worked scripts: each line with its reply.
 ghost use Rattle.std.specs.Prelude.{◌<◌, IsTrue};
 ghost use Rattle.lst_model.specs.Lines.{CallFits};
-ghost use Rattle.lst_plain.specs.Plains.{IsPlainCall};
 
 use crate::Plain;
 use arrayvec::ArrayVec;
 use lst_layout::Limits;
-use lst_model::{Act, Call, Cause, Key, Line, Patch, Reply, Row, Table, Write, apply};
+use lst_model::{
+    Act, Call, Cause, Key, KeyList, Line, Patch, Reply, Row, RowList, Table, Write, apply,
+};
 use std::alloc::Global;
 use std::process::Abort;
 use std::test::Fail;
@@ -79,9 +80,29 @@ fn refused(cause: Cause) -> Reply {
     Reply::Refused { cause }
 }
 
-/// Whether the engine takes a session's call.
+fn sum(total: u128) -> Reply {
+    Reply::Sum { total }
+}
+
+fn rows(alloc: Global, entries: &[(Key, u64, u64)]) -> Result<Reply, Fail> {
+    let mut list = RowList::new(alloc);
+    for (key, first, second) in entries {
+        list.push(*key, row(*first, *second))?;
+    }
+    Ok(Reply::Rows { list })
+}
+
+fn keys(alloc: Global, found: &[Key]) -> Result<Reply, Fail> {
+    let mut list = KeyList::new(alloc);
+    for key in found {
+        list.push(*key)?;
+    }
+    Ok(Reply::Keys { list })
+}
+
+/// Whether a call is of one of the sessions, and of the columns.
 fn fits(limits: &Limits, session: u32, call: &Call) -> bool
-    ensures { IsTrue result → (session < limits.now.sessions) × CallFits limits.now.columns call.now × IsPlainCall call.now }
+    ensures { IsTrue result → (session < limits.now.sessions) × CallFits limits.now.columns call.now }
 {
     if session >= limits.sessions {
         return false;
@@ -90,7 +111,7 @@ fn fits(limits: &Limits, session: u32, call: &Call) -> bool
     match call {
         Call::Insert { row, .. } => row.len() == columns,
         Call::Update { patch, .. } => patch.len() == columns && patch.sets_some(),
-        Call::Sum { .. } | Call::Count | Call::Scan | Call::Find { .. } => false,
+        Call::Sum { column } | Call::Find { column, .. } => *column < limits.columns,
         _ => true,
     }
 }
@@ -110,8 +131,23 @@ fn answers(
     call: Call,
     wanted: Reply,
 ) -> Result<(), Fail> {
-    assert!(rt; fits(&plain.limits, session, &call));
+    assert!(rt; fits(&plain.engine.limits, session, &call));
     let reply = plain.line(&Line::Call { session, call })?;
+    assert_eq!(rt; reply, wanted);
+    Ok(())
+}
+
+/// A merge, and its reply compared.
+fn merges(
+    rt: &impl Abort,
+    plain: &mut Plain,
+    range: u32,
+    column: u32,
+    wanted: Reply,
+) -> Result<(), Fail> {
+    let limits = plain.engine.limits;
+    assert!(rt; range < limits.ranges && column < limits.columns);
+    let reply = plain.line(&Line::Merge { range, column })?;
     assert_eq!(rt; reply, wanted);
     Ok(())
 }
@@ -401,4 +437,88 @@ fn the_rows_are_those_of_a_table_that_the_writes_were_applied_to(
     assert_eq!(rt; table.row(7), Some(row(11, 20)));
     answers(&rt, &mut plain, 1, Call::Begin, begun(2))?;
     answers(&rt, &mut plain, 1, get(7), found(11, 20))
+}
+
+#[test]
+fn all_rows_are_summed_counted_scanned_and_found(rt: HostRuntime) -> Result<(), Fail> {
+    let alloc = rt.alloc();
+    let limits = Limits {
+        indexed: 2,
+        ..Limits::default()
+    };
+    let most = u64::MAX;
+    run(
+        &rt,
+        alloc,
+        limits,
+        [
+            (0, Call::Count, refused(Cause::Idle)),
+            (0, Call::Begin, begun(0)),
+            (0, Call::Scan, rows(alloc, &[])?),
+            (0, insert(9, most, 20), Reply::Done),
+            (0, insert(7, most, 20), Reply::Done),
+            (0, insert(8, 1, 20), Reply::Done),
+            (0, Call::Delete { key: 8 }, Reply::Done),
+            (0, Call::Scan, rows(alloc, &[(7, most, 20), (9, most, 20)])?),
+            (0, Call::Sum { column: 0 }, sum(36893488147419103230)),
+            (0, Call::Count, Reply::Count { rows: 2 }),
+            (
+                0,
+                Call::Find {
+                    column: 1,
+                    value: 20,
+                },
+                keys(alloc, &[7, 9])?,
+            ),
+            (
+                0,
+                Call::Find {
+                    column: 0,
+                    value: 1,
+                },
+                refused(Cause::NotIndexed),
+            ),
+            (1, Call::Begin, begun(0)),
+            (1, Call::Sum { column: 0 }, sum(0)),
+        ],
+    )
+}
+
+#[test]
+fn a_merge_stops_at_an_open_write(rt: HostRuntime) -> Result<(), Fail> {
+    let mut plain = opened(rt.alloc(), Limits::default())?;
+    for session in 0..3 {
+        answers(&rt, &mut plain, session, Call::Begin, begun(0))?;
+    }
+    for session in 0..3 {
+        let key = u64::from(session);
+        answers(&rt, &mut plain, session, insert(key, 1, 1), Reply::Done)?;
+    }
+    answers(&rt, &mut plain, 0, Call::Commit, committed(1))?;
+    answers(&rt, &mut plain, 2, Call::Commit, committed(2))?;
+    merges(&rt, &mut plain, 0, 0, Reply::Merged { tps: 1 })?;
+    answers(&rt, &mut plain, 1, Call::Abort, Reply::Aborted)?;
+    merges(&rt, &mut plain, 0, 0, Reply::Merged { tps: 3 })?;
+    merges(&rt, &mut plain, 0, 0, Reply::NothingNew { tps: 3 })?;
+    merges(&rt, &mut plain, 1, 0, Reply::NothingNew { tps: 0 })
+}
+
+#[test]
+fn a_merge_waits_for_the_lowest_session_that_began_before(rt: HostRuntime) -> Result<(), Fail> {
+    let limits = Limits {
+        spare: 1,
+        ..Limits::default()
+    };
+    let mut plain = opened(rt.alloc(), limits)?;
+    answers(&rt, &mut plain, 0, Call::Begin, begun(0))?;
+    answers(&rt, &mut plain, 0, insert(7, 10, 20), Reply::Done)?;
+    answers(&rt, &mut plain, 0, Call::Commit, committed(1))?;
+    answers(&rt, &mut plain, 1, Call::Begin, begun(1))?;
+    answers(&rt, &mut plain, 2, Call::Begin, begun(1))?;
+    merges(&rt, &mut plain, 0, 0, Reply::Merged { tps: 1 })?;
+    merges(&rt, &mut plain, 0, 1, Reply::NoFrame { session: 1 })?;
+    answers(&rt, &mut plain, 1, Call::Commit, ended(1))?;
+    merges(&rt, &mut plain, 0, 1, Reply::NoFrame { session: 2 })?;
+    answers(&rt, &mut plain, 2, Call::Abort, Reply::Aborted)?;
+    merges(&rt, &mut plain, 0, 1, Reply::Merged { tps: 1 })
 }

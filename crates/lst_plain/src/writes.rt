@@ -1,38 +1,19 @@
 //! Inserts, updates and deletes.
 ghost use Rattle.std.specs.Prelude.{◌≡◌, ℕ, ◌+◌, ◌*◌, ◌/◌, ◌<◌, ◌≤◌, IfOk, OnOk, OnErr, Some, None, Option, slice_index, length};
 ghost use Rattle.lst_machine.specs.Writes.{place_of};
+ghost use Rattle.lst_machine.specs.Changes.{IsChange};
 ghost use Rattle.lst_plain.specs.Rows.{keys_of, conflict_in};
 ghost use Rattle.lst_plain.specs.Engines.{session_of, is_open};
-ghost use Rattle.lst_plain.specs.Steps.{misfit, refusal_of_write, with_write, kept_at, reply_to_write, after_write, reply_to_first, after_first};
-ghost use Rattle.lst_plain.specs.Plains.{engine_of, IsChange, AnswersCall, AnswersChange};
+ghost use Rattle.lst_plain.specs.Steps.{refusal_of_write, with_write, kept_at, reply_to_write, after_write, reply_to_first, after_first};
+ghost use Rattle.lst_plain.specs.EngineOf.{engine_of, AnswersCall, AnswersChange};
 
-use crate::calls::refused;
-use crate::engine::Plain;
+use crate::engine::Engine;
 use crate::versions::{Pending, row_changed};
 use lst_layout::RANGE_RECORDS;
+use lst_machine::{refused, row_misfit};
 use lst_model::{Act, Call, Cause, Key, OutOfMemory, Reply, Row, Time};
 
-/// Why an act does not fit a row, or None.
-fn row_misfit(row: &Option<Row>, act: &Act) -> Option<Cause>
-    ensures { result ≡ misfit row.now act.now }
-{
-    match act {
-        Act::Put(_) => {
-            if row.is_some() {
-                return Some(Cause::Exists);
-            }
-            None
-        }
-        Act::Set(_) | Act::Del => {
-            if row.is_none() {
-                return Some(Cause::Missing);
-            }
-            None
-        }
-    }
-}
-
-impl Plain {
+impl Engine {
     /// Inserts the row of a key.
     pub(crate) fn insert(&mut self, session: u32, key: Key, row: &Row) -> Result<Reply, OutOfMemory>
         requires { session < self.old.limits.sessions }

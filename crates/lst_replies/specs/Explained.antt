@@ -14,7 +14,8 @@ use Rattle.lst_model.specs.declared.replies.Cause.{Cause}
 use Rattle.lst_model.specs.declared.replies.Cause.TheVariants.{Idle, Active, ReadOnly, Spent, Future, Missing, Exists, TableFull, Latched, Newer, Unfinished, TailFull, NotIndexed}
 use Rattle.lst_model.specs.Tables.{Rows, row_of, sum_of, count_of, scan_of, find_of}
 use Rattle.lst_model.specs.Soundness.{Fits}
-use Rattle.lst_machine.specs.Calls.{first_of, where_true, is_indexed}
+use Rattle.lst_machine.specs.Calls.{first_of, where_true}
+use Rattle.lst_machine.specs.Scans.{lacks_index}
 use Rattle.lst_replies.specs.declared.states.Transaction.{Transaction}
 use Rattle.lst_replies.specs.declared.states.SessionState.{SessionState}
 use Rattle.lst_replies.specs.Runs.{Answered, answered, names, write_of, key_of, is_by, is_begun, is_merged, is_accepted, is_accepted_on, may_take_record, may_take_latch}
@@ -60,11 +61,6 @@ TellsSight sight call reply = Unit {0}
 abbrev pub is_not_indexed_reply : Reply → Bool
 is_not_indexed_reply (Refused NotIndexed) = true
 is_not_indexed_reply reply = false
-
--- a find on a column without an index
-abbrev pub lacks_index : Limits → CallKind → Bool
-lacks_index limits (Find column value) = not (is_indexed limits column)
-lacks_index limits call = false
 
 -- NotIndexed is answered exactly where a transaction is open and the find's column has no index
 pub record ReadIsAnswered (limits : Limits) (history : List Commit) (current : Option Transaction) (call : CallKind) (reply : Reply) : Type 0 where

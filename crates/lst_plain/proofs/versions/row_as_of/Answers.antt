@@ -1,4 +1,4 @@
-use Rattle.std.proofs.Common.{◌≡◌, ℕ, ◌-◌, ◌<◌, ◌≤◌, length, leb, sym, ◌∙◌, arith, rules}
+use Rattle.std.proofs.Common.{◌-◌, leb, sym, ◌∙◌, arith, rules}
 use Rattle.std.proofs.lemmas.List.Sorted.{IsPartitionPoint-from_clause, IsPartitionedBy-leb}
 use Rattle.std.specs.Prelude.{None}
 use Rattle.lst_plain.specs.declared.versions.Version.{Version}

@@ -3,7 +3,7 @@ use Rattle.std.specs.Prelude.{Some, Result, Ok, Err, OnOk, is_err}
 use Rattle.std.specs.Ordering.{nat_cmp}
 use Rattle.std.specs.BTreeMap.{is_at}
 use Rattle.lst_machine.specs.Writes.{place_of}
-use Rattle.lst_plain.specs.Rows.{keys_of, fresh}
+use Rattle.lst_plain.specs.Rows.{keys_of}
 use Rattle.lst_plain.proofs.Placing.{indexed}
 use Rattle.lst_plain.proofs.records.Records.add.Goals as goal
 

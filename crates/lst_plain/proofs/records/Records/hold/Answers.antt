@@ -1,4 +1,4 @@
-use Rattle.std.proofs.Common.{◌≡◌, ap, ◌∙◌, sym}
+use Rattle.std.proofs.Common.{ap, ◌∙◌, sym}
 use Rattle.lst_machine.specs.Writes.{place_of}
 use Rattle.lst_plain.specs.Rows.{Kept}
 use Rattle.lst_plain.proofs.Placing.{keys-set}

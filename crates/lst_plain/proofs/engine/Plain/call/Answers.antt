@@ -1,7 +1,0 @@
-use Rattle.std.proofs.Common.{sym, subst}
-use Rattle.lst_model.specs.declared.lines.Call.{Call}
-use Rattle.lst_plain.specs.Plains.{AnswersCall}
-use Rattle.lst_plain.proofs.engine.Plain.call.Goals as goal
-
-pub returns-in-Abort-clause-ok : goal.returns-in-Abort-clause-ok
-returns-in-Abort-clause-ok c = subst (λ (call : Call). AnswersCall c.args.self.now c.abort.new.self c.args.session call c.abort.result) (sym c.in-Abort.is) c.abort.ensures.answers
