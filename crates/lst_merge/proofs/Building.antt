@@ -41,21 +41,26 @@ use Rattle.lst_rule.proofs.Learning.{kept_on}
 use Rattle.lst_rule.proofs.Paging.{stock_is, directory_is, pages_known, pages_safe}
 use Rattle.lst_merge.specs.Inspections.{merger_of, Inspects}
 use Rattle.lst_merge.specs.Runs.{tps_known, KnowsSettled, AreSettled}
-use Rattle.lst_merge.specs.Pages.{entry_at, AreEntriesIn, AreKnown, FoldsRun}
+use Rattle.lst_merge.specs.Pages.{AreEntriesIn, AreAbsentZero, AreKnown, FoldsRun}
 use Rattle.lst_merge.specs.Builds.{IsFree, frames_stored, StoresFrame, MayReplace, Builds}
 use Rattle.lst_merge.proofs.Ending.{inspects_join, inspects_host, stock_inspected}
 use Rattle.lst_merge.proofs.Folding.{told_drop, told_same}
 use Rattle.lst_merge.proofs.Inspecting.{inspects_still}
 use Rattle.lst_merge.proofs.Settling.{settles_as, settled_more}
-use Rattle.lst_merge.proofs.Storing.{stored_directory, stored_built, stored_words, stored_others}
+use Rattle.lst_merge.proofs.Storing.{stored_retired, stored_waiting, stored_held, stored_directory, stored_built, stored_words, stored_others}
 
 -- ---- entries of a page that is known
 
 -- the words of a frame alone tell its entries
-pub entries_same : (words others : ℕ → ℕ) (es : List Entry) → ((n : ℕ) → n < FRAME_WORDS → others n ≡ words n) → AreEntriesIn others es → AreEntriesIn words es
+pub entries_same : (words others : ℕ → ℕ) (es : ℕ → Entry) → ((n : ℕ) → n < FRAME_WORDS → others n ≡ words n) → AreEntriesIn others es → AreEntriesIn words es
 entries_same words others es same are values packed i low = let stamp = same (time_place i) (omega arith) in let nulls = same (null_place i) (omega arith) in
     are values (subst (λ (ws : List ℕ). Packs ws values) (sym (listed-same words others FRAME_VALUES (RANGE_RECORDS + 1) (λ n above below. same n (omega arith)))) packed) i low
     ∙ (λ k. record { cell = cond (is_present (stamp k)) (Some (cell_of (nulls k) (null_bit i) (slice_index values i))) None; time = time_of (stamp k) })
+
+-- and whether the values of absent ones are 0
+absent_same : (words others : ℕ → ℕ) → ((n : ℕ) → n < FRAME_WORDS → others n ≡ words n) → AreAbsentZero others → AreAbsentZero words
+absent_same words others same zero values packed i low absent =
+    zero values (subst (λ (ws : List ℕ). Packs ws values) (sym (listed-same words others FRAME_VALUES (RANGE_RECORDS + 1) (λ n above below. same n (omega arith)))) packed) i low (ap is_present (same (time_place i) (omega arith)) ∙ absent)
 
 module _ (v : View) (p : Possible v) (hosted : hosts v v.limits.sessions ≡ true) (r c : ℕ) (page : IsPage v.limits r c) where
   abbrev m : MergerFrames
@@ -66,9 +71,13 @@ module _ (v : View) (p : Possible v) (hosted : hosts v v.limits.sessions ≡ tru
   known_right words known merger may = subst (λ (q : MergerFrames). IsRightPage c (settled_tails v.limits (shown v.limits words) r) (frame_known q (page_known q r c))) (sym (stock_is v words known merger may hosted))
       ((pages_known v words known merger may).old r c page).0
 
-  -- so its values are packed
+  -- and so are words that are the same
+  pub known_says : (words : ℕ → ℕ) → ((n : ℕ) → n < FRAME_WORDS → words n ≡ frame_known (stock_of v) (page_known (stock_of v) r c) n) → IsRightPage c (settled_tails v.limits (shown v.limits p.words) r) words
+  known_says words same = right_same c (settled_tails v.limits (shown v.limits p.words) r) (frame_known m (page_known m r c)) words same (known_right p.words p.known p.merger p.allowed)
+
+  -- so their values are packed
   pub known_packed : (words : ℕ → ℕ) → ((n : ℕ) → n < FRAME_WORDS → words n ≡ frame_known (stock_of v) (page_known (stock_of v) r c) n) → IsPacked (packed_in words)
-  known_packed words same = let right = right_same c (settled_tails v.limits (shown v.limits p.words) r) (frame_known m (page_known m r c)) words same (known_right p.words p.known p.merger p.allowed) in (right.entries.values, right.entries.packed)
+  known_packed words same = let right = known_says words same in (right.entries.values, right.entries.packed)
 
   -- no page has a free frame
   pub free_apart : (f : ℕ) → IsFree v f → page_known (stock_of v) r c ≢ f
@@ -114,13 +123,10 @@ known_on : (l : Limits) (u v : Known) (r n : ℕ) (ts : List PageTail) → ((t :
 known_on l u v r n [] f a = tt
 known_on l u v r n (t ∷ ts) f a = (f (r * l.tails + suc n) t a.0, known_on l u v r (suc n) ts f a.1)
 
-module _ (v a b w : View) (r c f tps end : ℕ) (es fs : List Entry) (page : ℕ → ℕ) (hosted : hosts v v.limits.sessions ≡ true) (is : IsPage v.limits r c) (p : Possible v) (free : IsFree v f)
+module _ (v a b w : View) (r c f tps end : ℕ) (es fs : ℕ → Entry) (page : ℕ → ℕ) (hosted : hosts v v.limits.sessions ≡ true) (is : IsPage v.limits r c) (p : Possible v) (free : IsFree v f)
     (still : StockIs v a (stock_of v)) (kept : Kept v a) (entries : AreEntriesIn (frame_known (stock_of v) (page_known (stock_of v) r c)) es)
     (inspects : Inspects a b a.limits.sessions) (run : FoldsRun a.limits (merger_of b) r c tps end es fs) (stores : StoresFrame b w f FRAME_WORDS page)
-    (lineage : tps_in page ≡ end) (has : HasEntries page (entry_at fs)) (at : tps ≡ tps_known (stock_of v) r c) (few : end ≤ v.limits.tails) where
-  abbrev g : ℕ
-  g = page_known (stock_of v) r c
-
+    (lineage : tps_in page ≡ end) (has : HasEntries page fs) (absent : AreAbsentZero page) (at : tps ≡ tps_known (stock_of v) r c) (few : end ≤ v.limits.tails) where
   abbrev old : ℕ → ℕ
   old = frame_known (stock_of v) (page_known (stock_of v) r c)
 
@@ -145,11 +151,15 @@ module _ (v a b w : View) (r c f tps end : ℕ) (es fs : List Entry) (page : ℕ
   new_words : (n : ℕ) → n < FRAME_WORDS → frame_known (stock_of w) f n ≡ page n
   new_words n short = ap (λ (m : MergerFrames). frame_known m f n) stock_stored ∙ stored_words (stock_of v) f page there wide FRAME_WORDS (omega arith) n short
 
-  same_page : page_known (stock_of w) r c ≡ page_known (stock_of v) r c
-  same_page = ap (λ (m : MergerFrames). page_known m r c) stock_stored ∙ ap (λ (rows : List (List ℕ)). slice_index_or (slice_index_or rows r []) c 0) (stored_directory (stock_of v) f page FRAME_WORDS)
+  same_page : (q d : ℕ) → page_known (stock_of w) q d ≡ page_known (stock_of v) q d
+  same_page q d = ap (λ (m : MergerFrames). page_known m q d) stock_stored ∙ ap (λ (rows : List (List ℕ)). slice_index_or (slice_index_or rows q []) d 0) (stored_directory (stock_of v) f page FRAME_WORDS)
+
+  -- no page's frame is stored into
+  kept_words : (q d : ℕ) → IsPage v.limits q d → (n : ℕ) → frame_known (stock_of w) (page_known (stock_of w) q d) n ≡ frame_known (stock_of v) (page_known (stock_of v) q d) n
+  kept_words q d its n = (λ i. frame_known (stock_stored i) (same_page q d i) n) ∙ stored_others (stock_of v) f page there wide FRAME_WORDS (omega arith) (page_known (stock_of v) q d) n (free_apart v p hosted q d its f free)
 
   old_words : (n : ℕ) → frame_known (stock_of w) (page_known (stock_of w) r c) n ≡ frame_known (stock_of v) (page_known (stock_of v) r c) n
-  old_words n = (λ i. frame_known (stock_stored i) (same_page i) n) ∙ stored_others (stock_of v) f page there wide FRAME_WORDS (omega arith) g n (free_apart v p hosted r c is f free)
+  old_words n = kept_words r c is n
 
   limits_w : w.limits ≡ v.limits
   limits_w = stores.view.limits ∙ looked.view.limits
@@ -180,7 +190,7 @@ module _ (v a b w : View) (r c f tps end : ℕ) (es fs : List Entry) (page : ℕ
     right_page : IsRightPage c (settled_tails w.limits (shown w.limits words) r) page
     right_page = let values : List ℕ = right_old.entries.values in let long = run.long in let most = taken.0 in
         build_right c (length run.tails) ts old page values right_old right_old.entries.packed (omega arith) (omega arith)
-        (entries-told page (entry_at fs) (λ i. folded (touches c i) c (entry_in old (slice_index values i) i) (take (length run.tails) (drop (tps_in old) ts))) (λ i short. run.folds i short
+        (entries-told page fs (λ i. folded (touches c i) c (entry_in old (slice_index values i) i) (take (length run.tails) (drop (tps_in old) ts))) (λ i short. run.folds i short
         ∙ ((λ k. folded (touches c i) c (entries values right_old.entries.packed i short k) (sym taken.1 k)) ∙ ap (λ (n : ℕ). folded (touches c i) c (entry_in old (slice_index values i) i) (take (length run.tails) (drop n ts))) at)) has)
 
     pub right_built : IsRightPage c (settled_tails w.limits (shown w.limits words) r) (frame_known (stock_of w) f)
@@ -201,8 +211,13 @@ module _ (v a b w : View) (r c f tps end : ℕ) (es fs : List Entry) (page : ℕ
     inspects = looked;
     page = page;
     stores = stores;
-    is = record { built = built; tps = tps_built; right = right_built };
-    old = tps_old;
+    is = record { built = built; tps = tps_built; zero = absent_same (frame_known (stock_of w) f) page (λ n short. sym (new_words n short)) absent; right = right_built };
+    old = λ q d its. kept_words q d its 0;
+    spares = λ spares are. record {
+      retired = are.retired ∙ sym (ap (λ (m : MergerFrames). m.retired) stock_stored ∙ stored_retired (stock_of v) f page FRAME_WORDS);
+      idle = ap (λ (m : MergerFrames). m.waiting) stock_stored ∙ (stored_waiting (stock_of v) f page FRAME_WORDS ∙ are.idle);
+    };
+    held = ap (λ (m : MergerFrames). m.held) stock_stored ∙ stored_held (stock_of v) f page FRAME_WORDS;
   }
 
   pub ready : tps < end → MayReplace w r c f

@@ -1,8 +1,5 @@
 -- Tails folded into entries, one after another.
-use Rattle.std.proofs.Common.{◌≡◌, ℕ, zero, suc, ◌+◌, ◌*◌, ◌<◌, ◌≤◌, ◌^◌, List, [], ◌∷◌, ◌++◌, Bool, true, false, cond, refl, sym, subst, ap, ◌∙◌, arith, length, take, drop, Contains, nat_lt, ◌&&◌, lt-ltb, slice_set, get_or-set_same, get_or-set_other, length-append}
-use mathlib.Core.Logic.{dite}
-use native.Mathlib.Decide.{ℕ_discrete}
-use Rattle.lst_layout.specs.declared.TheConstants.{RANGE_RECORDS}
+use Rattle.std.proofs.Common.{◌≡◌, ℕ, zero, suc, ◌+◌, ◌*◌, ◌<◌, ◌≤◌, ◌^◌, List, [], ◌∷◌, ◌++◌, Bool, true, false, cond, refl, sym, subst, ap, ◌∙◌, arith, length, take, drop, Contains, nat_lt, ◌&&◌, lt-ltb, eqb, slice_index, length-append}
 use Rattle.lst_layout.specs.declared.limits.Limits.{Limits}
 use Rattle.lst_bits.specs.declared.encodings.Encoding.{Encoding}
 use Rattle.lst_bits.specs.Encodings.{encoding_of}
@@ -11,9 +8,9 @@ use Rattle.lst_core_state.specs.declared.known.Known.{Known}
 use Rattle.lst_pages.specs.declared.entries.Entry.{Entry}
 use Rattle.lst_pages.specs.declared.tails.PageTail.{PageTail}
 use Rattle.lst_pages.specs.Chains.{Told}
-use Rattle.lst_pages.specs.Entries.{blank, entry_by, cell_by}
+use Rattle.lst_pages.specs.Entries.{entry_by, cell_by}
 use Rattle.lst_pages.specs.Tails.{touches, touches_column}
-use Rattle.lst_pages.proofs.Folds.{folded-append, fold_put, fold_skip}
+use Rattle.lst_pages.proofs.Folds.{folded-append}
 use Rattle.lst_page_state.specs.Settled.{tail_by}
 use Rattle.lst_rule.specs.declared.store.Store.{Store}
 use Rattle.lst_rule.specs.declared.view.View.{View}
@@ -22,7 +19,7 @@ use Rattle.lst_rule.specs.Learned.{Possible}
 use Rattle.lst_rule.specs.Seats.{Sitting}
 use Rattle.lst_rule.specs.Stores.{IsSeatOf}
 use Rattle.lst_merge.specs.Inspections.{merger_of, Inspects}
-use Rattle.lst_merge.specs.Pages.{entry_at, HaveTimes, Folds, AreKnown, FoldsRun}
+use Rattle.lst_merge.specs.Pages.{entry_of, AreNumbers, IsWith, Folds, AreKnown, FoldsRun}
 use Rattle.lst_merge.specs.Runs.{KnowsSettled, HasSettled, SettledAt, IsEncodedAs, AreSettled}
 use Rattle.lst_merge.proofs.Inspecting.{inspects_same}
 use Rattle.lst_merge.proofs.Settling.{settled_more, settled_same}
@@ -30,20 +27,37 @@ use Rattle.lst_merge.proofs.Ending.{inspects_join, inspects_host, merger_has, me
 
 -- ---- one tail
 
+-- a tail touches a slot where it is taken, and is of that slot
+touches_is : (c i : ℕ) (t : PageTail) → touches c i t ≡ (eqb t.slot i && (nat_lt 0 t.time && touches_column c t.kind t.mask))
+touches_is c i t = turned (nat_lt 0 t.time) (eqb t.slot i) (touches_column c t.kind t.mask)
+  where
+    turned : (a b d : Bool) → (a && (b && d)) ≡ (b && (a && d))
+    turned true b d = refl
+    turned false true d = refl
+    turned false false d = refl
+
 -- a tail that isn't committed, or doesn't touch the column, leaves the entries
-pub folds_skip : (c : ℕ) (t : PageTail) (es : List Entry) → (nat_lt 0 t.time && touches_column c t.kind t.mask) ≡ false → Folds c t es es
-folds_skip c t es skips = fold_skip c 0 RANGE_RECORDS (entry_at es) es (t ∷ []) t (omega arith) refl skips (λ i low. refl)
+pub folds_skip : (c : ℕ) (t : PageTail) (es : ℕ → Entry) → (nat_lt 0 t.time && touches_column c t.kind t.mask) ≡ false → Folds c t es es
+folds_skip c t es skips i low = ap (λ (b : Bool). cond b (entry_by c t) (es i)) (sym (touches_is c i t ∙ (ap (λ (b : Bool). eqb t.slot i && b) skips ∙ and_false (eqb t.slot i))))
+  where
+    and_false : (b : Bool) → (b && false) ≡ false
+    and_false true = refl
+    and_false false = refl
 
 -- another one makes the entry of its record
-pub folds_put : (c : ℕ) (t : PageTail) (es : List Entry) → length es ≡ RANGE_RECORDS → t.slot < RANGE_RECORDS → (nat_lt 0 t.time && touches_column c t.kind t.mask) ≡ true → Folds c t es (slice_set es t.slot (entry_by c t))
-folds_put c t es long slot takes = fold_put c 0 RANGE_RECORDS (entry_at es) es (t ∷ []) t (omega arith) refl long slot takes (λ i low. refl)
+pub folds_put : (c : ℕ) (t : PageTail) (es fs : ℕ → Entry) → (nat_lt 0 t.time && touches_column c t.kind t.mask) ≡ true → IsWith t.slot (entry_by c t) es fs → Folds c t es fs
+folds_put c t es fs takes put i low = put i low ∙ ap (λ (b : Bool). cond b (entry_by c t) (es i)) (sym (touches_is c i t ∙ (ap (λ (b : Bool). eqb t.slot i && b) takes ∙ and_true (eqb t.slot i))))
+  where
+    and_true : (b : Bool) → (b && true) ≡ b
+    and_true true = refl
+    and_true false = refl
 
 -- a closed one
-pub folds_closed : (c : ℕ) (t : PageTail) (es : List Entry) → t.time ≡ 0 → Folds c t es es
+pub folds_closed : (c : ℕ) (t : PageTail) (es : ℕ → Entry) → t.time ≡ 0 → Folds c t es es
 folds_closed c t es none = folds_skip c t es (ap (λ (n : ℕ). nat_lt 0 n && touches_column c t.kind t.mask) none)
 
 -- by the encoding that was found, and the cell
-module _ (k : Known) (t c time : ℕ) (e : Encoding) (tail : PageTail) (knows : KnowsSettled k t tail) (encoded : IsEncodedAs k.facts t e) (at : tail.time ≡ time) (some : 0 < time) (es : List Entry) where
+module _ (k : Known) (t c time : ℕ) (e : Encoding) (tail : PageTail) (knows : KnowsSettled k t tail) (encoded : IsEncodedAs k.facts t e) (at : tail.time ≡ time) (some : 0 < time) (es : ℕ → Entry) where
   encoding : e ≡ encoding_of knows.encoding
   encoding = encoded knows.writer knows.encoding knows.back knows.values knows.cell
 
@@ -60,16 +74,8 @@ module _ (k : Known) (t c time : ℕ) (e : Encoding) (tail : PageTail) (knows : 
   pub folds_else : touches_column c e.kind e.mask ≡ false → Folds c tail es es
   folds_else skips = folds_skip c tail es (taken ∙ skips)
 
-  pub folds_there : (entry : Entry) → length es ≡ RANGE_RECORDS → e.slot < RANGE_RECORDS → touches_column c e.kind e.mask ≡ true → entry.cell ≡ cell_by c tail.kind tail.values → entry.time ≡ time → Folds c tail es (slice_set es e.slot entry)
-  folds_there entry long low takes cell when = subst (λ (z : ℕ × Entry). Folds c tail es (slice_set es z.0 z.1))
-      (λ i. (slot i, record { cell = sym cell i; time = (at ∙ sym when) i }))
-      (folds_put c tail es long (subst (λ (n : ℕ). n < RANGE_RECORDS) (sym slot) low) (taken ∙ takes))
-
--- the time of an entry that was made fits
-pub times_put : (es : List Entry) (n : ℕ) (entry : Entry) → n < length es → entry.time < 2 ^ 63 → HaveTimes es → HaveTimes (slice_set es n entry)
-times_put es n entry low fits have i short = dite (ℕ_discrete i n)
-    (λ e. subst (λ (f : Entry). f.time < 2 ^ 63) (sym (ap (λ (j : ℕ). entry_at (slice_set es n entry) j) e ∙ get_or-set_same es n entry blank low)) fits)
-    (λ ne. subst (λ (f : Entry). f.time < 2 ^ 63) (sym (get_or-set_other es n i entry blank ne)) (have i short))
+  pub folds_there : (entry : Entry) (fs : ℕ → Entry) → touches_column c e.kind e.mask ≡ true → entry.cell ≡ cell_by c tail.kind tail.values → entry.time ≡ time → IsWith e.slot entry es fs → Folds c tail es fs
+  folds_there entry fs takes cell when put = folds_put c tail es fs (taken ∙ takes) (subst (λ (z : ℕ × Entry). IsWith z.0 z.1 es fs) (λ i. (sym slot i, record { cell = cell i; time = (when ∙ sym at) i })) put)
 
 -- ---- many tails
 
@@ -82,16 +88,16 @@ known_snoc : (l : Limits) (k : Known) (range p n : ℕ) (ts : List PageTail) (t 
 known_snoc l k range p n [] t e a knows = let f : n ≡ suc p = omega arith in (subst (λ (m : ℕ). KnowsSettled k (range * l.tails + m) t) f knows, tt)
 known_snoc l k range p n (u ∷ ts) t e a knows = (a.0, known_snoc l k range (suc p) n ts t (omega arith) a.1 knows)
 
-pub run_none : (l : Limits) (k : Known) (range c p : ℕ) (es : List Entry) → FoldsRun l k range c p p es es
+pub run_none : (l : Limits) (k : Known) (range c p : ℕ) (es : ℕ → Entry) → FoldsRun l k range c p p es es
 run_none l k range c p es = record { tails = []; known = tt; long = omega arith; folds = λ i low. refl }
 
-pub run_next : (l : Limits) (u v : Known) (range c p n : ℕ) (t : PageTail) (es fs gs : List Entry) → ((f : Fact) → Contains u.facts f → Contains v.facts f) → length u.seen ≤ length v.seen
+pub run_next : (l : Limits) (u v : Known) (range c p n : ℕ) (t : PageTail) (es fs gs : ℕ → Entry) → ((f : Fact) → Contains u.facts f → Contains v.facts f) → length u.seen ≤ length v.seen
     → FoldsRun l u range c p n es fs → KnowsSettled v (range * l.tails + (n + 1)) t → Folds c t fs gs → FoldsRun l v range c p (n + 1) es gs
 run_next l u v range c p n t es fs gs facts seen run knows folds = record {
   tails = run.tails ++ t ∷ [];
   known = let long = run.long in known_snoc l v range p (n + 1) run.tails t (omega arith) (known_more l u v range p run.tails facts seen run.known) knows;
   long = let long = run.long in let more : length (run.tails ++ t ∷ []) ≡ length run.tails + 1 = length-append run.tails (t ∷ []) in omega arith;
-  folds = λ i low. folds i low ∙ (ap (λ (e : Entry). cond (touches c i t) (entry_by c t) e) (run.folds i low) ∙ sym (folded-append (touches c i) c (entry_at es i) run.tails (t ∷ [])));
+  folds = λ i low. folds i low ∙ (ap (λ (e : Entry). cond (touches c i t) (entry_by c t) e) (run.folds i low) ∙ sym (folded-append (touches c i) c (es i) run.tails (t ∷ [])));
 }
 
 -- ---- the tails of a range by number
@@ -108,18 +114,18 @@ told_same a p (x ∷ ts) (y ∷ us) t u low = (λ i. (t.0 ∙ sym u.0) i ∷ tol
 
 -- ---- what the loop keeps
 
-pub record FoldsOn (store : Store) (v : View) (seat : Sitting) (range c p end n : ℕ) (before now : List Entry) : Type 0 where
+pub record FoldsOn (store : Store) (v : View) (seat : Sitting) (range c p end n : ℕ) (before : ℕ → Entry) (words values : List ℕ) : Type 0 where
   pub is : IsSeatOf store seat
   pub from : p ≤ n
   pub few : n ≤ end
   pub inspects : Inspects v seat.view v.limits.sessions
-  pub run : FoldsRun v.limits (merger_of seat.view) range c p n before now
-  pub times : HaveTimes now
+  pub run : FoldsRun v.limits (merger_of seat.view) range c p n before (entry_of (slice_index words) values)
+  pub numbers : AreNumbers (slice_index words) values
 
-pub folds_first : (store : Store) (seat : Sitting) (range c p end : ℕ) (es : List Entry) → IsSeatOf store seat → p ≤ end → HaveTimes es → FoldsOn store seat.view seat range c p end p es es
-folds_first store seat range c p end es is low times = record { is = is; from = omega arith; few = low; inspects = inspects_same seat.view seat.view.limits.sessions; run = run_none seat.view.limits (merger_of seat.view) range c p es; times = times }
+pub folds_first : (store : Store) (seat : Sitting) (range c p end : ℕ) (words values : List ℕ) → IsSeatOf store seat → p ≤ end → AreNumbers (slice_index words) values → FoldsOn store seat.view seat range c p end p (entry_of (slice_index words) values) words values
+folds_first store seat range c p end words values is low numbers = record { is = is; from = omega arith; few = low; inspects = inspects_same seat.view seat.view.limits.sessions; run = run_none seat.view.limits (merger_of seat.view) range c p (entry_of (slice_index words) values); numbers = numbers }
 
-module _ (store : Store) (v : View) (a : Sitting) (range c p end n : ℕ) (es fs : List Entry) (on : FoldsOn store v a range c p end n es fs) where
+module _ (store : Store) (v : View) (a : Sitting) (range c p end n : ℕ) (es : ℕ → Entry) (words values : List ℕ) (on : FoldsOn store v a range c p end n es words values) where
   pub folds_host : hosts v v.limits.sessions ≡ true → hosts a.view a.view.limits.sessions ≡ true
   folds_host hosted = inspects_host v a.view on.inspects hosted
 
@@ -130,20 +136,20 @@ module _ (store : Store) (v : View) (a : Sitting) (range c p end n : ℕ) (es fs
   pub folds_settled : AreSettled v.limits (merger_of v) range p end → n < end → (t : ℕ) → t ≡ range * store.layout.limits.tails + (n + 1) → HasSettled (merger_of a.view) t
   folds_settled settled low t is = let from = on.from in subst (HasSettled (merger_of a.view)) (ap (λ (m : ℕ). range * m + (n + 1)) (sym tails_same) ∙ sym is) (merger_has v a.view on.inspects (range * v.limits.tails + (n + 1)) (settled (n + 1) (omega arith) (omega arith)))
 
-  pub folds_next : (b : Sitting) (gs : List Entry) (t : ℕ) → t ≡ range * store.layout.limits.tails + (n + 1) → AreSettled v.limits (merger_of v) range p end → n < end → IsSeatOf store b → Inspects a.view b.view a.view.limits.sessions
-      → ((tail : PageTail) → KnowsSettled (merger_of a.view) t tail → Folds c tail fs gs) → HaveTimes gs → FoldsOn store v b range c p end (n + 1) es gs
-  folds_next b gs t is settled low seat i folds times = let h = folds_settled settled low t is in record {
+  pub folds_next : (b : Sitting) (new_words new_values : List ℕ) (t : ℕ) → t ≡ range * store.layout.limits.tails + (n + 1) → AreSettled v.limits (merger_of v) range p end → n < end → IsSeatOf store b → Inspects a.view b.view a.view.limits.sessions
+      → ((tail : PageTail) → KnowsSettled (merger_of a.view) t tail → Folds c tail (entry_of (slice_index words) values) (entry_of (slice_index new_words) new_values)) → AreNumbers (slice_index new_words) new_values → FoldsOn store v b range c p end (n + 1) es new_words new_values
+  folds_next b new_words new_values t is settled low seat i folds numbers = let h = folds_settled settled low t is in record {
     is = seat;
     from = let from = on.from in omega arith;
     few = omega arith;
     inspects = inspects_join v a.view b.view on.inspects i;
-    run = run_next v.limits (merger_of a.view) (merger_of b.view) range c p n h.0 es fs gs (merger_facts a.view b.view i) (merger_seen a.view b.view i) on.run
+    run = run_next v.limits (merger_of a.view) (merger_of b.view) range c p n h.0 es (entry_of (slice_index words) values) (entry_of (slice_index new_words) new_values) (merger_facts a.view b.view i) (merger_seen a.view b.view i) on.run
         (subst (λ (m : ℕ). KnowsSettled (merger_of b.view) m h.0) (is ∙ ap (λ (m : ℕ). range * m + (n + 1)) tails_same) (merger_knows a.view b.view i t h.0 h.1)) (folds h.0 h.1);
-    times = times;
+    numbers = numbers;
   }
 
-pub folds_last : (store : Store) (v : View) (a : Sitting) (range c p end n : ℕ) (es fs : List Entry) → FoldsOn store v a range c p end n es fs → end ≤ n → FoldsRun v.limits (merger_of a.view) range c p end es fs
-folds_last store v a range c p end n es fs on past = let few = on.few in let e : n ≡ end = omega arith in subst (λ (m : ℕ). FoldsRun v.limits (merger_of a.view) range c p m es fs) e on.run
+pub folds_last : (store : Store) (v : View) (a : Sitting) (range c p end n : ℕ) (es : ℕ → Entry) (words values : List ℕ) → FoldsOn store v a range c p end n es words values → end ≤ n → FoldsRun v.limits (merger_of a.view) range c p end es (entry_of (slice_index words) values)
+folds_last store v a range c p end n es words values on past = let few = on.few in let e : n ≡ end = omega arith in subst (λ (m : ℕ). FoldsRun v.limits (merger_of a.view) range c p m es (entry_of (slice_index words) values)) e on.run
 
 -- ---- one tail in a state that the view allows
 

@@ -1,6 +1,7 @@
 -- What loads leave of what the merger knows, one after another.
 use Rattle.std.proofs.Common.{◌≡◌, ◌⊎◌, ⊎_elim, ℕ, List, [], ◌∷◌, ◌++◌, cond, eqb, ◌&&◌, Contains, refl, sym, subst, ap, ◌∙◌, arith, inl, inr, append_assoc, append-nil}
 use Rattle.std.proofs.lemmas.List.Elements.{Contains-append_left}
+use Rattle.lst_layout.specs.declared.place.Place.{Place}
 use Rattle.lst_layout.specs.declared.place.Place.TheVariants.{TailCounter, CellWord}
 use Rattle.lst_layout.specs.Words.{Words, shown}
 use Rattle.lst_core_state.specs.declared.facts.Fact.{Fact}
@@ -12,7 +13,7 @@ use Rattle.lst_core_state.specs.declared.known.Known.{Known}
 use Rattle.lst_core_state.specs.declared.known.Stage.{Stage}
 use Rattle.lst_core_state.specs.declared.known.Stage.TheVariants.{Away, Taken, Fresh, Logged, Stated, Done}
 use Rattle.lst_core_state.specs.Facts.{stored_fact, commit_fact}
-use Rattle.lst_core_state.specs.Step.{refreshed, if_full}
+use Rattle.lst_core_state.specs.Step.{look_at, refreshed, if_full}
 use Rattle.lst_core_state.proofs.Histories.{starts_trans, starts_whole}
 use Rattle.lst_rule.specs.declared.view.View.{View}
 use Rattle.lst_rule.specs.Rule.{knows}
@@ -45,7 +46,7 @@ twice Logged = refl
 twice Stated = refl
 twice Done = refl
 
-turns_on : (a b c : Stage) → (b ≡ a) ⊎ (b ≡ refreshed a) → (c ≡ b) ⊎ (c ≡ refreshed b) → (c ≡ a) ⊎ (c ≡ refreshed a)
+pub turns_on : (a b c : Stage) → (b ≡ a) ⊎ (b ≡ refreshed a) → (c ≡ b) ⊎ (c ≡ refreshed b) → (c ≡ a) ⊎ (c ≡ refreshed a)
 turns_on a b c p q = ⊎_elim
     (λ (e : c ≡ b). subst (λ (k : Stage). (k ≡ a) ⊎ (k ≡ refreshed a)) (sym e) p)
     (λ (e : c ≡ refreshed b). inr (e ∙ ⊎_elim (λ (f : b ≡ a). ap refreshed f) (λ (f : b ≡ refreshed a). ap refreshed f ∙ twice a) p)) q
@@ -79,45 +80,27 @@ inspects_asked v w s a = record {
   kept = a.kept;
 }
 
--- a load of a word of a tail
-pub inspects_cell : (v w : View) (s t p x : ℕ) → Looked v w s (CellWord t p) x → Inspects v w s
-inspects_cell v w s t p x k = record {
+-- a load that adds facts and finds
+inspects_load : (v w : View) (s x : ℕ) (p : Place) (facts : List Fact) (finds : List Find) (k : Looked v w s p x)
+    → (let m : Known = look_at v.limits (shown v.limits k.met.made.told.words) (knows v s) p in (m ≡ inspected (knows v s) m facts finds) × (m.seen ≡ (knows v s).seen) × (m.turn ≡ (knows v s).turn)) → Inspects v w s
+inspects_load v w s x p facts finds k is = record {
   facts = facts;
   finds = finds;
-  view = subst (λ (m : Known). Learns v w s (inspected (knows v s) m facts finds)) (sym k.view.now) k.view;
-  grows = starts_whole (knows w s).seen (knows v s).seen (ap (λ (m : Known). m.seen) k.view.now);
-  turn = inl (ap (λ (m : Known). m.turn) k.view.now);
+  view = subst (λ (m : Known). Learns v w s (inspected (knows v s) m facts finds)) (sym k.view.now) (subst (Learns v w s) is.0 k.view);
+  grows = starts_whole (knows w s).seen (knows v s).seen (ap (λ (m : Known). m.seen) k.view.now ∙ is.1);
+  turn = inl (ap (λ (m : Known). m.turn) k.view.now ∙ is.2);
   kept = k.kept;
 }
-  where
-    W : Words
-    W = shown v.limits k.met.made.told.words
 
-    facts : List Fact
-    facts = stored_fact v.limits W t ++ commit_fact W.log (W.cells t 0)
-
-    finds : List Find
-    finds = TailLoad t ∷ cond (eqb p 0 && eqb (W.cells t 0) 0) (EmptyStart t ∷ []) []
+-- of a word of a tail
+pub inspects_cell : (v w : View) (s t p x : ℕ) → Looked v w s (CellWord t p) x → Inspects v w s
+inspects_cell v w s t p x k = let W : Words = shown v.limits k.met.made.told.words in
+    inspects_load v w s x (CellWord t p) (stored_fact v.limits W t ++ commit_fact W.log (W.cells t 0)) (TailLoad t ∷ cond (eqb p 0 && eqb (W.cells t 0) 0) (EmptyStart t ∷ []) []) k (refl, refl, refl)
 
 -- of a tail counter
 pub inspects_counter : (v w : View) (s range x : ℕ) → Looked v w s (TailCounter range) x → Inspects v w s
-inspects_counter v w s range x k = record {
-  facts = facts;
-  finds = finds;
-  view = subst (λ (m : Known). Learns v w s (inspected (knows v s) m facts finds)) (sym k.view.now) k.view;
-  grows = starts_whole (knows w s).seen (knows v s).seen (ap (λ (m : Known). m.seen) k.view.now);
-  turn = inl (ap (λ (m : Known). m.turn) k.view.now);
-  kept = k.kept;
-}
-  where
-    W : Words
-    W = shown v.limits k.met.made.told.words
-
-    facts : List Fact
-    facts = TailsAtLeast range (W.counts range) ∷ []
-
-    finds : List Find
-    finds = CountedTails range (W.counts range) ∷ if_full v.limits.tails (W.counts range) (FullTails range)
+inspects_counter v w s range x k = let W : Words = shown v.limits k.met.made.told.words in
+    inspects_load v w s x (TailCounter range) (TailsAtLeast range (W.counts range) ∷ []) (CountedTails range (W.counts range) ∷ if_full v.limits.tails (W.counts range) (FullTails range)) k (refl, refl, refl)
 
 -- which is found
 pub counter_found : (v w : View) (s range x : ℕ) → Looked v w s (TailCounter range) x → FoundSince (knows v s) (knows w s) (CountedTails range x)

@@ -8,4 +8,6 @@ pub mod Ending
 pub mod Storing
 pub mod Reading
 pub mod Building
+pub mod Learnt
+pub mod Showing
 pub mod Merging

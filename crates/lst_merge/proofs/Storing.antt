@@ -63,6 +63,18 @@ module _ (m : MergerFrames) (f : ℕ) (page : ℕ → ℕ) where
   stored_retired zero = refl
   stored_retired (suc n) = stored_retired n
 
+  pub stored_waiting : (n : ℕ) → (frames_stored m f page n).waiting ≡ m.waiting
+  stored_waiting zero = refl
+  stored_waiting (suc n) = stored_waiting n
+
+  pub stored_held : (n : ℕ) → (frames_stored m f page n).held ≡ m.held
+  stored_held zero = refl
+  stored_held (suc n) = stored_held n
+
+  pub stored_epoch : (n : ℕ) → (frames_stored m f page n).epoch ≡ m.epoch
+  stored_epoch zero = refl
+  stored_epoch (suc n) = stored_epoch n
+
   pub stored_clear : (n : ℕ) → (frames_stored m f page n).clear ≡ m.clear
   stored_clear zero = refl
   stored_clear (suc n) = stored_clear n

@@ -15,7 +15,7 @@ use Rattle.lst_core_state.specs.State.{state_over, history_of}
 use Rattle.lst_core_state.specs.Sound.{Sound, FactsOf, SeenIsRecorded}
 use Rattle.lst_model.specs.declared.commits.Commit.{Commit}
 use Rattle.lst_model.specs.Histories.{Extends}
-use Rattle.lst_layout.specs.Areas.{words_of}
+use Rattle.lst_layout.specs.Areas.{words_of, frame_count}
 use Rattle.lst_core_state.specs.Step.{known_of}
 use Rattle.lst_page_state.specs.declared.events.PageEvent.TheVariants.{Swap, Raise}
 use Rattle.lst_page_state.specs.Known.{PagesSound}
@@ -23,10 +23,12 @@ use Rattle.lst_page_state.specs.Lists.{rest, word_in}
 use Rattle.lst_page_state.specs.Runs.{frame_known, page_known, IsSwapKnown}
 use Rattle.lst_page_state.specs.Settled.{settled_tails}
 use Rattle.lst_page_state.specs.Sound.{IsPage, Rise}
-use Rattle.lst_page_state.specs.State.{frame_in}
+use Rattle.lst_page_state.specs.State.{retired_at, frame_in}
 use Rattle.lst_page_state.proofs.Functions.{word_in-with, put_in_here}
+use Rattle.lst_layout.proofs.Functions.{put_in_else}
 use Rattle.lst_page_state.proofs.Moves.{none_some}
 use Rattle.lst_pages.specs.Frames.{tps_in}
+use Rattle.lst_pages.specs.Pages.{IsRightPage}
 use Rattle.lst_retire.specs.Frames.{AreSpares}
 use Rattle.lst_retire.proofs.Freeing.{spares_some}
 use Rattle.lst_retire.proofs.Looking.{stock_now, stock_then, still_hosts}
@@ -35,10 +37,10 @@ use Rattle.lst_rule.specs.Rule.{knows, hosts, Allowed}
 use Rattle.lst_rule.specs.Learned.{Possible, Learns, Kept, PageCanStand, PageMade}
 use Rattle.lst_rule.specs.PageSteps.{swapped, raised, StockIs, stock_of, Swapped}
 use Rattle.lst_rule.specs.Stores.{Looked}
-use Rattle.lst_rule.proofs.Paging.{stock_is, epoch_is, pages_safe, swap_stands}
+use Rattle.lst_rule.proofs.Paging.{stock_is, epoch_is, directory_is, frame_is, pages_safe, swap_stands}
 use Rattle.lst_merge.specs.Builds.{MayReplace}
 use Rattle.lst_merge.specs.Runs.{tps_known}
-use Rattle.lst_merge.specs.Swaps.{latest_epoch, Swaps}
+use Rattle.lst_merge.specs.Swaps.{latest_epoch, IsListedAs, Swaps}
 
 -- ---- the spares
 
@@ -47,6 +49,11 @@ latest_is : (rs : List Retired) (e : ℕ) → 0 < length rs → Rise rs e → la
 latest_is [] e some rise = absurd (omega arith)
 latest_is (r ∷ []) e some rise = rise
 latest_is (r ∷ q ∷ rs) e some rise = latest_is (q ∷ rs) e (omega arith) rise.2
+
+latest_last : (rs : List Retired) (r : Retired) → latest_epoch (rs ++ r ∷ []) ≡ r.epoch
+latest_last [] r = refl
+latest_last (q ∷ []) r = refl
+latest_last (q ∷ p ∷ rs) r = latest_last (p ∷ rs) r
 
 module _ (v : View) (spares : List Retired) (hosted : hosts v v.limits.sessions ≡ true) (are : AreSpares v spares) (p : Possible v) where
   stock : stock_of v ≡ p.merger.pages.stock
@@ -145,17 +152,46 @@ module _ (v u : View) (r c f : ℕ) (hosted : hosts v v.limits.sessions ≡ true
       same_stock : stock_of v ≡ p.merger.pages.stock
       same_stock = stock_is v p.words p.known p.merger p.allowed hosted
 
+      rows : r < length m.directory
+      rows = let e = ap (λ (q : MergerFrames). length q.directory) same_stock ∙ p.allowed.pages.pages.sized.ranges in let low = page.0 in omega arith
+
+      cells : c < length (slice_index_or m.directory r [])
+      cells = let e = ap (λ (q : MergerFrames). length (slice_index_or q.directory r [])) same_stock ∙ p.allowed.pages.pages.sized.columns r page.0 in let low = page.1 in omega arith
+
       named : page_known last r c ≡ f
       named = word_in-with m.directory r c (frame_in m.built) rows cells r c ∙ (put_in_here (word_in m.directory) r c (frame_in m.built) ∙ ap frame_in known.built)
+
+      -- the frames of other pages
+      named_still : (q d : ℕ) → ((q ≡ r) × (d ≡ c) → ⊥) → page_known last q d ≡ page_known m q d
+      named_still q d other = word_in-with m.directory r c (frame_in m.built) rows cells q d ∙ put_in_else (word_in m.directory) r c (frame_in m.built) q d (λ e g. other (e, g))
+
+      last_host : hosts w w.limits.sessions ≡ true
+      last_host = ap (λ (l : Limits). hosts w l.sessions) after_raise.limits ∙ still_hosts v w last after_raise v.limits.sessions hosted
+
+      last_page : IsPage w.limits r c
+      last_page = subst (λ (l : Limits). IsPage l r c) (sym after_raise.limits) page
+
+      named_last : page_known (stock_of w) r c ≡ f
+      named_last = ap (λ (q : MergerFrames). page_known q r c) stock_last ∙ named
+
+      listed : IsListedAs w r c f
+      listed = record {
+        named = there;
+        right = λ words known merger ok. subst (λ (g : ℕ). IsRightPage c (settled_tails w.limits (shown w.limits words) r) ((shown w.limits words).frames g)) (there words known merger ok) ((pages_safe w words known merger ok).listed r c last_page).right;
+        tps = λ words known merger ok. sym (ap (λ (g : ℕ). frame_known (stock_of w) g 0) named_last ∙ frame_is w words known merger ok last_host f 0 (subst (λ (g : ℕ). g < frame_count w.limits) (there words known merger ok) ((pages_safe w words known merger ok).listed r c last_page).frame) (omega arith));
+      }
         where
-          rows : r < length m.directory
-          rows = let e = ap (λ (q : MergerFrames). length q.directory) same_stock ∙ p.allowed.pages.pages.sized.ranges in let low = page.0 in omega arith
+          there : (words : List ℕ) (known : ℕ → Known) (merger : Known) → Allowed w words known merger → (shown w.limits words).directory r c ≡ f
+          there words known merger ok = sym (directory_is w words known merger ok last_host r c last_page) ∙ named_last
 
-          cells : c < length (slice_index_or m.directory r [])
-          cells = let e = ap (λ (q : MergerFrames). length (slice_index_or q.directory r [])) same_stock ∙ p.allowed.pages.pages.sized.columns r page.0 in let low = page.1 in omega arith
+      latest_now : latest_epoch (stock_of w).retired ≡ (stock_of v).epoch + 1
+      latest_now = ap (λ (q : MergerFrames). latest_epoch q.retired) stock_last ∙ latest_last (rest m.retired) (retired_at (page_known m r c) (m.epoch + 1))
 
-      pub swaps : Swaps v w r c f
-      swaps = record {
+      epoch_now : (stock_of w).epoch ≡ (stock_of v).epoch + 1
+      epoch_now = ap (λ (q : MergerFrames). q.epoch) stock_last
+
+      pub swaps : (spares : List Retired) → AreSpares v spares → Swaps v w r c f
+      swaps spares are = record {
         found = u;
         stored = z;
         look = looked;
@@ -163,6 +199,13 @@ module _ (v u : View) (r c f : ℕ) (hosted : hosts v v.limits.sessions ≡ true
         raise = subst (λ (e : ℕ). PageMade z w Raise EpochWord (e + 1)) (ap (λ (q : MergerFrames). q.epoch) stock_swapped) made;
         view = after_raise;
         tps = ap (λ (q : MergerFrames). tps_known q r c) stock_last ∙ ap (λ (g : ℕ). tps_in (frame_known m g)) named;
+        listed = listed;
+        others = λ q d its other. ap (λ (k : MergerFrames). tps_known k q d) stock_last ∙ ap (λ (g : ℕ). tps_in (frame_known m g)) (named_still q d other);
+        once = record {
+          epoch = epoch_now;
+          rises = latest_now ∙ ap (λ (e : ℕ). e + 1) (sym (ap latest_epoch (sym are.retired) ∙ spares_latest v spares hosted are p));
+          latest = latest_now ∙ sym epoch_now;
+        };
         words = λ whole. made.words ∙ (λ i. slice_set ((swap.made.words ∙ (λ j. slice_set (looked.kept.words whole j) (address (still.limits j) (DirectoryWord r c)) ((ap frame_in swap_built) j))) i) (address (after_swap.limits i) EpochWord) ((ap (λ (q : MergerFrames). q.epoch) stock_swapped) i + 1));
       }
 

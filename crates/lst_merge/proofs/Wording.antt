@@ -1,56 +1,26 @@
--- The words of a page with given entries.
-use Rattle.std.proofs.Common.{◌≡◌, ℕ, suc, ◌^◌, ◌+◌, ◌-◌, ◌*◌, ◌%◌, ◌<◌, ◌≤◌, List, Bool, true, false, cond, Option, Some, None, refl, sym, subst, ap, ◌∙◌, arith, length, slice_index, eq-eqb, ne_eqb, slice_set, get_or-set_same, get_or-set_other}
-use mir.Val.{bool_byte}
+-- A page in hand, and the words that are made of it.
+use Rattle.std.proofs.Common.{◌≡◌, ◌≢◌, ℕ, ◌^◌, ◌+◌, ◌*◌, ◌/◌, ◌%◌, ◌<◌, ◌≤◌, List, Bool, true, false, cond, eqb, Option, Some, None, refl, sym, subst, ap, ◌∙◌, arith, length, slice_index, eq-eqb, ne_eqb, slice_set, get_or-set_same, get_or-set_other, length-set, true≢false, ◌==◌}
+use Rattle.std.specs.Prelude.{is_some, bit_or, bit_xor}
+use Rattle.std.specs.Int.{bit_at}
+use Rattle.std.proofs.Math.Nat.{pow-le-pow_right}
+use Rattle.std.proofs.lemmas.Nat.Bits.{bit_at_xor, bit_at-pow_same, bit_at-pow_other, bit_at-lt}
+use Rattle.std.proofs.lemmas.Grind.{same_number_lists}
 use mathlib.Core.Logic.{dite}
 use native.Mathlib.Decide.{ℕ_discrete}
-use Rattle.std.specs.Prelude.{is_some}
-use Rattle.std.proofs.Math.Nat.{pow-le-pow_right}
-use Rattle.std.proofs.lemmas.Grind.{same_number_lists}
 use Rattle.lst_layout.specs.declared.TheConstants.{RANGE_RECORDS, FRAME_VALUES, FRAME_TIMES, FRAME_NULLS, FRAME_WORDS}
 use Rattle.lst_layout.specs.Frames.{time_place, null_place, null_bit}
 use Rattle.lst_bits.specs.Times.{time_word, time_of, is_present}
-use Rattle.lst_model.specs.Cells.{Cell, has_bit, cell_of, is_to_null, changed_number, bits_where}
-use Rattle.lst_model.specs.CellLaws.{bits_where-below}
-use Rattle.lst_model.proofs.Cells.{bit_of}
-use Rattle.lst_pack.specs.Forms.{Packs, IsPacked}
+use Rattle.lst_model.specs.Cells.{Cell, has_bit, cell_of, is_to_null, changed_number}
+use Rattle.lst_core_state.proofs.PostingsKept.{has_bit-same, has_bit-other}
+use Rattle.lst_pack.specs.Forms.{Packs}
+use Rattle.lst_pack.proofs.Reading.{stands_for_one}
 use Rattle.lst_pages.specs.declared.entries.Entry.{Entry}
-use Rattle.lst_pages.specs.Entries.{blank}
 use Rattle.lst_pages.specs.Frames.{tps_in, packed_in, stamp_in, entry_in, IsEntry, HasEntries}
 use Rattle.lst_pages.specs.Lists.{listed}
-use Rattle.lst_pages.proofs.Lists.{get-listed, length-listed}
-use Rattle.lst_merge.specs.Pages.{entry_at, AreNumbers, IsPageWord}
+use Rattle.lst_pages.proofs.Lists.{get-listed, length-listed, listed-same}
+use Rattle.lst_merge.specs.Pages.{entry_of, AreValuesIn, AreNumbers, AreEntriesIn, AreAbsentZero, IsWith}
 
--- ---- the word at each place
-
-module _ (tps : ℕ) (packed : List ℕ) (entries : List Entry) (place word : ℕ) where
-  pub lineage_word : place < FRAME_VALUES → word ≡ tps → IsPageWord tps packed entries place word
-  lineage_word low is = record { lineage = λ _. is; value = λ i few e. absurd (omega arith); time = λ i few e. absurd (omega arith); null = λ i few e. absurd (omega arith) }
-
-  pub value_word : FRAME_VALUES ≤ place → place < FRAME_TIMES → word ≡ slice_index packed (place - FRAME_VALUES) → IsPageWord tps packed entries place word
-  value_word high low is = record {
-    lineage = λ e. absurd (omega arith);
-    value = λ i few e. is ∙ (let at : place - FRAME_VALUES ≡ i = omega arith in ap (slice_index packed) at);
-    time = λ i few e. absurd (omega arith);
-    null = λ i few e. absurd (omega arith);
-  }
-
-  pub stamp_word : FRAME_TIMES ≤ place → place < FRAME_NULLS → word ≡ time_word (entry_at entries (place - FRAME_TIMES)).time (is_some (entry_at entries (place - FRAME_TIMES)).cell) → IsPageWord tps packed entries place word
-  stamp_word high low is = record {
-    lineage = λ e. absurd (omega arith);
-    value = λ i few e. absurd (omega arith);
-    time = λ i few e. is ∙ (let at : place - FRAME_TIMES ≡ i = omega arith in ap (λ (j : ℕ). time_word (entry_at entries j).time (is_some (entry_at entries j).cell)) at);
-    null = λ i few e. absurd (omega arith);
-  }
-
-  pub null_word_at : FRAME_NULLS ≤ place → ((bit : ℕ) → bit < 64 → has_bit word bit ≡ is_to_null (entry_at entries ((place - FRAME_NULLS) * 64 + bit)).cell) → IsPageWord tps packed entries place word
-  null_word_at high bits = record {
-    lineage = λ e. absurd (omega arith);
-    value = λ i few e. absurd (omega arith);
-    time = λ i few e. absurd (omega arith);
-    null = λ i few e. bits (i % 64) (omega arith) ∙ (let at : (place - FRAME_NULLS) * 64 + i % 64 ≡ i = omega arith in ap (λ (j : ℕ). is_to_null (entry_at entries j).cell) at);
-  }
-
--- ---- what they say
+-- ---- an entry by its time word, null bit and value
 
 abbrev entry_with : Option Cell → ℕ → Entry
 entry_with cell time = record { cell = cell; time = time }
@@ -65,70 +35,176 @@ said word nulls bit value time (Some None) is null number = let present : is_pre
 said word nulls bit value time (Some (Some n)) is null number = let present : is_present word ≡ true = eq-eqb (word % 2) 1 (omega arith) in let at : time_of word ≡ time = omega arith in
     λ i. record { cell = cond (present i) (Some (cond (null i) None (Some (number i)))) None; time = at i }
 
-module _ (tps : ℕ) (packed values : List ℕ) (entries : List Entry) (words : ℕ → ℕ) (is : (place : ℕ) → place < FRAME_WORDS → IsPageWord tps packed entries place (words place)) where
-  pub page_lineage : tps_in words ≡ tps
-  page_lineage = (is 0 (omega arith)).lineage refl
+-- ---- values that were read
 
-  module _ (long : length packed ≡ RANGE_RECORDS + 1) (packs : Packs packed values) (numbers : AreNumbers entries values) where
-    packed_is : packed_in words ≡ packed
-    packed_is = same_number_lists (packed_in words) packed (length-listed words FRAME_VALUES (RANGE_RECORDS + 1) ∙ sym long)
-        (λ i low. let n = length-listed words FRAME_VALUES (RANGE_RECORDS + 1) in let short : i < RANGE_RECORDS + 1 = omega arith in get-listed words FRAME_VALUES (RANGE_RECORDS + 1) i 0 short ∙ (is (FRAME_VALUES + i) (omega arith)).value i short refl)
+-- the value of an entry is the number of its cell, once it is 0 where the entry is absent, and where it is null
+number_read : (present null : Bool) (value packed : ℕ) → value ≡ cond present packed 0 → (present ≡ true → null ≡ true → packed ≡ 0) → value ≡ changed_number (cond present (Some (cond null None (Some value))) None)
+number_read false null value packed is zero = is
+number_read true true value packed is zero = is ∙ zero refl refl
+number_read true false value packed is zero = refl
 
-    says : (i : ℕ) → i < RANGE_RECORDS → IsEntry words (slice_index values i) i (entry_at entries i)
-    says i low = record {
-      told = said (stamp_in words i) (words (null_place i)) (null_bit i) (slice_index values i) (entry_at entries i).time (entry_at entries i).cell
-          ((is (time_place i) (omega arith)).time i low refl) ((is (null_place i) (omega arith)).null i low refl) (numbers.each i low);
-      number = λ cell e. numbers.each i low ∙ ap changed_number e;
-    }
+entry_read : (present null : Bool) (value packed time : ℕ) → value ≡ cond present packed 0 → entry_with (cond present (Some (cond null None (Some value))) None) time ≡ entry_with (cond present (Some (cond null None (Some packed))) None) time
+entry_read false null value packed time is = refl
+entry_read true null value packed time is = ap (λ (n : ℕ). entry_with (Some (cond null None (Some n))) time) is
 
-    pub page_entries : HasEntries words (entry_at entries)
-    page_entries = record { values = values; packed = subst (λ (ws : List ℕ). Packs ws values) (sym packed_is) packs; each = says }
+-- the number of a cell that is null
+null_number : (present null : Bool) (packed : ℕ) → ((cell : Cell) → cond present (Some (cond null None (Some packed))) None ≡ Some cell → packed ≡ changed_number (Some cell)) → present ≡ true → null ≡ true → packed ≡ 0
+null_number false null packed number p n = absurd (true≢false (sym p))
+null_number true false packed number p n = absurd (true≢false (sym n))
+null_number true true packed number p n = number None refl
 
--- ---- null words
+module _ (words : ℕ → ℕ) (values : List ℕ) (read : AreValuesIn words values) where
+  pub entries_read : AreEntriesIn words (entry_of words values)
+  entries_read packed packs i low = entry_read (is_present (stamp_in words i)) (has_bit (words (null_place i)) (null_bit i)) (slice_index values i) (slice_index packed i) (time_of (stamp_in words i)) (read packed packs i low)
 
-abbrev pub null_at : List Entry → ℕ → Bool
-null_at entries i = is_to_null (entry_at entries i).cell
+  pub numbers_read : (entries : ℕ → Entry) → HasEntries words entries → AreNumbers words values
+  numbers_read entries has i low = number_read (is_present (stamp_in words i)) (has_bit (words (null_place i)) (null_bit i)) (slice_index values i) (slice_index has.values i) (read has.values has.packed i low)
+      (null_number (is_present (stamp_in words i)) (has_bit (words (null_place i)) (null_bit i)) (slice_index has.values i)
+      (λ cell e. (has.each i low).number cell (sym (ap (λ (f : Entry). f.cell) (has.each i low).told) ∙ e)))
 
--- the null bits of n entries from one on
-abbrev pub nulls_from : List Entry → ℕ → ℕ → ℕ
-nulls_from entries p n = bits_where (λ (b : Bool). b) (listed (null_at entries) p n)
+-- zeros say that each entry is absent
+pub zeros_are_numbers : (words values : List ℕ) → ((i : ℕ) → slice_index words i ≡ 0) → ((i : ℕ) → slice_index values i ≡ 0) → AreNumbers (slice_index words) values
+zeros_are_numbers words values none nought i low = nought i ∙ (λ k. changed_number (cond (sym (none (time_place i)) k % 2 == 1) (Some (cell_of (slice_index words (null_place i)) (null_bit i) (slice_index values i))) None))
 
-pub nulls_next : (entries : List Entry) (turn k word b : ℕ) → 0 < k → k ≤ 64 → word ≡ nulls_from entries (turn * 64 + k) (64 - k) → b ≡ cond (null_at entries (turn * 64 + (k - 1))) 1 0
-    → word * 2 + b ≡ nulls_from entries (turn * 64 + (k - 1)) (64 - (k - 1))
-nulls_next entries turn k word b some few is bit = let from : turn * 64 + k ≡ suc (turn * 64 + (k - 1)) = omega arith in let count : 64 - (k - 1) ≡ suc (64 - k) = omega arith in
-    let rest : ℕ = nulls_from entries (suc (turn * 64 + (k - 1))) (64 - k) in
-    let word_is : word ≡ rest = is ∙ ap (λ (p : ℕ). nulls_from entries p (64 - k)) from in
-    (λ i. word_is i * 2 + bit i) ∙ ((let c : ℕ = cond (null_at entries (turn * 64 + (k - 1))) 1 0 in let e : rest * 2 + c ≡ c + 2 * rest = omega arith in e) ∙ ap (nulls_from entries (turn * 64 + (k - 1))) (sym count))
+-- one value more
+pub values_next : (words : ℕ → ℕ) (values : List ℕ) (slot value : ℕ) → slot < length values
+    → ((packed : List ℕ) → Packs (packed_in words) packed → (i : ℕ) → i < slot → slice_index values i ≡ cond (is_present (stamp_in words i)) (slice_index packed i) 0)
+    → ((packed : List ℕ) → Packs (packed_in words) packed → (i : ℕ) → slot ≤ i → slice_index values i ≡ slice_index packed i)
+    → value ≡ cond (is_present (stamp_in words slot)) (slice_index values slot) 0
+    → (packed : List ℕ) → Packs (packed_in words) packed → (i : ℕ) → i < slot + 1 → slice_index (slice_set values slot value) i ≡ cond (is_present (stamp_in words i)) (slice_index packed i) 0
+values_next words values slot value low before rest is packed packs i short = dite (ℕ_discrete i slot)
+    (λ e. ap (slice_index (slice_set values slot value)) e ∙ (get_or-set_same values slot value 0 low ∙ (is ∙ (ap (λ (n : ℕ). cond (is_present (stamp_in words slot)) n 0) (rest packed packs slot (omega arith)) ∙ ap (λ (j : ℕ). cond (is_present (stamp_in words j)) (slice_index packed j) 0) (sym e)))))
+    (λ ne. get_or-set_other values slot i value 0 ne ∙ before packed packs i (omega arith))
 
-pub nulls_low : (entries : List Entry) (p k word : ℕ) → 0 < k → k ≤ 64 → word ≡ nulls_from entries p (64 - k) → word < 2 ^ 63
-nulls_low entries p k word some few is = let below = bits_where-below (λ (b : Bool). b) (listed (null_at entries) p (64 - k)) in let long = length-listed (null_at entries) p (64 - k) in
-    let up : 2 ^ length (listed (null_at entries) p (64 - k)) ≤ 2 ^ 63 = pow-le-pow_right {n = 2} (omega arith) {i = length (listed (null_at entries) p (64 - k))} {j = 63} (omega arith) in omega arith
+pub rest_next : (words : ℕ → ℕ) (values : List ℕ) (slot value : ℕ)
+    → ((packed : List ℕ) → Packs (packed_in words) packed → (i : ℕ) → slot ≤ i → slice_index values i ≡ slice_index packed i)
+    → (packed : List ℕ) → Packs (packed_in words) packed → (i : ℕ) → slot + 1 ≤ i → slice_index (slice_set values slot value) i ≡ slice_index packed i
+rest_next words values slot value rest packed packs i low = let ne : i ≢ slot = (λ e. omega arith) in get_or-set_other values slot i value 0 ne ∙ rest packed packs i (omega arith)
 
-pub nulls_last : (entries : List Entry) (turn k word : ℕ) → k ≡ 0 → word ≡ nulls_from entries (turn * 64 + k) (64 - k) → (bit : ℕ) → bit < 64 → has_bit word bit ≡ null_at entries (turn * 64 + bit)
-nulls_last entries turn k word none is bit low = let all : word ≡ nulls_from entries (turn * 64) 64 = is ∙ (let f : turn * 64 + k ≡ turn * 64 = omega arith in let n : 64 - k ≡ 64 = omega arith in λ i. nulls_from entries (f i) (n i)) in
-    let long = length-listed (null_at entries) (turn * 64) 64 in
-    ap (λ (w : ℕ). has_bit w bit) all ∙ (bit_of (λ (b : Bool). b) (listed (null_at entries) (turn * 64) 64) bit false (omega arith) ∙ get-listed (null_at entries) (turn * 64) 64 bit false low)
+-- ---- a bit of a word
 
-pub nulls_none : (entries : List Entry) (turn k : ℕ) → k ≡ 64 → 0 ≡ nulls_from entries (turn * 64 + k) (64 - k)
-nulls_none entries turn k is = let n : 64 - k ≡ 0 = omega arith in ap (nulls_from entries (turn * 64 + k)) (sym n)
+pub bit_shifted : (bit : ℕ) → bit < 64 → 1 * 2 ^ bit % 18446744073709551616 ≡ 2 ^ bit
+bit_shifted bit low = let up : 2 ^ bit ≤ 2 ^ 63 = pow-le-pow_right {n = 2} (omega arith) {i = bit} {j = 63} (omega arith) in omega arith
 
--- one bit more fits
-pub nulls_fit : (word : ℕ) (b : Bool) → word < 2 ^ 63 → word * 2 + bool_byte b < 2 ^ 64
-nulls_fit word true low = omega arith
-nulls_fit word false low = omega arith
+has_one : (word bit : ℕ) → has_bit word bit ≡ true → bit_at word bit ≡ 1
+has_one word bit is = dite (ℕ_discrete (bit_at word bit) 1) (λ e. e) (λ ne. absurd (true≢false (sym is ∙ ne_eqb (bit_at word bit) 1 ne)))
 
--- ---- entries that are read off words
+pub bit_set_there : (word bit other : ℕ) → has_bit (bit_or word (2 ^ bit)) other ≡ cond (eqb bit other) true (has_bit word other)
+bit_set_there word bit other = dite (ℕ_discrete bit other)
+    (λ e. ap (has_bit (bit_or word (2 ^ bit))) (sym e) ∙ (has_bit-same word bit ∙ (λ i. cond (sym (eq-eqb bit other e) i) true (has_bit word other))))
+    (λ ne. has_bit-other word bit other (λ e. ne (sym e)) ∙ (λ i. cond (sym (ne_eqb bit other ne) i) true (has_bit word other)))
 
-module _ (words : ℕ → ℕ) (es : List Entry) (slot : ℕ) (entry : Entry) (low : slot < length es) where
-  pub entries_next : ((values : List ℕ) → Packs (packed_in words) values → (i : ℕ) → i < slot → entry_at es i ≡ entry_in words (slice_index values i) i)
-      → ((values : List ℕ) → Packs (packed_in words) values → entry ≡ entry_in words (slice_index values slot) slot)
-      → (values : List ℕ) → Packs (packed_in words) values → (i : ℕ) → i < slot + 1 → entry_at (slice_set es slot entry) i ≡ entry_in words (slice_index values i) i
-  entries_next before is values packed i short = dite (ℕ_discrete i slot)
-      (λ e. ap (entry_at (slice_set es slot entry)) e ∙ (get_or-set_same es slot entry blank low ∙ (is values packed ∙ ap (λ (j : ℕ). entry_in words (slice_index values j) j) (sym e))))
-      (λ ne. get_or-set_other es slot i entry blank ne ∙ before values packed i (omega arith))
+pub bit_cleared_there : (word bit other : ℕ) → has_bit (bit_xor (bit_or word (2 ^ bit)) (2 ^ bit)) other ≡ cond (eqb bit other) false (has_bit word other)
+bit_cleared_there word bit other = let both : ℕ = bit_or word (2 ^ bit) in let x : bit_at (bit_xor both (2 ^ bit)) other ≡ (bit_at both other + bit_at (2 ^ bit) other) % 2 = bit_at_xor both (2 ^ bit) other in dite (ℕ_discrete bit other)
+    (λ e. ne_eqb (bit_at (bit_xor both (2 ^ bit)) other) 1 (λ f. let o : bit_at both other ≡ 1 = has_one both other (ap (has_bit both) (sym e) ∙ has_bit-same word bit) in let p : bit_at (2 ^ bit) other ≡ 1 = ap (bit_at (2 ^ bit)) (sym e) ∙ bit_at-pow_same bit in omega arith)
+    ∙ (λ i. cond (sym (eq-eqb bit other e) i) false (has_bit word other)))
+    (λ ne. let p : bit_at (2 ^ bit) other ≡ 0 = bit_at-pow_other bit other (λ e. ne (sym e)) in let small : bit_at both other < 2 = bit_at-lt both other in let same : bit_at (bit_xor both (2 ^ bit)) other ≡ bit_at both other = omega arith in
+    ap (λ (n : ℕ). eqb n 1) same ∙ (has_bit-other word bit other (λ e. ne (sym e)) ∙ (λ i. cond (sym (ne_eqb bit other ne) i) false (has_bit word other))))
 
-  pub times_next : ((i : ℕ) → i < slot → (entry_at es i).time < 2 ^ 63) → IsPacked (packed_in words) → ((values : List ℕ) → Packs (packed_in words) values → entry ≡ entry_in words (slice_index values slot) slot) → ((place : ℕ) → words place < 2 ^ 64)
-      → (i : ℕ) → i < slot + 1 → (entry_at (slice_set es slot entry) i).time < 2 ^ 63
-  times_next before packed is fits i short = dite (ℕ_discrete i slot)
-      (λ e. subst (λ (f : Entry). f.time < 2 ^ 63) (sym (ap (entry_at (slice_set es slot entry)) e ∙ (get_or-set_same es slot entry blank low ∙ is packed.0 packed.1))) (let word = fits (time_place slot) in omega arith))
-      (λ ne. subst (λ (f : Entry). f.time < 2 ^ 63) (sym (get_or-set_other es slot i entry blank ne)) (before i (omega arith)))
+-- ---- an entry that is put
+
+module _ (words values : List ℕ) (slot stamp nulls value : ℕ) (entry : Entry) (low : slot < RANGE_RECORDS) (long : length words ≡ FRAME_WORDS) (all : length values ≡ RANGE_RECORDS) where
+  abbrev with_stamp : List ℕ
+  with_stamp = slice_set words (FRAME_TIMES + slot) stamp
+
+  abbrev later : List ℕ
+  later = slice_set (slice_set words (FRAME_TIMES + slot) stamp) (FRAME_NULLS + slot / 64) nulls
+
+  abbrev numbers : List ℕ
+  numbers = slice_set values slot value
+
+  stamp_here : slice_index later (time_place slot) ≡ stamp
+  stamp_here = get_or-set_other with_stamp (FRAME_NULLS + slot / 64) (time_place slot) nulls 0 (λ e. omega arith) ∙ get_or-set_same words (FRAME_TIMES + slot) stamp 0 (omega arith)
+
+  stamp_else : (i : ℕ) → i < RANGE_RECORDS → i ≢ slot → slice_index later (time_place i) ≡ slice_index words (time_place i)
+  stamp_else i short ne = get_or-set_other with_stamp (FRAME_NULLS + slot / 64) (time_place i) nulls 0 (λ e. omega arith) ∙ get_or-set_other words (FRAME_TIMES + slot) (time_place i) stamp 0 (λ e. ne (omega arith))
+
+  stamped_long : length with_stamp ≡ FRAME_WORDS
+  stamped_long = length-set words (FRAME_TIMES + slot) stamp ∙ long
+
+  nulls_here : slice_index later (null_place slot) ≡ nulls
+  nulls_here = let l = stamped_long in get_or-set_same with_stamp (FRAME_NULLS + slot / 64) nulls 0 (omega arith)
+
+  module _ (is : stamp ≡ time_word entry.time (is_some entry.cell)) (number : value ≡ changed_number entry.cell)
+      (bits : (other : ℕ) → other < 64 → has_bit nulls other ≡ cond (eqb (slot % 64) other) (is_to_null entry.cell) (has_bit (slice_index with_stamp (FRAME_NULLS + slot / 64)) other)) where
+    null_here : has_bit (slice_index later (null_place slot)) (null_bit slot) ≡ is_to_null entry.cell
+    null_here = ap (λ (w : ℕ). has_bit w (null_bit slot)) nulls_here ∙ (bits (slot % 64) (omega arith) ∙ (λ i. cond (eq-eqb (slot % 64) (slot % 64) refl i) (is_to_null entry.cell) (has_bit (slice_index with_stamp (FRAME_NULLS + slot / 64)) (slot % 64))))
+
+    nulls_before : slice_index with_stamp (FRAME_NULLS + slot / 64) ≡ slice_index words (FRAME_NULLS + slot / 64)
+    nulls_before = get_or-set_other words (FRAME_TIMES + slot) (FRAME_NULLS + slot / 64) stamp 0 (λ e. omega arith)
+
+    null_else : (i : ℕ) → i < RANGE_RECORDS → i ≢ slot → has_bit (slice_index later (null_place i)) (null_bit i) ≡ has_bit (slice_index words (null_place i)) (null_bit i)
+    null_else i short ne = dite (ℕ_discrete (i / 64) (slot / 64))
+        (λ e. let other : slot % 64 ≢ i % 64 = (λ f. ne (omega arith)) in
+        ap (λ (q : ℕ). has_bit (slice_index later (FRAME_NULLS + q)) (i % 64)) e ∙ (ap (λ (w : ℕ). has_bit w (i % 64)) nulls_here ∙ (bits (i % 64) (omega arith)
+        ∙ ((λ k. cond (ne_eqb (slot % 64) (i % 64) other k) (is_to_null entry.cell) (has_bit (slice_index with_stamp (FRAME_NULLS + slot / 64)) (i % 64)))
+        ∙ (ap (λ (w : ℕ). has_bit w (i % 64)) nulls_before ∙ ap (λ (q : ℕ). has_bit (slice_index words (FRAME_NULLS + q)) (i % 64)) (sym e))))))
+        (λ f. ap (λ (w : ℕ). has_bit w (null_bit i)) (get_or-set_other with_stamp (FRAME_NULLS + slot / 64) (null_place i) nulls 0 (λ e. f (omega arith)) ∙ get_or-set_other words (FRAME_TIMES + slot) (null_place i) stamp 0 (λ e. omega arith)))
+
+    value_here : slice_index numbers slot ≡ value
+    value_here = get_or-set_same values slot value 0 (omega arith)
+
+    entry_here : entry_of (slice_index later) numbers slot ≡ entry
+    entry_here = said (slice_index later (time_place slot)) (slice_index later (null_place slot)) (null_bit slot) (slice_index numbers slot) entry.time entry.cell (stamp_here ∙ is) null_here (value_here ∙ number)
+
+    entry_else : (i : ℕ) → i < RANGE_RECORDS → i ≢ slot → entry_of (slice_index later) numbers i ≡ entry_of (slice_index words) values i
+    entry_else i short ne = λ k. record { cell = cond (is_present (stamp_else i short ne k)) (Some (cond (null_else i short ne k) None (Some (get_or-set_other values slot i value 0 ne k)))) None; time = time_of (stamp_else i short ne k) }
+
+    pub put_is : IsWith slot entry (entry_of (slice_index words) values) (entry_of (slice_index later) numbers)
+    put_is i short = dite (ℕ_discrete i slot)
+        (λ e. ap (entry_of (slice_index later) numbers) e ∙ (entry_here ∙ (λ k. cond (sym (eq-eqb slot i (sym e)) k) entry (entry_of (slice_index words) values i))))
+        (λ ne. entry_else i short ne ∙ (λ k. cond (sym (ne_eqb slot i (λ e. ne (sym e))) k) entry (entry_of (slice_index words) values i)))
+
+    pub put_numbers : AreNumbers (slice_index words) values → AreNumbers (slice_index later) numbers
+    put_numbers before i short = dite (ℕ_discrete i slot)
+        (λ e. ap (slice_index numbers) e ∙ (value_here ∙ (number ∙ (ap (λ (f : Entry). changed_number f.cell) (sym entry_here) ∙ ap (λ (j : ℕ). changed_number (entry_of (slice_index later) numbers j).cell) (sym e)))))
+        (λ ne. get_or-set_other values slot i value 0 ne ∙ (before i short ∙ ap (λ (f : Entry). changed_number f.cell) (sym (entry_else i short ne))))
+
+-- ---- the words of a page
+
+-- the first words are written
+pub record IsWritten (tps : ℕ) (packed before now : List ℕ) (n : ℕ) : Type 0 where
+  pub long : length now ≡ FRAME_WORDS
+  pub lineage : slice_index now 0 ≡ tps
+  pub values : (i : ℕ) → i < n → slice_index now (FRAME_VALUES + i) ≡ slice_index packed i
+  pub others : (place : ℕ) → FRAME_TIMES ≤ place → slice_index now place ≡ slice_index before place
+
+pub written_first : (tps : ℕ) (packed words : List ℕ) → length words ≡ FRAME_WORDS → IsWritten tps packed words (slice_set words 0 tps) 0
+written_first tps packed words long = record {
+  long = length-set words 0 tps ∙ long;
+  lineage = get_or-set_same words 0 tps 0 (omega arith);
+  values = λ i low. absurd (omega arith);
+  others = λ place high. get_or-set_other words 0 place tps 0 (λ e. omega arith);
+}
+
+pub written_next : (tps : ℕ) (packed before now : List ℕ) (n : ℕ) → n < RANGE_RECORDS + 1 → IsWritten tps packed before now n → IsWritten tps packed before (slice_set now (FRAME_VALUES + n) (slice_index packed n)) (n + 1)
+written_next tps packed before now n low is = record {
+  long = length-set now (FRAME_VALUES + n) (slice_index packed n) ∙ is.long;
+  lineage = get_or-set_other now (FRAME_VALUES + n) 0 (slice_index packed n) 0 (λ e. omega arith) ∙ is.lineage;
+  values = λ i short. let long = is.long in dite (ℕ_discrete i n)
+      (λ e. ap (λ (j : ℕ). slice_index (slice_set now (FRAME_VALUES + n) (slice_index packed n)) (FRAME_VALUES + j)) e ∙ (get_or-set_same now (FRAME_VALUES + n) (slice_index packed n) 0 (omega arith) ∙ ap (slice_index packed) (sym e)))
+      (λ ne. get_or-set_other now (FRAME_VALUES + n) (FRAME_VALUES + i) (slice_index packed n) 0 (λ e. ne (omega arith)) ∙ is.values i (omega arith));
+  others = λ place high. get_or-set_other now (FRAME_VALUES + n) place (slice_index packed n) 0 (λ e. omega arith) ∙ is.others place high;
+}
+
+module _ (tps : ℕ) (packed before now values : List ℕ) (n : ℕ) (all : n ≡ RANGE_RECORDS + 1) (is : IsWritten tps packed before now n) (long : length packed ≡ RANGE_RECORDS + 1) (packs : Packs packed values) (numbers : AreNumbers (slice_index before) values) where
+  packed_is : packed_in (slice_index now) ≡ packed
+  packed_is = same_number_lists (packed_in (slice_index now)) packed (length-listed (slice_index now) FRAME_VALUES (RANGE_RECORDS + 1) ∙ sym long)
+      (λ i low. let m = length-listed (slice_index now) FRAME_VALUES (RANGE_RECORDS + 1) in let short : i < RANGE_RECORDS + 1 = omega arith in get-listed (slice_index now) FRAME_VALUES (RANGE_RECORDS + 1) i 0 short ∙ is.values i (omega arith))
+
+  same_entry : (i : ℕ) → i < RANGE_RECORDS → entry_of (slice_index now) values i ≡ entry_of (slice_index before) values i
+  same_entry i low = let stamp = is.others (time_place i) (omega arith) in let null = is.others (null_place i) (omega arith) in
+      λ k. record { cell = cond (is_present (stamp k)) (Some (cell_of (null k) (null_bit i) (slice_index values i))) None; time = time_of (stamp k) }
+
+  says : (i : ℕ) → i < RANGE_RECORDS → IsEntry (slice_index now) (slice_index values i) i (entry_of (slice_index before) values i)
+  says i low = record { told = same_entry i low; number = λ cell e. numbers i low ∙ ap changed_number e }
+
+  packs_now : Packs (packed_in (slice_index now)) values
+  packs_now = subst (λ (ws : List ℕ). Packs ws values) (sym packed_is) packs
+
+  pub page_entries : HasEntries (slice_index now) (entry_of (slice_index before) values)
+  page_entries = record { values = values; packed = packs_now; each = says }
+
+  pub page_absent : AreAbsentZero (slice_index now)
+  page_absent others other_packs i low absent = ap (λ (xs : List ℕ). slice_index xs i) (stands_for_one (packed_in (slice_index now)) others values other_packs packs_now)
+      ∙ (numbers i low ∙ (ap (λ (f : Entry). changed_number f.cell) (sym (same_entry i low)) ∙ (λ k. changed_number (cond (absent k) (Some (cell_of (slice_index now (null_place i)) (null_bit i) (slice_index values i))) None))))

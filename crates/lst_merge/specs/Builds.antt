@@ -7,19 +7,23 @@ use Rattle.lst_layout.specs.Addresses.{address}
 use Rattle.lst_layout.specs.Words.{shown}
 use Rattle.lst_core_state.specs.declared.known.Known.{Known}
 use Rattle.lst_core_state.specs.declared.pages.MergerFrames.{MergerFrames}
+use Rattle.lst_core_state.specs.declared.pages.Retired.{Retired}
 use Rattle.lst_pages.specs.Frames.{tps_in}
 use Rattle.lst_pages.specs.Pages.{IsRightPage}
 use Rattle.lst_page_state.specs.declared.events.PageEvent.TheVariants.{StoreFrame}
 use Rattle.lst_page_state.specs.Lists.{HasFirst}
 use Rattle.lst_page_state.specs.Runs.{frame_known, IsSwapKnown}
 use Rattle.lst_page_state.specs.Settled.{settled_tails}
+use Rattle.lst_page_state.specs.Sound.{IsPage}
 use Rattle.lst_page_state.specs.Step.{IsClear}
+use Rattle.lst_retire.specs.Frames.{AreSpares}
 use Rattle.lst_rule.specs.declared.view.View.{View}
 use Rattle.lst_rule.specs.Rule.{Allowed}
 use Rattle.lst_rule.specs.Learned.{PageMade}
 use Rattle.lst_rule.specs.PageSteps.{StockIs, stock_of, frame_stored}
 use Rattle.lst_merge.specs.Inspections.{Inspects}
 use Rattle.lst_merge.specs.Runs.{tps_known}
+use Rattle.lst_merge.specs.Pages.{AreAbsentZero}
 
 -- the frame is the oldest retired one, and each session's pin was found not to hold it: words may be stored into it
 abbrev pub IsFree : View → ℕ → Type 0
@@ -53,17 +57,22 @@ pub record StoresFrame (v w : View) (f n : ℕ) (page : ℕ → ℕ) : Type 0 wh
 pub record IsBuilt (v : View) (range column frame end : ℕ) : Type 0 where
   pub built : (stock_of v).built ≡ Some frame
   pub tps : tps_in (frame_known (stock_of v) frame) ≡ end
+  -- an absent record has the value 0
+  pub zero : AreAbsentZero (frame_known (stock_of v) frame)
   pub right : (words : List ℕ) (known : ℕ → Known) (merger : Known) → Allowed v words known merger → IsRightPage column (settled_tails v.limits (shown v.limits words) range) (frame_known (stock_of v) frame)
 
 -- the frame being built may take the place of the page of the range and the column
 abbrev pub MayReplace : View → ℕ → ℕ → ℕ → Type 0
 MayReplace v range column frame = (words : List ℕ) (known : ℕ → Known) (merger : Known) → Allowed v words known merger → IsSwapKnown v.limits (stock_of v) (settled_tails v.limits (shown v.limits words) range) range column frame
 
--- the merger looked at tails, and then built the page in the frame, word by word. The page before keeps its TPS
+-- the merger looked at tails, and then built the page in the frame, word by word. Each page keeps its TPS
 pub record Builds (v w : View) (range column frame end : ℕ) : Type 0 where
   pub between : View
   pub inspects : Inspects v between v.limits.sessions
   pub page : ℕ → ℕ
   pub stores : StoresFrame between w frame FRAME_WORDS page
   pub is : IsBuilt w range column frame end
-  pub old : tps_known (stock_of w) range column ≡ tps_known (stock_of v) range column
+  pub old : (r c : ℕ) → IsPage v.limits r c → tps_known (stock_of w) r c ≡ tps_known (stock_of v) r c
+  -- the spares stay those of the merger, and so do the finds of pins that held a frame
+  pub spares : (spares : List Retired) → AreSpares v spares → AreSpares w spares
+  pub held : (stock_of w).held ≡ (stock_of v).held

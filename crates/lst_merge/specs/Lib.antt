@@ -3,3 +3,5 @@ pub mod Runs
 pub mod Pages
 pub mod Builds
 pub mod Swaps
+pub mod Merges
+pub mod Pairs

@@ -1,39 +1,53 @@
--- Entries in hand, and the words of a page that says them.
-use Rattle.std.specs.Prelude.{◌≡◌, ℕ, suc, ◌+◌, ◌*◌, ◌<◌, ◌^◌, List, [], ◌∷◌, cond, is_some, length, slice_index, slice_index_or}
-use Rattle.lst_layout.specs.declared.TheConstants.{RANGE_RECORDS, FRAME_VALUES}
+-- A page in hand, the entries that it says, and the words of a page.
+use Rattle.std.specs.Prelude.{◌≡◌, ℕ, suc, ◌+◌, ◌*◌, ◌<◌, List, [], ◌∷◌, eqb, false, cond, length, slice_index}
+use Rattle.lst_layout.specs.declared.TheConstants.{RANGE_RECORDS}
 use Rattle.lst_layout.specs.declared.limits.Limits.{Limits}
-use Rattle.lst_layout.specs.Frames.{lineage_place, time_place, null_place, null_bit}
-use Rattle.lst_bits.specs.Times.{time_word}
-use Rattle.lst_model.specs.Cells.{has_bit, is_to_null, changed_number}
+use Rattle.lst_bits.specs.Times.{is_present}
+use Rattle.lst_model.specs.Cells.{changed_number}
 use Rattle.lst_core_state.specs.declared.known.Known.{Known}
 use Rattle.lst_pack.specs.Forms.{Packs}
 use Rattle.lst_pages.specs.declared.entries.Entry.{Entry}
 use Rattle.lst_pages.specs.declared.tails.PageTail.{PageTail}
 use Rattle.lst_pages.specs.Tails.{touches}
-use Rattle.lst_pages.specs.Entries.{blank, entry_by, folded}
-use Rattle.lst_pages.specs.Frames.{packed_in, entry_in}
+use Rattle.lst_pages.specs.Entries.{entry_by, folded}
+use Rattle.lst_pages.specs.Frames.{packed_in, stamp_in, entry_in}
 use Rattle.lst_merge.specs.Runs.{KnowsSettled}
 
-abbrev pub entry_at : List Entry → ℕ → Entry
-entry_at entries i = slice_index_or entries i blank
+-- ---- a page in hand: the words of a frame, and the values of its records
+
+-- the entry that they say at a slot
+abbrev pub entry_of : (ℕ → ℕ) → List ℕ → ℕ → Entry
+entry_of words values i = entry_in words (slice_index values i) i
+
+-- the values are the numbers of the entries' cells, and 0 where an entry is absent
+abbrev pub AreNumbers : (ℕ → ℕ) → List ℕ → Type 0
+AreNumbers words values = (i : ℕ) → i < RANGE_RECORDS → slice_index values i ≡ changed_number (entry_of words values i).cell
+
+-- the values are those for which the packed words of the frame stand, and 0 where an entry is absent
+abbrev pub AreValuesIn : (ℕ → ℕ) → List ℕ → Type 0
+AreValuesIn words values = (packed : List ℕ) → Packs (packed_in words) packed → (i : ℕ) → i < RANGE_RECORDS → slice_index values i ≡ cond (is_present (stamp_in words i)) (slice_index packed i) 0
 
 -- the entries are those that the words of a frame say, with the values for which its packed words stand
-abbrev pub AreEntriesIn : (ℕ → ℕ) → List Entry → Type 0
-AreEntriesIn words entries = (values : List ℕ) → Packs (packed_in words) values → (i : ℕ) → i < RANGE_RECORDS → entry_at entries i ≡ entry_in words (slice_index values i) i
+abbrev pub AreEntriesIn : (ℕ → ℕ) → (ℕ → Entry) → Type 0
+AreEntriesIn words entries = (values : List ℕ) → Packs (packed_in words) values → (i : ℕ) → i < RANGE_RECORDS → entries i ≡ entry_in words (slice_index values i) i
 
--- each time fits a time word
-abbrev pub HaveTimes : List Entry → Type 0
-HaveTimes entries = (i : ℕ) → i < RANGE_RECORDS → (entry_at entries i).time < 2 ^ 63
+-- the value of each absent entry is 0
+abbrev pub AreAbsentZero : (ℕ → ℕ) → Type 0
+AreAbsentZero words = (values : List ℕ) → Packs (packed_in words) values → (i : ℕ) → i < RANGE_RECORDS → is_present (stamp_in words i) ≡ false → slice_index values i ≡ 0
+
+-- the entry at one slot is this one, and the others stay
+abbrev pub IsWith : ℕ → Entry → (ℕ → Entry) → (ℕ → Entry) → Type 0
+IsWith slot entry before after = (i : ℕ) → i < RANGE_RECORDS → after i ≡ cond (eqb slot i) entry (before i)
 
 -- ---- folds
 
 -- the entries of column c after one tail more
-abbrev pub Folds : ℕ → PageTail → List Entry → List Entry → Type 0
-Folds c t before after = (i : ℕ) → i < RANGE_RECORDS → entry_at after i ≡ cond (touches c i t) (entry_by c t) (entry_at before i)
+abbrev pub Folds : ℕ → PageTail → (ℕ → Entry) → (ℕ → Entry) → Type 0
+Folds c t before after = (i : ℕ) → i < RANGE_RECORDS → after i ≡ cond (touches c i t) (entry_by c t) (before i)
 
 -- and after these
-abbrev pub FoldsAll : ℕ → List PageTail → List Entry → List Entry → Type 0
-FoldsAll c ts before after = (i : ℕ) → i < RANGE_RECORDS → entry_at after i ≡ folded (touches c i) c (entry_at before i) ts
+abbrev pub FoldsAll : ℕ → List PageTail → (ℕ → Entry) → (ℕ → Entry) → Type 0
+FoldsAll c ts before after = (i : ℕ) → i < RANGE_RECORDS → after i ≡ folded (touches c i) c (before i) ts
 
 -- these are the tails of the range after number p, each known to be settled
 abbrev pub AreKnown : Limits → Known → ℕ → ℕ → List PageTail → Type 0
@@ -41,21 +55,8 @@ AreKnown l k range p [] = Unit {0}
 AreKnown l k range p (t ∷ ts) = KnowsSettled k (range * l.tails + suc p) t × AreKnown l k range (suc p) ts
 
 -- the tails of the range after number p, up to number n, are known to be settled, and were folded
-pub record FoldsRun (l : Limits) (k : Known) (range c p n : ℕ) (before after : List Entry) : Type 0 where
+pub record FoldsRun (l : Limits) (k : Known) (range c p n : ℕ) (before after : ℕ → Entry) : Type 0 where
   pub tails : List PageTail
   pub known : AreKnown l k range p tails
   pub long : p + length tails ≡ n
   pub folds : FoldsAll c tails before after
-
--- ---- the words of a page
-
--- the values of these entries: the number of each cell, and 0 where an entry is absent
-pub record AreNumbers (entries : List Entry) (values : List ℕ) : Type 0 where
-  pub each : (i : ℕ) → i < RANGE_RECORDS → slice_index values i ≡ changed_number (entry_at entries i).cell
-
--- the word at a place of the page with this TPS, these packed values and these entries
-pub record IsPageWord (tps : ℕ) (packed : List ℕ) (entries : List Entry) (place word : ℕ) : Type 0 where
-  pub lineage : place ≡ lineage_place → word ≡ tps
-  pub value : (i : ℕ) → i < RANGE_RECORDS + 1 → place ≡ FRAME_VALUES + i → word ≡ slice_index packed i
-  pub time : (i : ℕ) → i < RANGE_RECORDS → place ≡ time_place i → word ≡ time_word (entry_at entries i).time (is_some (entry_at entries i).cell)
-  pub null : (i : ℕ) → i < RANGE_RECORDS → place ≡ null_place i → has_bit word (null_bit i) ≡ is_to_null (entry_at entries i).cell

@@ -1,5 +1,5 @@
 //! The build of a page.
-ghost use Rattle.std.specs.Prelude.{◌≡◌, ◌<◌, ◌≤◌, true};
+ghost use Rattle.std.specs.Prelude.{◌≡◌, ◌<◌, ◌≤◌, true, slice_index};
 ghost use Rattle.lst_page_state.specs.Runs.{frame_known, page_known};
 ghost use Rattle.lst_page_state.specs.Sound.{IsPage};
 ghost use Rattle.lst_rule.specs.Rule.{hosts};
@@ -8,16 +8,15 @@ ghost use Rattle.lst_rule.specs.PageSteps.{stock_of, StockIs};
 ghost use Rattle.lst_rule.specs.Stores.{IsSeatOf};
 ghost use Rattle.lst_merge.specs.Inspections.{merger_of};
 ghost use Rattle.lst_merge.specs.Runs.{tps_known, AreSettled};
-ghost use Rattle.lst_merge.specs.Pages.{AreEntriesIn, HaveTimes};
+ghost use Rattle.lst_merge.specs.Pages.{entry_of, AreEntriesIn, AreNumbers};
 ghost use Rattle.lst_merge.specs.Builds.{IsFree, Builds, MayReplace};
 
-use crate::entries::read_entries;
+use crate::entries::read_values;
 use crate::folds::fold_run;
 use crate::frames::{load_words, page_frame, store_words};
 use crate::runs::Run;
 use crate::words::write_page;
 use lst_layout::FRAME_WORDS;
-use lst_pages::Entry;
 use lst_rule::{Seat, Store};
 
 const WORDS: usize = FRAME_WORDS as usize;
@@ -41,28 +40,34 @@ pub fn build(store: &Store, seat: &mut Seat, frame: u32, range: u32, column: u32
     ensures ready { run.now.tps < run.now.end → MayReplace seat.new.view range column frame }
 {
     seat.consider();
-    let mut entries = [Entry::blank(); 256];
-    load_entries(store, seat, range, column, &mut entries);
-    fold_run(store, seat, range, column, run, &mut entries);
     let mut words = [0; WORDS];
-    write_page(run.end, &entries, &mut words);
+    let mut values = [0; 256];
+    load_page(store, seat, range, column, &mut words, &mut values);
+    fold_run(store, seat, range, column, run, &mut words, &mut values);
+    write_page(run.end, &values, &mut words);
     store_words(store, seat, frame, &words);
 }
 
-/// Loads the entries of a page.
-fn load_entries(store: &Store, seat: &mut Seat, range: u32, column: u32, entries: &mut [Entry; 256])
+/// Takes a page in hand: loads the words of its frame, and reads the values off them.
+fn load_page(
+    store: &Store,
+    seat: &mut Seat,
+    range: u32,
+    column: u32,
+    words: &mut [u64; WORDS],
+    values: &mut [u64; 256],
+)
     requires seat { IsSeatOf store.now seat.old }
     requires host { hosts seat.old.view seat.old.view.limits.sessions ≡ true }
     requires page { IsPage seat.old.view.limits range column }
     ensures seat { IsSeatOf store.now seat.new }
     ensures view { StockIs seat.old.view seat.new.view (stock_of seat.old.view) }
     ensures kept { Kept seat.old.view seat.new.view }
-    ensures entries { AreEntriesIn (frame_known (stock_of seat.old.view) (page_known (stock_of seat.old.view) range column)) entries.new }
-    ensures times { HaveTimes entries.new }
+    ensures entries { AreEntriesIn (frame_known (stock_of seat.old.view) (page_known (stock_of seat.old.view) range column)) (entry_of (slice_index words.new) values.new) }
+    ensures numbers { AreNumbers (slice_index words.new) values.new }
 {
     seat.consider();
     let frame = page_frame(store, seat, range, column);
-    let mut words = [0; WORDS];
-    load_words(store, seat, frame, &mut words);
-    read_entries(&words, entries);
+    load_words(store, seat, frame, words);
+    read_values(words, values);
 }

@@ -1,5 +1,5 @@
-//! Tails folded into the entries of a page.
-ghost use Rattle.std.specs.Prelude.{◌≡◌, ◌+◌, ◌*◌, ◌<◌, ◌≤◌, ◌^◌, true};
+//! Tails folded into a page in hand.
+ghost use Rattle.std.specs.Prelude.{◌≡◌, ◌+◌, ◌*◌, ◌<◌, ◌≤◌, ◌^◌, true, slice_index};
 ghost use Rattle.lst_core_state.specs.Cells.{tail_count};
 ghost use Rattle.lst_page_state.specs.Sound.{IsPage};
 ghost use Rattle.lst_pages.specs.declared.tails.PageTail.{PageTail};
@@ -7,22 +7,27 @@ ghost use Rattle.lst_rule.specs.Rule.{hosts};
 ghost use Rattle.lst_rule.specs.Stores.{IsSeatOf};
 ghost use Rattle.lst_merge.specs.Inspections.{merger_of, Inspects};
 ghost use Rattle.lst_merge.specs.Runs.{KnowsSettled, HasSettled, SettledAt, AreSettled};
-ghost use Rattle.lst_merge.specs.Pages.{HaveTimes, Folds, FoldsRun};
+ghost use Rattle.lst_merge.specs.Pages.{entry_of, AreNumbers, Folds, FoldsRun};
 
+use crate::entries::put_entry;
 use crate::runs::Run;
 use crate::tails::{cell_of, encoding_of, time_of, touches};
+use lst_layout::FRAME_WORDS;
 use lst_pages::Entry;
 use lst_rule::{Seat, Store};
 use lst_sights::tail_of;
 
-/// Folds the tails of a run into the entries of a column, one after another.
+const WORDS: usize = FRAME_WORDS as usize;
+
+/// Folds the tails of a run into a page in hand of a column, one after another.
 pub(crate) fn fold_run(
     store: &Store,
     seat: &mut Seat,
     range: u32,
     column: u32,
     run: &Run,
-    entries: &mut [Entry; 256],
+    words: &mut [u64; WORDS],
+    values: &mut [u64; 256],
 )
     requires seat { IsSeatOf store.now seat.old }
     requires host { hosts seat.old.view seat.old.view.limits.sessions ≡ true }
@@ -30,51 +35,59 @@ pub(crate) fn fold_run(
     requires from { run.now.tps ≤ run.now.end }
     requires few { run.now.end ≤ seat.old.view.limits.tails }
     requires settled { AreSettled seat.old.view.limits (merger_of seat.old.view) range run.now.tps run.now.end }
-    requires times { HaveTimes entries.old }
+    requires numbers { AreNumbers (slice_index words.old) values.old }
     ensures seat { IsSeatOf store.now seat.new }
     ensures inspects { Inspects seat.old.view seat.new.view seat.old.view.limits.sessions }
-    ensures folds { FoldsRun seat.old.view.limits (merger_of seat.new.view) range column run.now.tps run.now.end entries.old entries.new }
-    ensures times { HaveTimes entries.new }
+    ensures folds { FoldsRun seat.old.view.limits (merger_of seat.new.view) range column run.now.tps run.now.end (entry_of (slice_index words.old) values.old) (entry_of (slice_index words.new) values.new) }
+    ensures numbers { AreNumbers (slice_index words.new) values.new }
 {
     let mut number = run.tps;
     while number < run.end {
         number += 1;
         let tail = tail_of(store, range, number);
-        fold_tail(store, seat, tail, column, entries);
+        fold_tail(store, seat, tail, column, words, values);
     }
 }
 
-/// Folds a settled tail into the entries of a column.
-fn fold_tail(store: &Store, seat: &mut Seat, tail: u32, column: u32, entries: &mut [Entry; 256])
+/// Folds a settled tail into a page in hand of a column.
+fn fold_tail(
+    store: &Store,
+    seat: &mut Seat,
+    tail: u32,
+    column: u32,
+    words: &mut [u64; WORDS],
+    values: &mut [u64; 256],
+)
     requires seat { IsSeatOf store.now seat.old }
     requires host { hosts seat.old.view seat.old.view.limits.sessions ≡ true }
     requires some { 0 < tail }
     requires few { tail ≤ tail_count store.now.layout.limits }
     requires column { column < store.now.layout.limits.columns }
     requires settled { HasSettled (merger_of seat.old.view) tail }
-    requires times { HaveTimes entries.old }
+    requires numbers { AreNumbers (slice_index words.old) values.old }
     ensures seat { IsSeatOf store.now seat.new }
     ensures inspects { Inspects seat.old.view seat.new.view seat.old.view.limits.sessions }
-    ensures folds { (t : PageTail) → KnowsSettled (merger_of seat.old.view) tail t → Folds column t entries.old entries.new }
-    ensures times { HaveTimes entries.new }
+    ensures folds { (t : PageTail) → KnowsSettled (merger_of seat.old.view) tail t → Folds column t (entry_of (slice_index words.old) values.old) (entry_of (slice_index words.new) values.new) }
+    ensures numbers { AreNumbers (slice_index words.new) values.new }
 {
     let Some(time) = time_of(store, seat, tail) else {
         unreachable!()
     };
     seat.consider();
     if time > 0 {
-        fold_committed(store, seat, tail, time, column, entries);
+        fold_committed(store, seat, tail, time, column, words, values);
     }
 }
 
-/// Folds a tail that was committed at this time into the entries of a column.
+/// Folds a tail that was committed at this time into a page in hand of a column.
 fn fold_committed(
     store: &Store,
     seat: &mut Seat,
     tail: u32,
     time: u64,
     column: u32,
-    entries: &mut [Entry; 256],
+    words: &mut [u64; WORDS],
+    values: &mut [u64; 256],
 )
     requires seat { IsSeatOf store.now seat.old }
     requires host { hosts seat.old.view seat.old.view.limits.sessions ≡ true }
@@ -83,16 +96,16 @@ fn fold_committed(
     requires column { column < store.now.layout.limits.columns }
     requires time { (0 < time) × (time < 2 ^ 63) }
     requires settled { SettledAt (merger_of seat.old.view) tail time }
-    requires times { HaveTimes entries.old }
+    requires numbers { AreNumbers (slice_index words.old) values.old }
     ensures seat { IsSeatOf store.now seat.new }
     ensures inspects { Inspects seat.old.view seat.new.view seat.old.view.limits.sessions }
-    ensures folds { (t : PageTail) → KnowsSettled (merger_of seat.old.view) tail t → Folds column t entries.old entries.new }
-    ensures times { HaveTimes entries.new }
+    ensures folds { (t : PageTail) → KnowsSettled (merger_of seat.old.view) tail t → Folds column t (entry_of (slice_index words.old) values.old) (entry_of (slice_index words.new) values.new) }
+    ensures numbers { AreNumbers (slice_index words.new) values.new }
 {
     seat.consider();
     let encoding = encoding_of(store, seat, tail);
     if touches(encoding, column) {
         let cell = cell_of(store, seat, tail, encoding, column);
-        entries[encoding.slot as usize] = Entry { cell, time };
+        put_entry(words, values, encoding.slot as usize, Entry { cell, time });
     }
 }

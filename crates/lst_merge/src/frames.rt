@@ -30,7 +30,7 @@ pub(crate) fn page_frame(store: &Store, seat: &mut Seat, range: u32, column: u32
     load_directory(store, seat, merger, range, column) as u32
 }
 
-/// Loads the words of a frame. They are those that the merger knows.
+/// Loads the words of a frame, two a turn. They are those that the merger knows.
 pub(crate) fn load_words(store: &Store, seat: &mut Seat, frame: u32, words: &mut [u64; WORDS])
     requires seat { IsSeatOf store.now seat.old }
     requires host { hosts seat.old.view seat.old.view.limits.sessions ≡ true }
@@ -44,11 +44,12 @@ pub(crate) fn load_words(store: &Store, seat: &mut Seat, frame: u32, words: &mut
     let mut place = 0;
     while place < FRAME_WORDS {
         words[place as usize] = load_frame(store, seat, merger, frame, place);
-        place += 1;
+        words[place as usize + 1] = load_frame(store, seat, merger, frame, place + 1);
+        place += 2;
     }
 }
 
-/// Stores words into a free frame, one after another.
+/// Stores words into a free frame, one after another, two a turn.
 pub(crate) fn store_words(store: &Store, seat: &mut Seat, frame: u32, words: &[u64; WORDS])
     requires seat { IsSeatOf store.now seat.old }
     requires host { hosts seat.old.view seat.old.view.limits.sessions ≡ true }
@@ -60,6 +61,7 @@ pub(crate) fn store_words(store: &Store, seat: &mut Seat, frame: u32, words: &[u
     let mut place = 0;
     while place < FRAME_WORDS {
         step_store_frame(store, seat, frame, place, words[place as usize]);
-        place += 1;
+        step_store_frame(store, seat, frame, place + 1, words[place as usize + 1]);
+        place += 2;
     }
 }

@@ -4,16 +4,20 @@
 //! into the directory word. Nothing else that others read changes: indirection words and tails stay as they are.
 #![tactic(auto)]
 
+mod answers;
 mod builds;
 mod entries;
 mod folds;
 mod frames;
+mod merges;
 mod runs;
 mod swaps;
 mod tails;
 mod words;
 
+pub use answers::Merge;
 pub use builds::build;
+pub use merges::merge;
 pub use runs::{Run, run_end};
 pub use swaps::swap;
 

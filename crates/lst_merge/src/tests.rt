@@ -1,11 +1,28 @@
-//! A range without tails, and null bits.
-use crate::words::null_word;
-use crate::{Run, run_end};
-use lst_layout::Limits;
+//! A store without tails, and pages in hand.
+ghost use Rattle.std.specs.Prelude.{◌<◌, IfOk};
+ghost use Rattle.lst_merge.specs.Pairs.{IsPair};
+
+use crate::entries::{put_entry, read_values};
+use crate::words::write_page;
+use crate::{Merge, Run, build, merge, run_end};
+use lst_core_state::Retired;
+use lst_layout::{FRAME_NULLS, FRAME_TIMES, FRAME_VALUES, FRAME_WORDS, Limits};
 use lst_pages::Entry;
-use lst_rule::open_store;
+use lst_retire::{Spares, free_frame, opening_spares};
+use lst_rule::{Seat, Store, open_store};
+use std::alloc::Global;
+use std::process::Abort;
 use std::test::Fail;
 
+const WORDS: usize = FRAME_WORDS as usize;
+
+const VALUES: usize = FRAME_VALUES as usize;
+
+const TIMES: usize = FRAME_TIMES as usize;
+
+const NULLS: usize = FRAME_NULLS as usize;
+
+/// Two pages, whose frames are 0 and 1, and a spare frame.
 const SMALL: Limits = Limits {
     columns: 1,
     ranges: 2,
@@ -16,27 +33,166 @@ const SMALL: Limits = Limits {
     indexed: 0,
 };
 
-#[test]
-fn a_range_without_tails_has_an_empty_run(rt: HostRuntime) -> Result<(), Fail> {
-    let Ok(layout) = SMALL.check() else {
+fn open_pair(alloc: Global) -> Result<(Store, Seat, Spares), Fail>
+    ensures { IfOk result (λ opened. IsPair opened.0 opened.1 opened.2.items) }
+{
+    let limits = SMALL;
+    let Ok(layout) = limits.check() else {
         return Err(Fail::from("the small limits are in range"));
     };
-    let (store, mut seat) = open_store(rt.alloc(), &layout)?;
-    assert_eq!(rt; run_end(&store, &mut seat, 1, 0), Run { tps: 0, end: 0 });
+    let spares = opening_spares(&layout.limits);
+    let (store, seat) = open_store(alloc, &layout)?;
+    Ok((store, seat, spares))
+}
+
+/// What a merge of the page of a range comes to.
+fn merged(store: &Store, seat: &mut Seat, spares: &mut Spares, range: u32) -> Merge
+    requires pair { IsPair store.now seat.old spares.old.items }
+    requires low { range < 2 }
+    ensures pair { IsPair store.now seat.new spares.new.items }
+{
+    merge(store, seat, spares, range, 0)
+}
+
+/// The run of the page of a range.
+fn run_of(store: &Store, seat: &mut Seat, spares: &Spares, range: u32) -> Run
+    requires pair { IsPair store.now seat.old spares.now.items }
+    requires low { range < 2 }
+    ensures pair { IsPair store.now seat.new spares.now.items }
+{
+    let _ = spares;
+    run_end(store, seat, range, 0)
+}
+
+#[test]
+fn a_range_without_tails_has_an_empty_run(rt: HostRuntime) -> Result<(), Fail> {
+    let (store, mut seat, spares) = open_pair(rt.alloc())?;
+    assert_eq!(rt;
+        run_of(&store, &mut seat, &spares, 1),
+        Run { tps: 0, end: 0 }
+    );
     Ok(())
 }
 
 #[test]
+fn an_opening_store_has_nothing_to_merge(rt: HostRuntime) -> Result<(), Fail> {
+    let (store, mut seat, mut spares) = open_pair(rt.alloc())?;
+    assert_eq!(rt;
+        merged(&store, &mut seat, &mut spares, 0),
+        Merge::Idle { tps: 0 }
+    );
+    assert_eq!(rt;
+        merged(&store, &mut seat, &mut spares, 1),
+        Merge::Idle { tps: 0 }
+    );
+    assert_eq!(rt;
+        merged(&store, &mut seat, &mut spares, 0),
+        Merge::Idle { tps: 0 }
+    );
+    assert_eq!(rt; spares.len(), 1);
+    assert_eq!(rt;
+        spares.first().copied(),
+        Some(Retired { frame: 2, epoch: 0 })
+    );
+    assert_eq!(rt;
+        run_of(&store, &mut seat, &spares, 0),
+        Run { tps: 0, end: 0 }
+    );
+    Ok(())
+}
+
+/// Builds the page of a range anew, without tails, in a free frame; tells whether there was one.
+fn built(store: &Store, seat: &mut Seat, spares: &mut Spares, range: u32) -> bool
+    requires pair { IsPair store.now seat.old spares.old.items }
+    requires low { range < 2 }
+{
+    seat.consider();
+    let run = run_end(store, seat, range, 0);
+    match free_frame(store, seat, spares) {
+        Err(_) => false,
+        Ok(frame) => {
+            build(store, seat, frame, range, 0, &run);
+            true
+        }
+    }
+}
+
+#[test]
+fn a_page_without_tails_is_built_in_a_spare_frame(rt: HostRuntime) -> Result<(), Fail> {
+    let (store, mut seat, mut spares) = open_pair(rt.alloc())?;
+    assert!(rt; built(&store, &mut seat, &mut spares, 1));
+    Ok(())
+}
+
+/// Makes the words of a page with these numbers, of TPS 3 and times 9, and reads the values off them. Tells the first packed word.
+fn form_of(rt: &impl Abort, numbers: &[u64; 256]) -> u64 {
+    let mut words = [0; WORDS];
+    let mut values = [0; 256];
+    for slot in 0..256 {
+        let entry = Entry {
+            cell: Some(Some(numbers[slot])),
+            time: 9,
+        };
+        put_entry(&mut words, &mut values, slot, entry);
+    }
+    write_page(3, &values, &mut words);
+    let mut read = [7; 256];
+    read_values(&words, &mut read);
+    for slot in 0..256 {
+        assert_eq!(rt; read[slot], numbers[slot]);
+        assert_eq!(rt; words[TIMES + slot], 19);
+    }
+    assert_eq!(rt; words[0], 3);
+    words[VALUES]
+}
+
+/// At each place a number that is drawn: one of `count`, `step` apart.
+fn drawn(count: u64, step: u64) -> [u64; 256]
+    requires { 0 < count }
+{
+    let mut numbers = [5; 256];
+    let mut state: u64 = 7;
+    for slot in 0..256 {
+        state = state
+            .wrapping_mul(6364136223846793005)
+            .wrapping_add(1442695040888963407);
+        numbers[slot] = ((state >> 31) % count).wrapping_mul(step);
+    }
+    numbers
+}
+
+#[test]
+fn a_page_of_each_form_says_its_numbers(rt: HostRuntime) {
+    assert_eq!(rt; form_of(&rt, &[5; 256]), 1);
+    assert_eq!(rt; form_of(&rt, &drawn(4, 1 << 40)), 2 + 8 * 4);
+    assert_eq!(rt; form_of(&rt, &drawn(16, 1 << 40)), 2 + 8 * 16);
+    let mut numbers = [0; 256];
+    for slot in 0..256 {
+        numbers[slot] = (slot as u64 / 8) << 40;
+    }
+    assert_eq!(rt; form_of(&rt, &numbers), 3 + 8 * 32);
+    assert_eq!(rt; form_of(&rt, &drawn(256, 1)), 4 + 8 * 8);
+    assert_eq!(rt; form_of(&rt, &drawn(1 << 16, 1)), 4 + 8 * 16);
+    assert_eq!(rt; form_of(&rt, &drawn(1 << 40, 1)), 0);
+}
+
+#[test]
 fn each_null_has_its_bit(rt: HostRuntime) {
-    let mut entries = [Entry::blank(); 256];
-    entries[70] = Entry {
+    let mut words = [0; WORDS];
+    let mut values = [0; 256];
+    let null = Entry {
         cell: Some(None),
         time: 5,
     };
-    entries[71] = Entry {
+    let nought = Entry {
         cell: Some(Some(0)),
         time: 5,
     };
-    assert_eq!(rt; null_word(&entries, 1), 64);
-    assert_eq!(rt; null_word(&entries, 0), 0);
+    put_entry(&mut words, &mut values, 70, null);
+    put_entry(&mut words, &mut values, 71, nought);
+    assert_eq!(rt; (words[NULLS], words[NULLS + 1]), (0, 64));
+    put_entry(&mut words, &mut values, 71, null);
+    assert_eq!(rt; (words[NULLS], words[NULLS + 1]), (0, 192));
+    put_entry(&mut words, &mut values, 70, nought);
+    assert_eq!(rt; (words[NULLS], words[NULLS + 1]), (0, 128));
 }

@@ -1,24 +1,27 @@
 -- The oldest retired frame, once pins were looked at.
-use Rattle.std.proofs.Common.{◌≡◌, ℕ, ◌<◌, List, [], ◌∷◌, ◌++◌, true, Some, sym, subst, ap, ◌∙◌, arith, length, slice_get}
+use Rattle.std.proofs.Common.{◌≡◌, ℕ, suc, Bool, ◌<◌, ◌≤◌, List, [], ◌∷◌, ◌++◌, true, false, Some, sym, subst, ap, ◌∙◌, arith, length, slice_get, nat_lt, ◌||◌, ne_eqb}
+use Rattle.std.proofs.lemmas.Bool.{le-ltb}
 use Rattle.std.specs.List.{Contains}
+use Rattle.lst_layout.specs.Words.{shown}
 use Rattle.lst_layout.specs.declared.limits.Limits.{Limits}
 use Rattle.lst_core_state.specs.declared.known.Known.{Known}
 use Rattle.lst_core_state.specs.declared.pages.MergerFrames.{MergerFrames}
 use Rattle.lst_core_state.specs.declared.pages.Retired.{Retired}
 use Rattle.lst_page_state.specs.declared.events.PageEvent.TheVariants.{StoreFrame}
-use Rattle.lst_page_state.specs.Known.{pages_in}
-use Rattle.lst_page_state.specs.Lists.{HasFirst}
+use Rattle.lst_page_state.specs.Known.{pages_in, IsHeld}
+use Rattle.lst_page_state.specs.Lists.{Every, HasFirst}
 use Rattle.lst_page_state.proofs.Moves.{none_some}
-use Rattle.lst_page_state.specs.Sound.{late}
+use Rattle.lst_page_state.specs.Sound.{late, Rise}
 use Rattle.lst_page_state.specs.State.{oldest_epoch}
-use Rattle.lst_page_state.specs.Step.{Enabled, IsClear}
+use Rattle.lst_page_state.specs.Step.{Enabled, IsClear, lets_go}
 use Rattle.lst_core_state.specs.State.{state_over}
 use Rattle.lst_core_state.proofs.ListedPart.{contains_last}
 use Rattle.lst_rule.specs.declared.view.View.{View}
 use Rattle.lst_rule.specs.Rule.{hosts, Allowed}
 use Rattle.lst_rule.specs.Learned.{Possible}
 use Rattle.lst_rule.specs.PageSteps.{StockIs, stock_of}
-use Rattle.lst_rule.proofs.Paging.{stock_is, pages_safe}
+use Rattle.lst_rule.proofs.Learning.{possible_after}
+use Rattle.lst_rule.proofs.Paging.{stock_is, epoch_is, pages_safe}
 use Rattle.lst_retire.specs.Frames.{AreSpares, pins_found, NoPinHolds, FirstPinHolds, let_go_by, IsUnused, FindsFree, FindsHeld}
 use Rattle.lst_retire.proofs.Stocks.{looks_rest, pins_let_go, pins_held, all_clear}
 use Rattle.lst_retire.proofs.Looking.{stock_now, still_hosts}
@@ -68,6 +71,16 @@ is_unused w f hosted first clear = record {
     ready : (words : List ℕ) (known : ℕ → Known) (merger : Known) → Allowed w words known merger → Enabled (pages_in (state_over w.limits words known merger)) (StoreFrame f 0 0)
     ready words known merger may = subst (λ (m : MergerFrames). HasFirst (λ r. r.frame ≡ f) m.retired × IsClear w.limits m) (stock_is w words known merger may hosted) (first, clear)
 
+-- a set pin holds what was retired at its epoch plus one or later
+sets_hold : (pin e : ℕ) → 0 < pin → pin ≤ e → lets_go pin e ≡ false
+sets_hold pin e some low = ap (λ (b : Bool). b || nat_lt e pin) (ne_eqb pin 0 (λ none. omega arith)) ∙ le-ltb e pin low
+
+-- so one that holds the oldest of the retired frames holds each of them
+all_held : (pin : ℕ) (rs : List Retired) (e : ℕ) → 0 < pin → pin ≤ oldest_epoch rs → Rise rs e → Every (λ r. lets_go pin r.epoch ≡ false) rs
+all_held pin [] e some low rise = tt
+all_held pin (r ∷ []) e some low rise = (sets_hold pin r.epoch some low, tt)
+all_held pin (r ∷ q ∷ rs) e some low rise = let up = rise.0 in (sets_hold pin r.epoch some low, all_held pin (q ∷ rs) e some (omega arith) rise.2)
+
 module _ (v w : View) (spares : List Retired) (oldest : Retired) (hosted : hosts v v.limits.sessions ≡ true) (are : AreSpares v spares) (first : HasFirst (λ r. r ≡ oldest) spares) where
   abbrev m : MergerFrames
   m = stock_of v
@@ -109,11 +122,13 @@ module _ (v w : View) (spares : List Retired) (oldest : Retired) (hosted : hosts
       unused = is_unused w oldest.frame host is_oldest clear;
     }
 
-  pub holds : (s : ℕ) → FirstPinHolds v w oldest.epoch s → FindsHeld v w s
-  holds s h = record {
+  pub holds : (s : ℕ) → Possible v → FirstPinHolds v w oldest.epoch s → FindsHeld v w s
+  holds s p h = record {
     looks = looks;
     view = view;
-    says = λ words known merger may. may.pages.held s (subst (λ (k : MergerFrames). Contains k.held s) (sym (stock_now v w after view) ∙ stock_is w words known merger may host) (contains_last m.held s));
+    all = all_held (looks.found s) m.retired (shown v.limits p.words).epoch looks.pinned looks.below rise;
+    swaps = subst (λ (e : ℕ). w.limits.spare ≤ e) (sym (epoch_is w q.words q.known q.merger q.allowed host)) (says q.words q.known q.merger q.allowed).swaps;
+    says = says;
   }
     where
       looks : FirstPinHolds v w (oldest_epoch m.retired) s
@@ -127,3 +142,13 @@ module _ (v w : View) (spares : List Retired) (oldest : Retired) (hosted : hosts
 
       host : hosts w w.limits.sessions ≡ true
       host = ap (λ (l : Limits). hosts w l.sessions) view.limits ∙ still_hosts v w after view v.limits.sessions hosted
+
+      says : (words : List ℕ) (known : ℕ → Known) (merger : Known) → Allowed w words known merger → IsHeld w.limits (shown w.limits words).epoch known s
+      says words known merger may = may.pages.held s (subst (λ (k : MergerFrames). Contains k.held s) (sym (stock_now v w after view) ∙ stock_is w words known merger may host) (contains_last m.held s))
+
+      -- the last look tells a state in which w is possible
+      q : Possible w
+      q = subst Possible looks.looks.last (possible_after (looks.looks.between s) (looks.looks.between (suc s)) _ _ _ (looks.looks.each s (omega arith)).met.made.told)
+
+      rise : Rise m.retired (shown v.limits p.words).epoch
+      rise = subst (λ (rs : List Retired). Rise rs (shown v.limits p.words).epoch) (ap (λ (k : MergerFrames). k.retired) (sym (stock_is v p.words p.known p.merger p.allowed hosted))) p.allowed.pages.pages.retirement.rise

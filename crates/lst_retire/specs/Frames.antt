@@ -7,7 +7,7 @@ use Rattle.lst_core_state.specs.declared.pages.MergerFrames.{MergerFrames}
 use Rattle.lst_core_state.specs.declared.pages.Retired.{Retired}
 use Rattle.lst_page_state.specs.declared.events.PageEvent.TheVariants.{StoreFrame}
 use Rattle.lst_page_state.specs.Known.{PageEnabled, IsHeld}
-use Rattle.lst_page_state.specs.Lists.{HasFirst}
+use Rattle.lst_page_state.specs.Lists.{Every, HasFirst}
 use Rattle.lst_page_state.specs.Sound.{Outside}
 use Rattle.lst_page_state.specs.State.{hand_of, oldest_epoch}
 use Rattle.lst_page_state.specs.Step.{IsClear, IsWithin, lets_go}
@@ -92,9 +92,13 @@ pub record FindsFree (v w : View) (frame : ℕ) : Type 0 where
   pub may_store : (place value : ℕ) → PageEnabled w.limits (knows w w.limits.sessions).pages (StoreFrame frame place value)
   pub unused : IsUnused w frame
 
--- the merger has looked at the pins of the sessions up to s, and that of s is the first that holds the oldest retired frame
+-- the merger has looked at the pins of the sessions up to s, and that of s is the first that holds the oldest retired frame. It holds the others too
 pub record FindsHeld (v w : View) (s : ℕ) : Type 0 where
   pub looks : FirstPinHolds v w (oldest_epoch (stock_of v).retired) s
   pub view : let m : MergerFrames = let_go_by (stock_of v) s in StockIs v w (record m { held = m.held ++ s ∷ [] })
-  -- in each state that the view allows, the session has set a pin at some time, and there were as many swaps as there are spare frames
+  -- no frame was retired before the oldest one, so that pin holds each of them
+  pub all : Every (λ r. lets_go (looks.found s) r.epoch ≡ false) (stock_of v).retired
+  -- there were as many swaps as there are spare frames
+  pub swaps : w.limits.spare ≤ (stock_of w).epoch
+  -- in each state that the view allows, the session has set a pin at some time, and there were so many swaps
   pub says : (words : List ℕ) (known : ℕ → Known) (merger : Known) → Allowed w words known merger → IsHeld w.limits (shown w.limits words).epoch known s

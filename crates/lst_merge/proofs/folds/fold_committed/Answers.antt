@@ -1,5 +1,6 @@
-use Rattle.std.proofs.Common.{refl, sym, ◌∙◌, arith}
+use Rattle.std.proofs.Common.{refl, sym, ◌∙◌, slice_index}
 use Rattle.lst_merge.specs.Inspections.{merger_of}
+use Rattle.lst_merge.specs.Pages.{entry_of}
 use Rattle.lst_merge.proofs.Ending.{inspects_join, merger_has, merger_knows}
 use Rattle.lst_merge.proofs.Folding.{folds_else, folds_there, time_same}
 use Rattle.lst_merge.proofs.folds.fold_committed.Goals as goal
@@ -13,10 +14,10 @@ returns-then-touches-clause-inspects c = inspects_join c.args.seat.now.view c.en
 pub returns-then-touches-clause-folds : goal.returns-then-touches-clause-folds
 returns-then-touches-clause-folds c = λ t k. let later = merger_knows c.args.seat.now.view c.encoding_of-encoding.new.seat.view c.encoding_of-encoding.ensures.inspects c.args.tail t k in
     folds_there (merger_of c.encoding_of-encoding.new.seat.view) c.args.tail c.args.column c.args.time c.encoding_of-encoding.result t later c.encoding_of-encoding.ensures.encoding
-    (time_same c.args.seat.now.view c.consider.ensures c.requires.host c.args.tail c.args.time t c.requires.settled k) c.requires.time.0 c.args.entries.now
-    record { cell = c.cell_of-cell.result; time = c.args.time } (omega arith) (omega arith) (sym c.touches.ensures ∙ c.if-touches.true) (c.cell_of-cell.ensures.cell t later) refl
+    (time_same c.args.seat.now.view c.consider.ensures c.requires.host c.args.tail c.args.time t c.requires.settled k) c.requires.time.0 (entry_of (slice_index c.args.words.now) c.args.values.now)
+    record { cell = c.cell_of-cell.result; time = c.args.time } (entry_of (slice_index c.put_entry.new.words) c.put_entry.new.values) (sym c.touches.ensures ∙ c.if-touches.true) (c.cell_of-cell.ensures.cell t later) refl c.put_entry.ensures.entry
 
 pub returns-else-touches-clause-folds : goal.returns-else-touches-clause-folds
 returns-else-touches-clause-folds c = λ t k. let later = merger_knows c.args.seat.now.view c.encoding_of-encoding.new.seat.view c.encoding_of-encoding.ensures.inspects c.args.tail t k in
     folds_else (merger_of c.encoding_of-encoding.new.seat.view) c.args.tail c.args.column c.args.time c.encoding_of-encoding.result t later c.encoding_of-encoding.ensures.encoding
-    (time_same c.args.seat.now.view c.consider.ensures c.requires.host c.args.tail c.args.time t c.requires.settled k) c.requires.time.0 c.args.entries.now (sym c.touches.ensures ∙ c.if-touches.false)
+    (time_same c.args.seat.now.view c.consider.ensures c.requires.host c.args.tail c.args.time t c.requires.settled k) c.requires.time.0 (entry_of (slice_index c.args.words.now) c.args.values.now) (sym c.touches.ensures ∙ c.if-touches.false)

@@ -35,7 +35,7 @@ pub push-requires : goal.push-requires
 push-requires c = let few = spares_few c.args.seat.now.view c.args.spares.now.items c.requires.host c.requires.spares c.consider.ensures in let some = spares_long c.args.seat.now.view c.args.spares.now.items c.requires.host c.requires.spares c.consider.ensures in let left = c.remove.ensures.len in omega arith
 
 pub returns-clause-swaps : goal.returns-clause-swaps
-returns-clause-swaps c = swaps c.args.seat.now.view _ _ _ c.args.frame c.requires.host c.requires.page c.requires.ready c.consider.ensures (look_known _ _ _ _ _ c.page_frame-old.ensures.looked c.page_frame-old.ensures.frame) _ c.step_swap.ensures.swapped _ c.step_raise.ensures.view c.step_raise.ensures.made
+returns-clause-swaps c = swaps c.args.seat.now.view _ _ _ c.args.frame c.requires.host c.requires.page c.requires.ready c.consider.ensures (look_known _ _ _ _ _ c.page_frame-old.ensures.looked c.page_frame-old.ensures.frame) _ c.step_swap.ensures.swapped _ c.step_raise.ensures.view c.step_raise.ensures.made c.args.spares.now.items c.requires.spares
 
 pub returns-clause-spares : goal.returns-clause-spares
 returns-clause-spares c = spares_after c.args.seat.now.view _ _ _ c.args.frame c.requires.host c.requires.page c.requires.ready c.consider.ensures (look_known _ _ _ _ _ c.page_frame-old.ensures.looked c.page_frame-old.ensures.frame) _ c.step_swap.ensures.swapped _ c.step_raise.ensures.view c.step_raise.ensures.made

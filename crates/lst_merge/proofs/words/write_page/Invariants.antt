@@ -1,6 +1,5 @@
-use Rattle.std.proofs.Common.{◌<◌, ℕ, slice_index}
-use Rattle.lst_merge.specs.Pages.{IsPageWord}
+use Rattle.lst_merge.proofs.Wording.{IsWritten}
 use Rattle.lst_merge.proofs.words.write_page.Given as goal
 
 abbrev pub invariant-loop-place : goal.invariant-loop-place
-invariant-loop-place l = (i : ℕ) → i < l.place → IsPageWord l.tps l.packed l.entries i (slice_index l.words i)
+invariant-loop-place l = IsWritten l.tps l.packed l.fn.words l.words l.place

@@ -12,4 +12,4 @@ pub returns-in-Some-first_holder-clause-still : goal.returns-in-Some-first_holde
 returns-in-Some-first_holder-clause-still c = let h = c.in-Some-first_holder.ensures.some in spares_stay _ _ _ h.found (suc c.in-Some-first_holder.session) c.requires.spares h.looks.view
 
 pub returns-in-Some-first_holder-clause-held : goal.returns-in-Some-first_holder-clause-held
-returns-in-Some-first_holder-clause-held c = holds _ _ _ c.in-Some.oldest c.requires.host c.requires.spares (first_is _ _ _ c.deref.ensures.0 (sym (c.copied.ensures ∙ c.first.ensures.value) ∙ c.in-Some.is)) _ c.in-Some-first_holder.ensures.some
+returns-in-Some-first_holder-clause-held c = holds _ _ _ c.in-Some.oldest c.requires.host c.requires.spares (first_is _ _ _ c.deref.ensures.0 (sym (c.copied.ensures ∙ c.first.ensures.value) ∙ c.in-Some.is)) _ c.consider.ensures c.in-Some-first_holder.ensures.some
