@@ -3,6 +3,8 @@
 #![tactic(auto)]
 
 #[cfg(test)]
+mod candidate_tests;
+#[cfg(test)]
 mod machine;
 mod operations;
 mod pairs;

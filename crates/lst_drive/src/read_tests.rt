@@ -108,7 +108,7 @@ pub(crate) fn start(store: &Store, seat: &mut Seat, s: u32) -> Option<Time>
 }
 
 /// Session s commits its writes: the commit's time, or None where it has none, or the turn is another's.
-fn commit(store: &Store, seat: &mut Seat, s: u32) -> Option<Time>
+pub(crate) fn commit(store: &Store, seat: &mut Seat, s: u32) -> Option<Time>
     requires pair { IsPair store.now seat.old }
     requires session { s < 2 }
     ensures { IsPair store.now seat.new }
@@ -124,7 +124,7 @@ fn commit(store: &Store, seat: &mut Seat, s: u32) -> Option<Time>
 }
 
 /// Whether session s closes a transaction.
-fn quit(store: &Store, seat: &mut Seat, s: u32) -> bool
+pub(crate) fn quit(store: &Store, seat: &mut Seat, s: u32) -> bool
     requires pair { IsPair store.now seat.old }
     requires session { s < 2 }
     ensures { IsPair store.now seat.new }

@@ -6,3 +6,8 @@ pub mod Standing
 pub mod Looks
 pub mod Exchanges
 pub mod Entries
+pub mod Puts
+pub mod Completing
+pub mod Probing
+pub mod Gathered
+pub mod Rising

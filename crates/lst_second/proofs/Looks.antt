@@ -1,19 +1,24 @@
 -- What loads of words of a tail, and of a position, find.
 use Rattle.std.proofs.Common.{◌≡◌, ◌≢◌, ℕ, ◌+◌, ◌-◌, ◌^◌, ◌<◌, ◌≤◌, List, [], ◌∷◌, ◌++◌, Bool, true, false, cond, eqb, ◌&&◌, refl, sym, subst, ap, ◌∙◌, arith, append-nil, ne_eqb, inr, slice_index}
-use Rattle.std.specs.Prelude.{bit_or}
+use Rattle.std.specs.Prelude.{bit_or, slice_set}
 use Rattle.std.specs.List.{Contains}
 use Rattle.std.proofs.lemmas.List.Elements.{All-nil, All-cons, Contains-append_left, Contains-append_right}
+use Rattle.lst_layout.specs.declared.limits.Limits.{Limits}
 use Rattle.lst_layout.specs.declared.place.Place.TheVariants.{CellWord, PostingWord}
+use Rattle.lst_layout.specs.Addresses.{address}
 use Rattle.lst_layout.specs.Words.{Words, shown}
 use Rattle.lst_layout.proofs.Functions.{get-listed}
 use Rattle.lst_core_state.specs.declared.known.Known.{Known}
+use Rattle.lst_core_state.specs.declared.known.Hold.{Hold}
+use Rattle.lst_core_state.specs.declared.events.Event.TheVariants.{Look}
 use Rattle.lst_core_state.specs.declared.facts.Fact.{Fact}
 use Rattle.lst_core_state.specs.declared.facts.Fact.TheVariants.{PostAt}
 use Rattle.lst_core_state.specs.declared.facts.Find.TheVariants.{TailLoad, EmptyStart}
 use Rattle.lst_core_state.specs.Cells.{has_bit, has_number, listed, tail_count}
 use Rattle.lst_core_state.specs.Facts.{cell_fact, stored_fact, commit_fact}
 use Rattle.lst_core_state.specs.State.{writer_at, record_in, state_over}
-use Rattle.lst_core_state.specs.Postings.{postings_size, value_position, IsAlike, IsPosted, is_unposted}
+use Rattle.lst_core_state.specs.Postings.{postings_size, value_position, IsAlike, IsPosted, is_alike, ends_at, is_unposted}
+use Rattle.lst_core_state.specs.Step.{after}
 use Rattle.lst_core_state.specs.Sound.{Sound}
 use Rattle.lst_core_state.proofs.PostingsKept.{has_bit-same, unposted_says}
 use Rattle.lst_core_state.proofs.PostingsLaws.{ends_are_marked, marked_are_posted}
@@ -25,9 +30,11 @@ use Rattle.lst_rule.proofs.Knowing.{knows_own}
 use Rattle.lst_second.specs.Shown.{HasWords, KnownOther, StandsAt, Passed}
 use Rattle.lst_second.specs.Posting.{IsTailLoad, Posts}
 use Rattle.lst_second.specs.Visits.{IsEntry, MayPost}
+use Rattle.lst_second.specs.Candidates.{Probes}
+use Rattle.lst_second.specs.Gathers.{EndsAt}
 use Rattle.lst_second.specs.declared.visits.Entry.{Entry}
 use Rattle.lst_second.proofs.Views.{kept_words, learnt}
-use Rattle.lst_second.proofs.Standing.{encoding_is, value_is, stored_is, passes, held_some}
+use Rattle.lst_second.proofs.Standing.{encoding_is, value_is, stands_is, stored_is, passes, held_some}
 
 -- ---- a word of a tail, not its start word
 
@@ -59,6 +66,17 @@ module _ (v w : View) (s tail p x : ℕ) (h : Looked v w s (CellWord tail p) x) 
     words = kept_words v w h.view.limits h.kept;
   }
 
+  pub cell_probes : Probes v w s
+  cell_probes = record {
+    facts = found;
+    finds = TailLoad tail ∷ [];
+    unposted = k.draft.unposted;
+    view = cell_learns;
+    loads = All-cons IsTailLoad (TailLoad tail) [] tt (All-nil IsTailLoad);
+    still = λ _. refl;
+    kept = h.kept;
+  }
+
   -- the word is as an earlier fact has it
   pub encoding_found : (encoding : ℕ) (values : List ℕ) → HasWords k.facts tail encoding values → p ≡ 1 → x ≡ encoding
   encoding_found encoding values words e = let t = h.met.made.told in let at : W.cells tail p ≡ x = h.met.found in sym at ∙ (ap (W.cells tail) e ∙ encoding_is v t.words t.known t.merger t.allowed s hosted tail encoding values words)
@@ -83,13 +101,18 @@ module _ (v w : View) (s tail p x : ℕ) (h : Looked v w s (CellWord tail p) x) 
         (subst (λ (b : Bool). Contains (cond b [] (cell_fact v.limits W tail ∷ [])) (cell_fact v.limits W tail)) (sym (ne_eqb (W.cells tail 0) 0 (λ e. omega arith))) (0, omega arith, refl)))),
   )
 
-  now_value : (column : ℕ) → column < v.limits.columns → p ≡ 3 + column → slice_index stored_values column ≡ x
+  pub now_value : (column : ℕ) → column < v.limits.columns → p ≡ 3 + column → slice_index stored_values column ≡ x
   now_value column low e = let at : W.cells tail p ≡ x = h.met.found in get-listed (W.cells tail) 3 v.limits.columns column 0 low ∙ (ap (W.cells tail) (sym e) ∙ at)
 
   -- what a load of a value finds of a tail that stands at a position
   module _ (column value n : ℕ) (low : column < v.limits.columns) (at : p ≡ 3 + column) (stands : StandsAt v.limits k.facts column value n tail) where
     stored : 0 < W.cells tail 0
     stored = let t = h.met.made.told in stored_is v t.words t.known t.merger t.allowed s hosted column value n tail stands
+
+    -- it holds the column with a number
+    pub value_number : has_number (W.cells tail 1) column ≡ true
+    value_number = let t = h.met.made.told in let f = stands_is v t.words t.known t.merger t.allowed s hosted column value n tail stands in
+        subst (λ (y : ℕ). has_number (W.cells y 1) column ≡ true) f.1 (t.allowed.sound.postings.filled column (value_position v.limits value n) (subst (λ (y : ℕ). 0 < y) (sym f.1) f.0)).number
 
     -- it has the value
     pub value_words : HasWords (knows w s).facts tail (W.cells tail 1) stored_values
@@ -102,6 +125,11 @@ module _ (v w : View) (s tail p x : ℕ) (h : Looked v w s (CellWord tail p) x) 
     value_other r ne = record { encoding = W.cells tail 1; values = stored_values; words = value_words; other = inr (λ e. ne (sym (now_value column low at) ∙ e)) }
 
 -- ---- a position
+
+-- a tail in hand that isn't whole is never found unposted
+partial_unmarked : (l : Limits) (w : Words) (h : Hold) (column q : ℕ) → h.is_whole ≡ false → is_unposted l w h column q ≡ false
+partial_unmarked l w h column q none = ap (λ (b : Bool). b && (has_number (w.cells h.tail 1) column
+    && ends_at (w.postings column) (is_alike l w.cells column (h.latch - 1) (w.cells h.tail (3 + column))) (value_position l (w.cells h.tail (3 + column))) q (postings_size l) 0)) none
 
 module _ (v w : View) (s : ℕ) (e : Entry) (q x : ℕ) (h : Looked v w s (PostingWord e.column q) x) (hosted : hosts v s ≡ true) where
   abbrev W' : Words
@@ -135,6 +163,30 @@ module _ (v w : View) (s : ℕ) (e : Entry) (q x : ℕ) (h : Looked v w s (Posti
     view = posting_learns;
     loads = All-nil IsTailLoad;
     words = kept_words v w h.view.limits h.kept;
+  }
+
+  pub posting_probes : Probes v w s
+  posting_probes = record {
+    facts = at_position x;
+    finds = [];
+    unposted = marks;
+    view = posting_learns;
+    loads = All-nil IsTailLoad;
+    still = λ none. ap (λ (b : Bool). cond b (bit_or u.draft.unposted (2 ^ e.column)) u.draft.unposted) (partial_unmarked v.limits W' u.hold e.column q none);
+    kept = h.kept;
+  }
+
+  -- where the run ends
+  pub posting_ends : (n : ℕ) → q ≡ value_position v.limits e.value n → x ≡ 0 → EndsAt w e.column e.value n
+  posting_ends n is free = let t = h.met.made.told in record {
+    met = record {
+      words = slice_set t.words (address v.limits (PostingWord e.column q)) x;
+      known = (after (state_over v.limits t.words t.known t.merger) (Look s (address v.limits (PostingWord e.column q)))).known;
+      merger = (after (state_over v.limits t.words t.known t.merger) (Look s (address v.limits (PostingWord e.column q)))).merger;
+      allowed = t.after;
+    };
+    empty = subst (λ (l : Limits). (shown l (slice_set t.words (address v.limits (PostingWord e.column q)) x)).postings e.column (value_position l e.value n) ≡ 0) (sym h.view.limits)
+        (ap (λ (z : Words). z.postings e.column (value_position v.limits e.value n)) t.shows ∙ (ap (W'.postings e.column) (sym is) ∙ (at ∙ free)));
   }
 
   -- a tail

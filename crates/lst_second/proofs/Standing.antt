@@ -14,7 +14,7 @@ use Rattle.lst_rule.specs.declared.view.View.{View}
 use Rattle.lst_rule.specs.Rule.{knows, hosts, Allowed}
 use Rattle.lst_rule.specs.Learned.{Possible}
 use Rattle.lst_rule.proofs.Knowing.{is_fact, knows_own}
-use Rattle.lst_second.specs.Shown.{HasWords, KnownAlike, KnownOther, StandsAt, Passed, IsShown}
+use Rattle.lst_second.specs.Shown.{HasWords, KnownAlike, KnownOther, StandsAt, Taken, Passed, IsShown}
 use Rattle.lst_second.specs.Posting.{AllPosted}
 
 module _ (v : View) (words : List ℕ) (known : ℕ → Known) (merger : Known) (a : Allowed v words known merger) (s : ℕ) (hosted : hosts v s ≡ true) where
@@ -96,9 +96,9 @@ module _ (v : View) (words : List ℕ) (known : ℕ → Known) (merger : Known) 
         ∙ subst (λ (u : Known). u.hold.is_whole ≡ true → record_of l.tails u.hold.tail (w.cells u.hold.tail 1) ≡ u.hold.latch - 1) (sym same) (a.sound.versions.hands s own).here whole
 
 -- a run is never passed to its end
-pub endless : (l : Limits) (v : View) (s column r value n : ℕ) → v.limits ≡ l → hosts v s ≡ true → column < l.columns → Possible v → Passed l (knows v s).facts column r value n → postings_size l ≤ n → ⊥
-endless l v s column r value n same hosted low p passed all = let w : Words = shown v.limits p.words in
-    let passed' : Passed v.limits (knows v s).facts column r value n = subst (λ (z : Limits). Passed z (knows v s).facts column r value n) (sym same) passed in let e : postings_size v.limits ≡ postings_size l = ap postings_size same in
+pub endless : (l : Limits) (v : View) (s column value n : ℕ) → v.limits ≡ l → hosts v s ≡ true → Possible v → Taken l (knows v s).facts column value n → postings_size l ≤ n → ⊥
+endless l v s column value n same hosted p taken all = let w : Words = shown v.limits p.words in
+    let taken' : Taken v.limits (knows v s).facts column value n = subst (λ (z : Limits). Taken z (knows v s).facts column value n) (sym same) taken in let e : postings_size v.limits ≡ postings_size l = ap postings_size same in
     let room = postings_have_room (state_over v.limits p.words p.known p.merger) p.allowed.sound column value in
-    let t = passes v p.words p.known p.merger p.allowed s hosted column r value n (subst (λ (z : Limits). column < z.columns) (sym same) low) passed' room.0 (let f = room.1 in omega arith) in
-    let some = t.0 in let none = room.2 in omega arith
+    let t = taken' room.0 (let f = room.1 in omega arith) in let f = stands_is v p.words p.known p.merger p.allowed s hosted column value room.0 t.0 t.1 in
+    let some = f.0 in let at = f.1 in let none = room.2 in omega arith

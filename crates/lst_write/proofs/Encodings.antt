@@ -3,7 +3,7 @@ use Rattle.std.proofs.Common.{◌≡◌, ℕ, zero, suc, ◌+◌, ◌-◌, ◌*�
 use Rattle.std.specs.Prelude.{is_some, is_none, option_map, unwrap_or, slice_index_or}
 use Rattle.std.specs.Option.{IsSome}
 use Rattle.std.proofs.lemmas.List.{length-drop, length-map, get_or-map}
-use Rattle.std.proofs.Math.Nat.{pow-le-pow_right, pow-succ', div-div-eq-div-mul}
+use Rattle.std.proofs.Math.Nat.{pow-le-pow_right}
 use mathlib.Core.Logic.{dite}
 use native.Mathlib.Decide.{dec_lt}
 use mir.Val.{bool_byte}
@@ -14,6 +14,7 @@ use Rattle.lst_model.specs.CellLaws.{row_is_own, bits_where-below, no_bits, null
 use Rattle.lst_model.proofs.Cells.{no_bit_above, null_is_set, patch_is_patched, number_left_out, number_of_null}
 use Rattle.lst_bits.specs.Encodings.{AreWithin}
 use Rattle.lst_core_state.specs.Cells.{mask_of, kind_of, slot_of, nulls_of, listed, act_of, act_with, IsCell}
+use Rattle.lst_second.proofs.Bits.{full_bit, full_has}
 use Rattle.lst_write.specs.Cells.{IsActFor, encoding_of, value_of}
 
 -- ---- masks of patches
@@ -41,22 +42,6 @@ change_number patch c other low = ap (λ (o : Option ℕ). unwrap_or o 0) (get_o
     by (Some (Some number)) = refl
 
 -- ---- bits
-
--- a bit is taken off
-halve : (m b c : ℕ) → b < 2 → (2 * m + b) / 2 ^ suc c ≡ m / 2 ^ c
-halve m b c low = ap (λ (d : ℕ). (2 * m + b) / d) (pow-succ' 2 c) ∙ (sym (div-div-eq-div-mul (2 * m + b) 2 (2 ^ c)) ∙ ap (λ (x : ℕ). x / 2 ^ c) (let e : (2 * m + b) / 2 ≡ m = omega arith in e))
-
-all_bits : (n : ℕ) → 2 ^ suc n - 1 ≡ 2 * (2 ^ n - 1) + 1
-all_bits n = let some : 2 ^ 0 ≤ 2 ^ n = pow-le-pow_right {n = 2} (omega arith) {i = 0} {j = n} (omega arith) in let f : 2 ^ suc n ≡ 2 * 2 ^ n = pow-succ' 2 n in omega arith
-
--- a mask of all columns has each
-full_bit : (n c : ℕ) → c < n → (2 ^ n - 1) / 2 ^ c % 2 ≡ 1
-full_bit zero c low = absurd (omega arith)
-full_bit (suc n) zero low = let e = all_bits n in omega arith
-full_bit (suc n) (suc c) low = ap (λ (x : ℕ). x / 2 ^ suc c % 2) (all_bits n) ∙ (ap (λ (x : ℕ). x % 2) (halve (2 ^ n - 1) 1 c (omega arith)) ∙ full_bit n c (omega arith))
-
-full_has : (n c : ℕ) → c < n → has_bit (2 ^ n - 1) c ≡ true
-full_has n c low = eq-eqb ((2 ^ n - 1) / 2 ^ c % 2) 1 (full_bit n c low)
 
 -- the null columns of a row are columns of it
 pub row_within : (columns : ℕ) (row : List Cell) → length row ≡ columns → AreWithin (null_bits row) (2 ^ columns - 1)

@@ -1,7 +1,9 @@
 use Rattle.std.proofs.Common.{ap}
 use Rattle.lst_layout.specs.declared.layout.Layout.{Layout}
+use Rattle.lst_rule.specs.Rule.{knows}
 use Rattle.lst_second.proofs.Runs.{offset_short, offsets_over}
 use Rattle.lst_second.proofs.Views.{posts_none, posts_on}
+use Rattle.lst_second.proofs.Passing.{taken_of}
 use Rattle.lst_second.proofs.Standing.{endless}
 use Rattle.lst_second.proofs.Entries.{visits_posted}
 use Rattle.lst_second.proofs.posting.post_entry.Goals as goal
@@ -22,5 +24,6 @@ pub loop-offset-preserved : goal.loop-offset-preserved
 loop-offset-preserved c = (posts_on _ _ _ _ c.loop-offset.invariant.0 c.visit.ensures.posts, c.visit.ensures.next c.if-visit.false)
 
 pub unreachable-requires : goal.unreachable-requires
-unreachable-requires c = endless c.args.store.now.layout.limits c.loop-offset.seat.view c.args.s c.args.entry.column c.args.entry.rec c.args.entry.value c.loop-offset.offset c.loop-offset.invariant.1.seat_of.limits c.loop-offset.invariant.1.host c.loop-offset.invariant.1.entry.low c.consider.ensures c.loop-offset.invariant.1.passed
+unreachable-requires c = endless c.args.store.now.layout.limits c.loop-offset.seat.view c.args.s c.args.entry.column c.args.entry.value c.loop-offset.offset c.loop-offset.invariant.1.seat_of.limits c.loop-offset.invariant.1.host c.consider.ensures
+    (taken_of c.args.store.now.layout.limits (knows c.loop-offset.seat.view c.args.s).facts c.args.entry.column c.args.entry.rec c.args.entry.value c.loop-offset.offset c.loop-offset.invariant.1.passed)
     (offsets_over c.layout.result.now.limits c.args.store.now.layout.limits c.posting_positions-all.result c.loop-offset.offset c.loop-offset-test.false c.posting_positions-all.ensures.count (ap (λ (y : Layout). y.limits) c.layout.ensures))
