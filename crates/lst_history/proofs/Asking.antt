@@ -57,8 +57,10 @@ watched_peeked u k away w = record {
   finds = w.finds;
   later = w.later;
   looks = w.looks;
-  is = w.is ∙ (λ i. record u { seen = u.seen ++ w.later; turn = same i; facts = u.facts ++ w.facts; finds = u.finds ++ w.finds; looks = w.looks });
+  frames = w.frames;
+  is = w.is ∙ (λ i. record u { seen = u.seen ++ w.later; turn = same i; facts = u.facts ++ w.facts; finds = u.finds ++ w.finds; looks = w.looks; pages = record u.pages { session = w.frames } });
   room = w.room;
+  pin = w.pin;
 }
   where
     same : w.turn ≡ u.turn

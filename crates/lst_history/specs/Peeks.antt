@@ -5,6 +5,7 @@ use Rattle.lst_layout.specs.Words.{Words, shown}
 use Rattle.lst_model.specs.declared.commits.Commit.{Commit}
 use Rattle.lst_core_state.specs.declared.known.Known.{Known}
 use Rattle.lst_core_state.specs.declared.known.Looks.{Looks}
+use Rattle.lst_core_state.specs.declared.pages.SessionFrames.{SessionFrames}
 use Rattle.lst_core_state.specs.declared.facts.Fact.{Fact}
 use Rattle.lst_core_state.specs.declared.facts.Find.{Find}
 use Rattle.lst_core_state.specs.State.{mine, rank}
@@ -17,14 +18,17 @@ use Rattle.lst_rule.specs.Stores.{IsSeatOf}
 use Rattle.lst_rule.specs.Surveys.{Surveyed}
 use Rattle.lst_sights.specs.Watching.{IsNotFull}
 
--- v is u with more facts, finds and commits seen, and other words loaded last. No counter was found full
+-- v is u with more facts, finds and commits seen, other words loaded last, and maybe pages taken in hand. No counter was found full, and the pin is
+-- the same
 pub record Peeked (u v : Known) : Type 0 where
   pub facts : List Fact
   pub finds : List Find
   pub later : List Commit
   pub looks : Looks
-  pub is : v ≡ record u { seen = u.seen ++ later; facts = u.facts ++ facts; finds = u.finds ++ finds; looks = looks }
+  pub frames : SessionFrames
+  pub is : v ≡ record u { seen = u.seen ++ later; facts = u.facts ++ facts; finds = u.finds ++ finds; looks = looks; pages = record u.pages { session = frames } }
   pub room : All IsNotFull finds
+  pub pin : frames.pin ≡ u.pages.session.pin
 
 -- of the sessions and the merger only s has looked, and what it has committed stays, as do the words that the view knows
 pub record Peeks (v w : View) (s : ℕ) : Type 0 where

@@ -1,5 +1,7 @@
 -- What a session knows after looks.
-use Rattle.std.proofs.Common.{◌≡◌, ◌⊎◌, ℕ, ◌+◌, ◌<◌, ◌≤◌, Bool, true, false, nat_lt, arith, [], ◌∷◌, ◌++◌, cond, eqb, ◌&&◌, length, refl, sym, subst, ap, ◌∙◌, inl, inr, append_assoc, append-nil}
+use Rattle.std.proofs.Common.{◌≡◌, ◌⊎◌, ℕ, ◌+◌, ◌<◌, ◌≤◌, Some, None, slice_index, slice_set, get_or-set_other, Bool, true, false, nat_lt, arith, [], ◌∷◌, ◌++◌, cond, eqb, ◌&&◌, length, refl, sym, subst, ap, ◌∙◌, inl, inr, append_assoc, append-nil}
+use mathlib.Core.Logic.{dite}
+use native.Mathlib.Decide.{ℕ_discrete}
 use Rattle.std.proofs.lemmas.List.{take-append-le}
 use Rattle.std.proofs.lemmas.List.Elements.{All-nil, All-cons, All-append, Contains-append_left}
 use Rattle.std.specs.List.{All}
@@ -13,19 +15,26 @@ use Rattle.lst_model.specs.Histories.{Extends}
 use Rattle.lst_core_state.specs.declared.known.Known.{Known}
 use Rattle.lst_core_state.specs.declared.known.Stage.{Stage}
 use Rattle.lst_core_state.specs.declared.known.Stage.TheVariants.{Away, Taken, Fresh, Logged, Stated, Done}
+use Rattle.lst_core_state.specs.declared.pages.PageInHand.{PageInHand}
+use Rattle.lst_core_state.specs.declared.pages.SessionFrames.{SessionFrames}
 use Rattle.lst_core_state.specs.declared.facts.Find.{Find}
 use Rattle.lst_core_state.specs.declared.facts.Find.TheVariants.{FreshClock, TailLoad, EmptyStart}
 use Rattle.lst_core_state.specs.Facts.{index_facts, chain_facts, state_fact, stored_fact, commit_fact, unfinished, active_find, early_find}
 use Rattle.lst_core_state.specs.declared.events.Event.TheVariants.{Look}
-use Rattle.lst_core_state.specs.State.{Words, record_in, history_of, commits_of, mine}
+use Rattle.lst_core_state.specs.State.{Words, record_in, history_of, commits_of, mine, state_over}
 use Rattle.lst_core_state.specs.Step.{look_at, refreshed}
+use Rattle.lst_page_state.specs.State.{hand_of}
+use Rattle.lst_page_state.specs.Runs.{IsReadable}
+use Rattle.lst_page_state.specs.Known.{pages_in}
 use Rattle.lst_rule.specs.declared.view.View.{View}
-use Rattle.lst_rule.specs.Rule.{knows}
+use Rattle.lst_rule.specs.Rule.{knows, hosts}
 use Rattle.lst_rule.specs.Learned.{Learns}
+use Rattle.lst_rule.specs.PageSteps.{with_frames, PageLooked}
 use Rattle.lst_rule.proofs.Knowing.{is_seen, knows_own}
 use Rattle.lst_rule.proofs.Learning.{learns_on, learns_same, kept_by}
-use Rattle.lst_sights.specs.Watching.{IsNotFull, Watches, Watched, IsWatched, IsStamped, KeepsStamps}
-use Rattle.lst_sights.specs.Laws.{LooksWatch, StampsWatch, WatchesJoin, WatchersKeep, KeptBy}
+use Rattle.lst_rule.proofs.Paging.{hand_is_readable}
+use Rattle.lst_sights.specs.Watching.{IsNotFull, HasInHand, Watches, SamePins, Watched, IsWatched, IsStamped, KeepsStamps}
+use Rattle.lst_sights.specs.Laws.{LooksWatch, PagesWatch, StampsWatch, WatchesJoin, WatchersKeepPins, WatchersKeep, KeptBy}
 use Rattle.lst_sights.proofs.Stamps.{stamped_same, stamped_on, kept_stamped, made_stamped, kept_keeps, made_keeps}
 use Rattle.lst_sights.proofs.Telling.{low, is_known, is_on_known}
 
@@ -47,6 +56,10 @@ clock_not_full u clock = All-cons IsNotFull (FreshClock clock) (early_find u clo
 
 -- ---- looks
 
+-- each frame in hand stays
+hand_same : (frames : SessionFrames) (f : ℕ) (page : PageInHand) → hand_of frames f ≡ Some page → HasInHand frames f (slice_index page.words)
+hand_same frames f page is = record { page = page; in_hand = is; same = λ n short. refl }
+
 -- nothing new
 pub watches_same : (u : Known) → Watches u u
 watches_same u = record {
@@ -55,9 +68,12 @@ watches_same u = record {
   later = [];
   turn = u.turn;
   looks = u.looks;
+  frames = u.pages.session;
   is = λ i. record u { seen = sym (append-nil u.seen) i; turn = u.turn; facts = sym (append-nil u.facts) i; finds = sym (append-nil u.finds) i; looks = u.looks };
   stage = inl refl;
   room = All-nil IsNotFull;
+  pin = refl;
+  hand = hand_same u.pages.session;
 }
 
 refreshed_again : (k : Stage) → refreshed (refreshed k) ≡ refreshed k
@@ -81,10 +97,22 @@ watches_on u v w a b = record {
   later = a.later ++ b.later;
   turn = b.turn;
   looks = b.looks;
-  is = b.is ∙ (ap (λ (k : Known). record k { seen = k.seen ++ b.later; turn = b.turn; facts = k.facts ++ b.facts; finds = k.finds ++ b.finds; looks = b.looks }) a.is
-      ∙ (λ i. record u { seen = append_assoc u.seen a.later b.later i; turn = b.turn; facts = append_assoc u.facts a.facts b.facts i; finds = append_assoc u.finds a.finds b.finds i; looks = b.looks }));
+  frames = b.frames;
+  is = b.is ∙ (ap (λ (k : Known). record k { seen = k.seen ++ b.later; turn = b.turn; facts = k.facts ++ b.facts; finds = k.finds ++ b.finds; looks = b.looks; pages = record k.pages { session = b.frames } }) a.is
+      ∙ (λ i. record u {
+        seen = append_assoc u.seen a.later b.later i;
+        turn = b.turn;
+        facts = append_assoc u.facts a.facts b.facts i;
+        finds = append_assoc u.finds a.finds b.finds i;
+        looks = b.looks;
+        pages = record u.pages { session = b.frames };
+      }));
   stage = joined_stage u.turn a.turn b.turn a.stage (subst (λ (k : Stage). (b.turn ≡ k) ⊎ (b.turn ≡ refreshed k)) (ap (λ (k : Known). k.turn) a.is) b.stage);
   room = All-append IsNotFull a.finds b.finds a.room b.room;
+  pin = b.pin ∙ (ap (λ (k : Known). k.pages.session.pin) a.is ∙ a.pin);
+  hand = λ f page is. let p : HasInHand a.frames f (slice_index page.words) = a.hand f page is in
+      let q : HasInHand b.frames f (slice_index p.page.words) = b.hand f p.page (ap (λ (k : Known). hand_of k.pages.session f) a.is ∙ p.in_hand) in
+      record { page = q.page; in_hand = q.in_hand; same = λ n short. q.same n short ∙ p.same n short };
 }
 
 -- nothing was looked at
@@ -133,8 +161,8 @@ look_owns l w u s (BeginWord j n) own is = absurd is
 look_owns l w u s (KeyWord r) own is = absurd is
 look_owns l w u s (IndexWord q) own is = absurd is
 look_owns l w u s (TailCounter r) own is = absurd is
-look_owns l w u s (DirectoryWord r c) own is = absurd is
-look_owns l w u s (FrameWord f c) own is = absurd is
+look_owns l w u s (DirectoryWord r c) own is = refl
+look_owns l w u s (FrameWord f c) own is = refl
 look_owns l w u s (PinWord j) own is = absurd is
 look_owns l w u s (PostingWord c q) own is = absurd is
 
@@ -145,9 +173,12 @@ look_watches l w u ClockWord all is = record {
   later = all.0;
   turn = refreshed u.turn;
   looks = u.looks;
+  frames = u.pages.session;
   is = λ i. record u { seen = all.1 i; turn = refreshed u.turn; facts = u.facts ++ index_facts l w; finds = u.finds ++ FreshClock w.clock ∷ early_find u w.clock; looks = u.looks };
   stage = inr refl;
   room = clock_not_full u w.clock;
+  pin = refl;
+  hand = hand_same u.pages.session;
 }
 look_watches l w u (StateWord s n) all is = record {
   facts = state_fact w s n;
@@ -155,9 +186,12 @@ look_watches l w u (StateWord s n) all is = record {
   later = [];
   turn = u.turn;
   looks = record u.looks { state = w.states s n; session = s; number = n };
+  frames = u.pages.session;
   is = λ i. record u { seen = sym (append-nil u.seen) i; turn = u.turn; facts = u.facts ++ state_fact w s n; finds = u.finds ++ active_find u s n (w.states s n); looks = record u.looks { state = w.states s n; session = s; number = n } };
   stage = inl refl;
   room = maybe_not_full (eqb (w.states s n) 0) (unfinished u s n) tt;
+  pin = refl;
+  hand = hand_same u.pages.session;
 }
 look_watches l w u (HeadWord r) all is = record {
   facts = chain_facts l w r;
@@ -165,9 +199,12 @@ look_watches l w u (HeadWord r) all is = record {
   later = [];
   turn = u.turn;
   looks = u.looks;
+  frames = u.pages.session;
   is = λ i. record u { seen = sym (append-nil u.seen) i; turn = u.turn; facts = u.facts ++ chain_facts l w r; finds = sym (append-nil u.finds) i; looks = u.looks };
   stage = inl refl;
   room = All-nil IsNotFull;
+  pin = refl;
+  hand = hand_same u.pages.session;
 }
 look_watches l w u (CellWord t p) all is = record {
   facts = stored_fact l w t ++ commit_fact w.log (w.cells t 0);
@@ -175,6 +212,7 @@ look_watches l w u (CellWord t p) all is = record {
   later = [];
   turn = u.turn;
   looks = cond (eqb p 0) (record u.looks { start = w.cells t 0; about = record_in l w.cells t + 1; tail = t }) u.looks;
+  frames = u.pages.session;
   is = λ i. record u {
     seen = sym (append-nil u.seen) i;
     turn = u.turn;
@@ -184,6 +222,8 @@ look_watches l w u (CellWord t p) all is = record {
   };
   stage = inl refl;
   room = All-cons IsNotFull (TailLoad t) (cond (eqb p 0 && eqb (w.cells t 0) 0) (EmptyStart t ∷ []) []) tt (maybe_not_full (eqb p 0 && eqb (w.cells t 0) 0) (EmptyStart t) tt);
+  pin = refl;
+  hand = hand_same u.pages.session;
 }
 look_watches l w u CommitWord all is = absurd is
 look_watches l w u EpochWord all is = absurd is
@@ -193,8 +233,8 @@ look_watches l w u (BeginWord s n) all is = absurd is
 look_watches l w u (KeyWord r) all is = absurd is
 look_watches l w u (IndexWord q) all is = absurd is
 look_watches l w u (TailCounter r) all is = absurd is
-look_watches l w u (DirectoryWord r c) all is = absurd is
-look_watches l w u (FrameWord f c) all is = absurd is
+look_watches l w u (DirectoryWord r c) all is = watches_same u
+look_watches l w u (FrameWord f c) all is = watches_same u
 look_watches l w u (PinWord s) all is = absurd is
 look_watches l w u (PostingWord c q) all is = absurd is
 
@@ -205,6 +245,48 @@ looks_watch v w s x p hosted inside is m = let t = m.made.told in let W : Words 
     (λ low. look_owns v.limits W k s p (sym (t.allowed.sound.views s low).own ∙ ap (mine s) (sym (knows_own v t.words t.known t.merger t.allowed s hosted (λ e. omega arith)))) is)
     (kept_stamped v w m.made.view.limits (kept_by v w (Look s (address v.limits p)) p x m))
     (kept_keeps v w m.made.view.limits (kept_by v w (Look s (address v.limits p)) p x m))
+
+-- ---- a page taken in hand
+
+module _ (v w : View) (s r c f : ℕ) (hosted : hosts v s ≡ true) (low : s < v.limits.sessions) (looked : PageLooked v w s r c f) where
+  abbrev frames : SessionFrames
+  frames = record (knows v s).pages.session { hand = slice_set (knows v s).pages.session.hand f (Some looked.page) }
+
+  taken_hand : (g : ℕ) (page : PageInHand) → hand_of (knows v s).pages.session g ≡ Some page → HasInHand frames g (slice_index page.words)
+  taken_hand g page is = dite (ℕ_discrete g f)
+      (λ here. let t = looked.met.made.told in let was : IsReadable (pages_in (state_over v.limits t.words t.known t.merger)) f page = hand_is_readable v t.words t.known t.merger t.allowed s hosted low f page (subst (λ (k : ℕ). hand_of (knows v s).pages.session k ≡ Some page) here is) in
+      subst (λ (k : ℕ). HasInHand frames k (slice_index page.words)) (sym here) record {
+        page = looked.page;
+        in_hand = ap (λ (k : Known). hand_of k.pages.session f) (sym looked.view.now) ∙ looked.in_hand;
+        same = λ n short. sym (looked.readable.same n short) ∙ was.same n short;
+      })
+      (λ other. record { page = page; in_hand = get_or-set_other (knows v s).pages.session.hand f g (Some looked.page) None other ∙ is; same = λ n short. refl })
+
+  page_taken : Watched v w s
+  page_taken = watched v w s (with_frames (knows v s) frames) looked.view record {
+    facts = [];
+    finds = [];
+    later = [];
+    turn = (knows v s).turn;
+    looks = (knows v s).looks;
+    frames = frames;
+    is = λ i. record (knows v s) { seen = sym (append-nil (knows v s).seen) i; facts = sym (append-nil (knows v s).facts) i; finds = sym (append-nil (knows v s).finds) i; pages = record (knows v s).pages { session = frames } };
+    stage = inl refl;
+    room = All-nil IsNotFull;
+    pin = refl;
+    hand = taken_hand;
+  } (λ low. refl) (kept_stamped v w looked.view.limits looked.kept) (kept_keeps v w looked.view.limits looked.kept)
+
+pub pages_watch : PagesWatch
+pages_watch v w s r c f hosted low looked = page_taken v w s r c f hosted low looked
+
+-- ---- what it keeps
+
+pub same_pins : (u k : Known) → Watches u k → SamePins u k
+same_pins u k watches = subst (SamePins u) (sym watches.is) record { pins = refl; pin = watches.pin }
+
+pub watchers_keep_pins : WatchersKeepPins
+watchers_keep_pins v w s watched = same_pins (knows v s) (knows w s) watched.watches
 
 keeps : (u v : Known) → u.begin ≤ length u.seen → Watches u v → KeptBy u v
 keeps u v high watches = subst (λ (k : Known). KeptBy u k) (sym watches.is) record {

@@ -22,10 +22,11 @@ use Rattle.lst_core_state.specs.Laws.{Names}
 use Rattle.lst_rule.specs.declared.view.View.{View}
 use Rattle.lst_rule.specs.Rule.{knows, hosts, Allowed}
 use Rattle.lst_rule.specs.Learned.{Possible, CanStand, Times, Made, Met}
+use Rattle.lst_rule.specs.PageSteps.{PageLooked}
 use Rattle.lst_sights.specs.Copies.{Version, fact_of, IsVersionOf, IsChainFrom, IsCopy, Includes}
 use Rattle.lst_sights.specs.Seen.{is_early, sees, IsSight, SeesAlike, HasKey}
 use Rattle.lst_sights.specs.Judging.{AreClosed, IsJudged, IsCommittedAt, WroteAt}
-use Rattle.lst_sights.specs.Watching.{Watched, IsWatched}
+use Rattle.lst_sights.specs.Watching.{SamePins, Watched, IsWatched}
 use Rattle.lst_sights.specs.Loads.{ChainFound, StartFound, WordFound, StateFound}
 
 -- ---- the copy of a chain
@@ -120,12 +121,20 @@ UnfinishedIsAbout = (v : Known) (rec : ℕ) (c : Version) → v.is_open ≡ true
 abbrev pub LooksWatch : Type 0
 LooksWatch = (v w : View) (s x : ℕ) (p : Place) → hosts v s ≡ true → IsWithin v.limits p → IsWatched p → Met v w (Look s (address v.limits p)) p x x → Watched v w s
 
+-- a page is taken in hand
+abbrev pub PagesWatch : Type 0
+PagesWatch = (v w : View) (s range column frame : ℕ) → hosts v s ≡ true → s < v.limits.sessions → PageLooked v w s range column frame → Watched v w s
+
 -- a stamp tells its session nothing
 abbrev pub StampsWatch : Type 0
 StampsWatch = (v w : View) (s range n x : ℕ) (p : Place) → Made v w (Stamp s range n) p x → Watched v w s
 
 abbrev pub WatchesJoin : Type 0
 WatchesJoin = (u v w : View) (s : ℕ) → Watched u v s → Watched v w s → Watched u w s
+
+-- it has its pin, and sets none
+abbrev pub WatchersKeepPins : Type 0
+WatchersKeepPins = (v w : View) (s : ℕ) → Watched v w s → SamePins (knows v s) (knows w s)
 
 -- it sees the same as before, and keeps its facts and finds
 pub record KeptBy (u v : Known) : Type 0 where

@@ -1,5 +1,5 @@
 //! The laws. Each function is a law: its contract holds at all values, and its body does nothing.
-ghost use Rattle.lst_sights.specs.Laws.{LoadsFindChains, LatchesFindChains, ChainsAreWalked, CopiesStay, SeenIsByName, SightsStay, SightsFit, StatesTell, StatusesTell, StartsAreFound, TailsAreFound, WordsAreFound, StatesAreFound, UnfinishedIsAbout, LooksWatch, StampsWatch, WatchesJoin, WatchersKeep, ClosedArePassed, JudgedMayDraw, CommittedWrote, CommittedMayBeStamped};
+ghost use Rattle.lst_sights.specs.Laws.{LoadsFindChains, LatchesFindChains, ChainsAreWalked, CopiesStay, SeenIsByName, SightsStay, SightsFit, StatesTell, StatusesTell, StartsAreFound, TailsAreFound, WordsAreFound, StatesAreFound, UnfinishedIsAbout, LooksWatch, PagesWatch, StampsWatch, WatchesJoin, WatchersKeepPins, WatchersKeep, ClosedArePassed, JudgedMayDraw, CommittedWrote, CommittedMayBeStamped};
 
 /// A load of a record's indirection word, and a latch, leave a copy of the record's whole chain in the facts. What the open
 /// transaction sees of the copy is its sight of the record's key. The copy is walked by numbers: the word loaded names the
@@ -38,13 +38,15 @@ pub fn words_are_found()
     ensures about { UnfinishedIsAbout }
 {}
 
-/// A session that only looks at versions, statuses and the clock, and stamps, knows more facts, finds and commits after it, and else what
-/// it knew: it sees the same, and its own commits are those of before. A view that knows every word knows the same words then, but that
+/// A session that only looks at versions, statuses, the clock and pages, and stamps, knows more facts, finds and commits after it, may have
+/// more pages in hand, and knows else what it knew: it sees the same, its own commits are those of before, it has its pin and has set none. A view that knows every word knows the same words then, but that
 /// start words of stored versions may be stamped; each version keeps its transaction.
 pub fn watchers_keep()
     ensures looks { LooksWatch }
+    ensures pages { PagesWatch }
     ensures stamps { StampsWatch }
     ensures joins { WatchesJoin }
+    ensures pins { WatchersKeepPins }
     ensures keep { WatchersKeep }
 {}
 

@@ -1,5 +1,5 @@
 -- What the act of a version that is seen does.
-use Rattle.std.proofs.Common.{◌≡◌, ◌≢◌, ℕ, ◌/◌, ◌%◌, ◌^◌, ◌<◌, List, Bool, true, false, cond, length, map, get_or, sym, subst, ap, ◌∙◌, arith, eq-eqb, ne_eqb}
+use Rattle.std.proofs.Common.{[], ◌∷◌, zero, suc, ◌≡◌, ◌≢◌, ℕ, ◌/◌, ◌%◌, ◌^◌, ◌<◌, List, Bool, true, false, cond, length, map, get_or, sym, subst, ap, ◌∙◌, arith, eq-eqb, ne_eqb}
 use Rattle.std.specs.Prelude.{Option, None, Some, is_some, slice_index, slice_get}
 use Rattle.std.specs.List.{list_all}
 use Rattle.std.specs.Int.{bit_at}
@@ -13,7 +13,9 @@ use Rattle.lst_model.specs.Histories.{row_after}
 use Rattle.lst_model.specs.Cells.{Cell, number_of, number_at, cells_of, patched, has_bit}
 use Rattle.lst_model.specs.CellLaws.{length-cells_of}
 use Rattle.lst_model.specs.Soundness.{Fits}
-use Rattle.lst_bits.specs.Encodings.{kind_code}
+use Rattle.lst_bits.specs.Encodings.{kind_code, encoding_of}
+use Rattle.lst_pages.specs.Tails.{touches_column}
+use Rattle.lst_walk.specs.Pages.{touches_by}
 use Rattle.lst_core_state.specs.Cells.{act_with}
 use Rattle.lst_rule.specs.declared.view.View.{View}
 use Rattle.lst_sights.specs.Copies.{Version}
@@ -22,7 +24,7 @@ use Rattle.lst_walk.specs.Readers.{IsAt}
 use Rattle.lst_walk.specs.Patches.{merged, cell_in}
 use Rattle.lst_walk.specs.Walks.{Acted, Told}
 use Rattle.lst_walk.specs.declared.rows.Visit.TheVariants.{Row, NoRow, Older}
-use Rattle.lst_walk.proofs.Lists.{set_twice, whole_row, length-merged, length-patched, patched_first, number_here, cell_set, cell_unset}
+use Rattle.lst_walk.proofs.Lists.{set_twice, whole_row, length-merged, length-patched, patched_first, number_here, cell_set, cell_unset, merged_none, patched_none, none_some}
 use Rattle.lst_walk.proofs.Chains.{set_fits}
 
 -- bits of a mask
@@ -82,3 +84,18 @@ module _ (d : Version) (e : Encoding) (act : act_by d ≡ act_with (kind_code e.
   pub set_untold : (columns column : ℕ) → e.kind ≡ kinds.Set → column < columns → length d.values ≡ columns → has_bit e.mask column ≡ false → Told d columns column None
   set_untold columns column kind low values bit older = ap (λ (a : Act). cell_in column (row_after older a)) (kind_act kinds.Set kind)
       ∙ cell_unset older (patched e.mask 0 cells) column (cell_at column (omega arith) ∙ ap (λ (b : Bool). Some (cond b (Some (get_or cells column None)) None)) bit)
+
+-- a column that is still unset was unset, and a set doesn't touch it
+pub set_leaves : (d : Version) (e : Encoding) → e ≡ encoding_of d.encoding → (columns : ℕ) (patch more : List (Option Cell)) → e.kind ≡ kinds.Set → length patch ≡ columns → length d.values ≡ columns → more ≡ merged patch (patched e.mask 0 (cells_of e.nulls 0 d.values))
+    → (column : ℕ) → slice_get more column ≡ Some None → (slice_get patch column ≡ Some None) × (touches_by column d.encoding ≡ false)
+set_leaves d e is columns patch more kind wide values made column none = let cells : List Cell = cells_of e.nulls 0 d.values in let w = length-cells_of e.nulls 0 d.values in let p = length-patched e.mask 0 cells in
+    let q = merged_none patch (patched e.mask 0 cells) column (omega arith) (ap (λ xs. slice_get xs column) (sym made) ∙ none) in
+    let low : column < length (patched e.mask 0 cells) = get_low (patched e.mask 0 cells) column None q.1 in (
+      q.0,
+      ap (λ (k : Encoding). touches_column column k.kind k.mask) (sym is) ∙ (ap (λ (k : Kind). touches_column column k e.mask) kind ∙ patched_none e.mask cells column (omega arith) q.1),
+    )
+  where
+    get_low : {A : Type 0} (xs : List A) (k : ℕ) (x : A) → slice_get xs k ≡ Some x → k < length xs
+    get_low [] k x at = none_some x at
+    get_low (y ∷ xs) zero x at = omega arith
+    get_low (y ∷ xs) (suc k) x at = let r = get_low xs k x at in omega arith

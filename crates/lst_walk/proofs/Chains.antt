@@ -1,6 +1,8 @@
 -- The row of a chain, version by version.
-use Rattle.std.proofs.Common.{◌≡◌, ℕ, List, [], ◌∷◌, ◌++◌, Bool, true, false, cond, eqb, length, refl, sym, subst, ◌∙◌, true≢false}
-use Rattle.std.specs.Prelude.{Option, None, Some, is_some}
+use Rattle.std.proofs.Common.{◌≡◌, ℕ, ◌<◌, List, [], ◌∷◌, ◌++◌, Bool, true, false, cond, eqb, length, map, refl, sym, subst, ap, ◌∙◌, true≢false}
+use Rattle.std.specs.Prelude.{Option, None, Some, is_some, unwrap_or, replicate}
+use Rattle.std.specs.List.{list_all}
+use Rattle.std.proofs.lemmas.List.{length-replicate}
 use Rattle.lst_layout.specs.declared.limits.Limits.{Limits}
 use Rattle.lst_model.specs.declared.acts.Act.{Act}
 use Rattle.lst_model.specs.declared.acts.Act.TheVariants.{Put, Set, Del}
@@ -12,6 +14,8 @@ use Rattle.lst_core_state.specs.declared.known.Known.{Known}
 use Rattle.lst_sights.specs.Copies.{Version, AreVersionsOf}
 use Rattle.lst_sights.specs.Seen.{sees, act_by, seen_acts}
 use Rattle.lst_walk.specs.Patches.{seen_after, IsWide}
+use Rattle.lst_pages.specs.Rows.{cell_at, column_of}
+use Rattle.lst_walk.proofs.Lists.{row_all, cell_same}
 use Rattle.lst_model.specs.CellLaws.{length-cells_of}
 use Rattle.lst_model.proofs.Overlays.{length-overlaid}
 use Rattle.lst_core_state.specs.Cells.{act_of, act_with, mask_of, kind_of, nulls_of}
@@ -65,3 +69,37 @@ wide_row l rec v s (c ∷ cs) are = subst (λ (r : Option (List Cell)). IsWide l
     choose true is = subst (λ (a : Act). IsWide l.columns (row_after (row_from None (seen_acts v s cs)) a)) (sym (act_words c.encoding c.values))
         (wide_for l.columns (mask_of c.encoding) (eqb (kind_of c.encoding) 1) (eqb (kind_of c.encoding) 2) (cells_of (nulls_of c.encoding) 0 c.values) (row_from None (seen_acts v s cs)) (length-cells_of (nulls_of c.encoding) 0 c.values ∙ are.0.wide) is)
     choose false is = is
+
+-- ---- acts that make the same of a column as a patch that sets each
+
+module _ (columns column : ℕ) (acts : List Act) (patch : List (Option Cell)) (low : column < columns) (few : length patch ≡ columns) (all : list_all is_some patch ≡ true) (made : (older : Option (List Cell)) → column_of column (row_from older acts) ≡ column_of column (row_after older (Set patch))) where
+  abbrev row : List Cell
+  row = map (λ cell. unwrap_or cell None) patch
+
+  of_row : (older : List Cell) → length older ≡ columns → column_of column (row_from (Some older) acts) ≡ Some (cell_at column (map (λ cell. unwrap_or cell None) patch))
+  of_row older wide = made (Some older) ∙ ap (column_of column) (row_all columns (Some older) patch wide few refl all)
+
+  of_cell : (cell : Cell) → column_of column (row_from (Some (replicate columns cell)) acts) ≡ Some (cell_at column (map (λ c. unwrap_or c None) patch))
+  of_cell cell = of_row (replicate columns cell) (length-replicate columns cell)
+
+  some_of : {A : Type 0} (o : Option A) (x : A) → o ≡ None → o ≡ Some x → ⊥
+  some_of o x none some = true≢false (sym (ap is_some (sym none ∙ some)))
+
+  -- they fit no missing row
+  none_fits : (xs : List Act) → acts ≡ xs → FitInTurn None xs → ⊥
+  none_fits [] is turn = some_of None 0 refl (sym (cell_same columns column None low) ∙ (same ∙ cell_same columns column (Some 0) low))
+    where
+      at : (cell : Cell) → cell_at column (replicate columns cell) ≡ cell_at column row
+      at cell = ap (λ (o : Option Cell). unwrap_or o None) (ap (λ (xs : List Act). column_of column (row_from (Some (replicate columns cell)) xs)) (sym is) ∙ of_cell cell)
+
+      same : cell_at column (replicate columns None) ≡ cell_at column (replicate columns (Some 0))
+      same = at None ∙ sym (at (Some 0))
+  none_fits (Put cells ∷ xs) is turn = some_of (column_of column (row_from (Some cells) xs)) (cell_at column row)
+      (ap (λ (ys : List Act). column_of column (row_from None ys)) (sym is) ∙ made None)
+      (ap (λ (ys : List Act). column_of column (row_from (Some (replicate columns None)) ys)) (sym is) ∙ of_cell None)
+  none_fits (Set changes ∷ xs) is turn = turn.0
+  none_fits (Del ∷ xs) is turn = turn.0
+
+  pub whole_decided : (older : Option (List Cell)) → IsWide columns older → FitInTurn older acts → column_of column (row_from older acts) ≡ column_of column (Some (map (λ cell. unwrap_or cell None) patch))
+  whole_decided (Some older) wide turn = of_row older wide
+  whole_decided None wide turn = absurd (none_fits acts refl turn)

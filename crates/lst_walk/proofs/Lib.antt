@@ -1,4 +1,5 @@
 pub mod Reading
+pub mod Finds
 pub mod Meanings
 pub mod Lists
 pub mod Chains
@@ -7,3 +8,9 @@ pub mod Filling
 pub mod Walking
 pub mod Acting
 pub mod Resolving
+pub mod Tails
+pub mod Entries
+pub mod Using
+pub mod Loading
+pub mod Paging
+pub mod Rowing

@@ -1,13 +1,14 @@
 -- Rows and patches as lists.
-use Rattle.std.proofs.Common.{◌≡◌, ℕ, zero, suc, ◌+◌, ◌<◌, ◌≤◌, List, [], ◌∷◌, ◌++◌, Bool, true, false, cond, length, get_or, take, refl, sym, ap, ◌∙◌, arith, true≢false}
-use Rattle.std.specs.Prelude.{Option, None, Some, is_some, slice_index, slice_get, unwrap_or, replicate}
+use Rattle.std.proofs.Common.{◌≢◌, map, ◌≡◌, ℕ, zero, suc, ◌+◌, ◌<◌, ◌≤◌, List, [], ◌∷◌, ◌++◌, Bool, true, false, cond, length, get_or, take, refl, sym, ap, ◌∙◌, arith, true≢false}
+use Rattle.std.specs.Prelude.{Option, None, Some, is_some, slice_index, slice_get, slice_index_or, slice_set, unwrap_or, replicate}
 use Rattle.std.specs.List.{list_all}
 use Rattle.lst_model.specs.declared.acts.Act.TheVariants.{Set}
 use Rattle.lst_model.specs.Cells.{Cell, number_of, number_at, cell_of, cells_of, overlaid, patched, has_bit}
 use Rattle.lst_model.specs.Histories.{row_after}
+use Rattle.lst_pages.specs.Rows.{cell_at, column_of}
 use Rattle.lst_walk.specs.Patches.{newest, merged, cell_in, IsWide}
 
-none_some : {A B : Type 0} (x : A) → None ≡ Some x → B
+pub none_some : {A B : Type 0} (x : A) → None ≡ Some x → B
 none_some x e = absurd (true≢false (sym (ap is_some e)))
 
 -- ---- one more element
@@ -62,6 +63,21 @@ pub patched_at : (mask c : ℕ) (values : List Cell) (k : ℕ) → k < length va
 patched_at mask c [] k low = absurd (omega arith)
 patched_at mask c (x ∷ values) zero low = ap (λ (n : ℕ). Some (cond (has_bit mask n) (Some x) None)) (let e : c ≡ c + zero = omega arith in e)
 patched_at mask c (x ∷ values) (suc k) low = patched_at mask (suc c) values k (omega arith) ∙ ap (λ (n : ℕ). Some (cond (has_bit mask n) (Some (get_or values k None)) None)) (let e : suc c + k ≡ c + suc k = omega arith in e)
+
+-- where the newer one of two patches sets nothing and both are none, neither does
+newest_none : (a b : Option Cell) → newest a b ≡ None → (a ≡ None) × (b ≡ None)
+newest_none None b e = (refl, e)
+newest_none (Some x) b e = none_some x (sym e)
+
+pub merged_none : (newer older : List (Option Cell)) (k : ℕ) → length newer ≡ length older → slice_get (merged newer older) k ≡ Some None → (slice_get newer k ≡ Some None) × (slice_get older k ≡ Some None)
+merged_none [] older k same at = none_some None at
+merged_none (x ∷ newer) [] k same at = absurd (omega arith)
+merged_none (x ∷ newer) (y ∷ older) zero same at = let q = newest_none x y (ap (λ o. unwrap_or o None) at) in (ap (λ o. Some o) q.0, ap (λ o. Some o) q.1)
+merged_none (x ∷ newer) (y ∷ older) (suc k) same at = merged_none newer older k (omega arith) at
+
+bit_none : (b : Bool) (x : Cell) → cond b (Some x) None ≡ None → b ≡ false
+bit_none true x e = none_some x (sym e)
+bit_none false x e = refl
 
 -- ---- rows under patches
 
@@ -162,3 +178,78 @@ take_same (suc n) (suc m) x low = ap (λ xs. x ∷ xs) (take_same n m x (omega a
 
 pub patched_first : (mask : ℕ) (values : List Cell) (k : ℕ) → k < length values → slice_get (patched mask 0 values) k ≡ Some (cond (has_bit mask k) (Some (get_or values k None)) None)
 patched_first mask values k low = patched_at mask 0 values k low ∙ ap (λ (n : ℕ). Some (cond (has_bit mask n) (Some (get_or values k None)) None)) (let f : 0 + k ≡ k = omega arith in f)
+
+-- a column that a set leaves has no bit in its mask
+pub patched_none : (mask : ℕ) (values : List Cell) (k : ℕ) → k < length values → slice_get (patched mask 0 values) k ≡ Some None → has_bit mask k ≡ false
+patched_none mask values k low at = bit_none (has_bit mask k) (get_or values k None) (ap (λ o. unwrap_or o None) (sym (patched_first mask values k low) ∙ at))
+
+-- ---- a patch with one more cell of the row
+
+overlaid_known : (row : List Cell) (patch : List (Option Cell)) (k : ℕ) (cell : Cell) → k < length patch → cell_at k (overlaid row patch) ≡ cell → overlaid row (slice_set patch k (Some cell)) ≡ overlaid row patch
+overlaid_known [] patch k cell low is = refl
+overlaid_known (x ∷ row) [] k cell low is = absurd (omega arith)
+overlaid_known (x ∷ row) (y ∷ patch) zero cell low is = ap (λ z. z ∷ overlaid row patch) (sym is)
+overlaid_known (x ∷ row) (y ∷ patch) (suc k) cell low is = ap (λ r. unwrap_or y x ∷ r) (overlaid_known row patch k cell (omega arith) is)
+
+pub set_known : (row : Option (List Cell)) (patch : List (Option Cell)) (k : ℕ) (cell : Cell) → k < length patch → column_of k (row_after row (Set patch)) ≡ Some cell → row_after row (Set (slice_set patch k (Some cell))) ≡ row_after row (Set patch)
+set_known None patch k cell low is = none_some cell is
+set_known (Some row) patch k cell low is = ap (λ (r : List Cell). Some r) (overlaid_known row patch k cell low (ap (λ (o : Option Cell). unwrap_or o None) is))
+
+pub column_some : (k : ℕ) (row : Option (List Cell)) (cell : Cell) → column_of k row ≡ Some cell → is_some row ≡ true
+column_some k None cell is = none_some cell is
+column_some k (Some row) cell is = refl
+
+-- no other column changes by it
+overlaid_other : (row : List Cell) (patch : List (Option Cell)) (k other : ℕ) (cell : Cell) → other ≢ k → cell_at other (overlaid row (slice_set patch k (Some cell))) ≡ cell_at other (overlaid row patch)
+overlaid_other [] patch k other cell ne = refl
+overlaid_other (x ∷ row) [] k other cell ne = refl
+overlaid_other (x ∷ row) (y ∷ patch) zero zero cell ne = absurd (ne refl)
+overlaid_other (x ∷ row) (y ∷ patch) zero (suc other) cell ne = refl
+overlaid_other (x ∷ row) (y ∷ patch) (suc k) zero cell ne = refl
+overlaid_other (x ∷ row) (y ∷ patch) (suc k) (suc other) cell ne = overlaid_other row patch k other cell (λ e. ne (omega arith))
+
+pub column_other : (row : Option (List Cell)) (patch : List (Option Cell)) (k other : ℕ) (cell : Cell) → other ≢ k → column_of other (row_after row (Set (slice_set patch k (Some cell)))) ≡ column_of other (row_after row (Set patch))
+column_other None patch k other cell ne = refl
+column_other (Some row) patch k other cell ne = ap (λ (x : Cell). Some x) (overlaid_other row patch k other cell ne)
+
+-- a row of one cell in all columns
+pub cell_same : (n k : ℕ) (cell : Cell) → k < n → cell_at k (replicate n cell) ≡ cell
+cell_same zero k cell low = absurd (omega arith)
+cell_same (suc n) zero cell low = refl
+cell_same (suc n) (suc k) cell low = cell_same n k cell (omega arith)
+
+-- a patch that sets each column is the row
+overlaid_all : (row : List Cell) (patch : List (Option Cell)) → length row ≡ length patch → list_all is_some patch ≡ true → overlaid row patch ≡ map (λ cell. unwrap_or cell None) patch
+overlaid_all [] [] same all = refl
+overlaid_all [] (y ∷ patch) same all = absurd (omega arith)
+overlaid_all (x ∷ row) [] same all = absurd (omega arith)
+overlaid_all (x ∷ row) (None ∷ patch) same all = absurd (true≢false (sym all))
+overlaid_all (x ∷ row) (Some y ∷ patch) same all = ap (λ (r : List Cell). y ∷ r) (overlaid_all row patch (let e : length row ≡ length patch = omega arith in e) all)
+
+pub row_all : (columns : ℕ) (row : Option (List Cell)) (patch : List (Option Cell)) → IsWide columns row → length patch ≡ columns → is_some (row_after row (Set patch)) ≡ true → list_all is_some patch ≡ true → row_after row (Set patch) ≡ Some (map (λ cell. unwrap_or cell None) patch)
+row_all columns None patch wide same some all = absurd (true≢false (sym some))
+row_all columns (Some row) patch wide same some all = let w : length row ≡ columns = wide in ap (λ (r : List Cell). Some r) (overlaid_all row patch (omega arith) all)
+
+-- where not each column is set, some column isn't
+pub some_unset : (patch : List (Option Cell)) → list_all is_some patch ≡ false → (k : ℕ) × (k < length patch) × (slice_get patch k ≡ Some None)
+some_unset [] none = absurd (true≢false none)
+some_unset (None ∷ patch) none = (0, omega arith, refl)
+some_unset (Some y ∷ patch) none = let q = some_unset patch none in (suc q.0, (let low = q.1 in omega arith), q.2)
+
+pub none_set : (n : ℕ) → 0 < n → list_all is_some (replicate {A = Option Cell} n None) ≡ false
+none_set zero some = absurd (omega arith)
+none_set (suc n) some = refl
+
+-- a place that is still unset is another one
+pub still_unset : (patch : List (Option Cell)) (k j : ℕ) (cell : Cell) → k < length patch → slice_get (slice_set patch k (Some cell)) j ≡ Some None → (slice_get patch j ≡ Some None) × (j ≢ k)
+still_unset [] k j cell low at = absurd (omega arith)
+still_unset (y ∷ patch) zero zero cell low at = none_some cell (sym (ap (λ o. unwrap_or o None) at))
+still_unset (y ∷ patch) zero (suc j) cell low at = (at, λ e. omega arith)
+still_unset (y ∷ patch) (suc k) zero cell low at = (at, λ e. omega arith)
+still_unset (y ∷ patch) (suc k) (suc j) cell low at = let q = still_unset patch k j cell (omega arith) at in (q.0, λ e. q.1 (omega arith))
+
+-- a cell of the row of a patch
+pub filled_at : (patch : List (Option Cell)) (k : ℕ) → k < length patch → slice_get (map (λ cell. unwrap_or cell None) patch) k ≡ Some (unwrap_or (slice_index_or patch k None) None)
+filled_at [] k low = absurd (omega arith)
+filled_at (y ∷ patch) zero low = refl
+filled_at (y ∷ patch) (suc k) low = filled_at patch k (omega arith)

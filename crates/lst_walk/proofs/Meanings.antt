@@ -45,6 +45,9 @@ module _ (v : View) (s tail : ℕ) (l : Limits) (limits : v.limits ≡ l) (few :
   pub nulls_found : (x : ℕ) (e : Encoding) → e ≡ encoding_of x → ((c : Version) → IsAt v s tail c → WordFound l c 1 x) → (c : Version) → IsAt v s tail c → e.nulls ≡ nulls_of c.encoding
   nulls_found x e is found c at = ap (λ (d : Encoding). d.nulls) (is ∙ ap encoding_of ((found c at).encoding refl))
 
+  pub encoding_found : (x : ℕ) (e : Encoding) → e ≡ encoding_of x → ((c : Version) → IsAt v s tail c → WordFound l c 1 x) → (c : Version) → IsAt v s tail c → e ≡ encoding_of c.encoding
+  encoding_found x e is found c at = is ∙ ap encoding_of ((found c at).encoding refl)
+
   pub value_found : (column x : ℕ) → column < l.columns → ((c : Version) → IsAt v s tail c → WordFound l c (3 + column) x) → (c : Version) → IsAt v s tail c → x ≡ slice_index c.values column
   value_found column x low found c at = (found c at).value column low refl
 

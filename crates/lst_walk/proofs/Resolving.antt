@@ -132,7 +132,7 @@ module _ (v w x : View) (s rec : ℕ) (passed : List Version) (more : Watched w 
   all_later : All (IsResolved v w s (range_of rec)) passed → All (IsResolved v x s (range_of rec)) passed
   all_later = All-weaker (IsResolved v w s (range_of rec)) (IsResolved v x s (range_of rec)) (λ c r. (r.0, r.1, resolves_later v w x s (range_of rec) r.0 more r.2)) passed
 
-  copy_later : (head : ℕ) (copy : List Version) → IsCopy w.limits (knows w s).facts rec head copy → IsCopy x.limits (knows x s).facts rec head copy
+  pub copy_later : (head : ℕ) (copy : List Version) → IsCopy w.limits (knows w s).facts rec head copy → IsCopy x.limits (knows x s).facts rec head copy
   copy_later head copy is = subst (λ (l : Limits). IsCopy l (knows x s).facts rec head copy) (sym more.learns.limits) (copies_stay w.limits (knows w s).facts (knows x s).facts rec head copy (facts_on w x s more) is)
 
   all_stamped : (own : ℕ) → (w.whole ≡ true → All (IsStampedIn (words_of w) own) passed) → x.whole ≡ true → All (IsStampedIn (words_of x) own) passed
@@ -145,6 +145,9 @@ module _ (v w x : View) (s rec : ℕ) (passed : List Version) (more : Watched w 
     resolved = All-push (IsResolved v x s (range_of rec)) passed c (all_later p.resolved) is;
     stamped = λ whole. All-push (IsStampedIn (words_of x) (name_of s (knows v s).number)) passed c (all_stamped (name_of s (knows v s).number) p.stamped whole) (last whole);
   }
+
+  pub passes_later : (rest : List Version) → Passes v w s rec passed rest → Passes v x s rec passed rest
+  passes_later rest p = record { head = p.head; copy = copy_later p.head (passed ++ rest) p.copy; resolved = all_later p.resolved; stamped = all_stamped (name_of s (knows v s).number) p.stamped }
 
 -- ---- what they make of a row
 

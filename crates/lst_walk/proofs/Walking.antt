@@ -1,5 +1,5 @@
 -- One version after the other.
-use Rattle.std.proofs.Common.{◌≡◌, ◌⊎◌, ℕ, ◌+◌, ◌*◌, ◌/◌, ◌<◌, ◌≤◌, List, [], ◌∷◌, ◌++◌, Bool, true, false, cond, length, refl, sym, subst, ap, ◌∙◌, arith, inl, inr, ⊎_elim, Contains}
+use Rattle.std.proofs.Common.{append_assoc, ◌&&◌, ◌≡◌, ◌⊎◌, ℕ, ◌+◌, ◌*◌, ◌/◌, ◌<◌, ◌≤◌, List, [], ◌∷◌, ◌++◌, Bool, true, false, cond, length, refl, sym, subst, ap, ◌∙◌, arith, inl, inr, ⊎_elim, Contains}
 use Rattle.std.proofs.lemmas.List.Elements.{All-nil}
 use Rattle.std.specs.Prelude.{Option, None, Some, replicate}
 use Rattle.lst_layout.specs.declared.limits.Limits.{Limits}
@@ -19,6 +19,7 @@ use Rattle.lst_rule.specs.Rule.{knows, hosts}
 use Rattle.lst_rule.specs.Learned.{Possible}
 use Rattle.lst_rule.specs.declared.store.Store.{Store}
 use Rattle.lst_rule.specs.Seats.{Sitting}
+use Rattle.lst_pages.specs.Rows.{column_of}
 use Rattle.lst_sights.specs.Copies.{Version, IsVersionOf, IsChainFrom, IsCopy, IsLinked}
 use Rattle.lst_sights.specs.Seen.{sees, act_by, seen_acts, HasKey}
 use Rattle.lst_sights.specs.Loads.{ChainFound, IsBack}
@@ -31,11 +32,13 @@ use Rattle.lst_sights.proofs.Turns.{sights_fit}
 use Rattle.lst_sights.proofs.Watching.{watchers_keep}
 use Rattle.lst_walk.specs.Readers.{IsReader, IsAt, HasVersion, Resolves, IsResolved}
 use Rattle.lst_walk.specs.Patches.{seen_after, cell_in, IsWide}
-use Rattle.lst_walk.specs.Walks.{IsSightOf, IsRowOf, IsCellOf, IsStampedIn, Passes, WalksRow, WalksCell, Visited, Acted, Tells, Told, RowWalk, CellWalk}
+use Rattle.lst_walk.specs.Pages.{touches_by, is_told, NoneTold, UsesPage}
+use Rattle.lst_walk.specs.Walks.{IsSightOf, IsRowOf, IsCellOf, IsStampedIn, Passes, WalksRow, WalksCell, UsedPage, MakeColumn, Visited, Acted, Leaves, Tells, Told, RowWalk, CellWalk}
 use Rattle.lst_walk.specs.declared.rows.Visit.{Visit}
 use Rattle.lst_walk.specs.declared.rows.Visit.TheVariants.{Row, NoRow, Older}
 use Rattle.lst_walk.proofs.Reading.{watched_on, facts_on, sees_on}
-use Rattle.lst_walk.proofs.Resolving.{resolves_later, resolves_earlier, stamped_later, resolved_stamped, passes_next, row_passed, fit_passed}
+use Rattle.lst_walk.proofs.Resolving.{resolves_later, resolves_earlier, stamped_later, resolved_stamped, passes_next, passes_later, row_passed, fit_passed}
+use Rattle.lst_walk.proofs.Loading.{hand_stays}
 use Rattle.lst_walk.proofs.Stamping.{at_same}
 use Rattle.lst_walk.proofs.Lists.{set_unset, length-unset}
 use Rattle.lst_walk.proofs.Chains.{row_step, fit_step, wide_row}
@@ -81,6 +84,25 @@ seen_tells v s c columns column (Some held) seen told = λ older wide fits. ap (
 
 pub unseen_tells : (v : Known) (s : ℕ) (c : Version) (columns column : ℕ) → sees v s c.writer ≡ false → Tells v s c columns column None
 unseen_tells v s c columns column unseen = λ older. ap (λ (b : Bool). cell_in column (cond b (row_after older (act_by c)) older)) unseen
+
+-- and neither, or untouched, it leaves a column
+pub unseen_leaves : (v : Known) (s column : ℕ) (c : Version) → sees v s c.writer ≡ false → is_told v s column c ≡ false
+unseen_leaves v s column c unseen = ap (λ (b : Bool). b && touches_by column c.encoding) unseen
+
+pub seen_leaves : (v : Known) (s column : ℕ) (c : Version) → touches_by column c.encoding ≡ false → is_told v s column c ≡ false
+seen_leaves v s column c none = both (sees v s c.writer) (touches_by column c.encoding) none
+  where
+    both : (a b : Bool) → b ≡ false → (a && b) ≡ false
+    both true b e = e
+    both false b e = refl
+
+pub seen_row_leaves : (v : Known) (s : ℕ) (c : Version) (patch more : List (Option Cell)) (r : Visit) → Leaves (λ column. touches_by column c.encoding) patch more r → Leaves (λ column. is_told v s column c) patch more r
+seen_row_leaves v s c patch more (Row nulls) is = tt
+seen_row_leaves v s c patch more NoRow is = tt
+seen_row_leaves v s c patch more Older is = (λ column none. ((is.0 column none).0, seen_leaves v s column c (is.0 column none).1), is.1)
+
+pub unseen_row_leaves : (v : Known) (s : ℕ) (c : Version) (patch : List (Option Cell)) → sees v s c.writer ≡ false → Leaves (λ column. is_told v s column c) patch patch Older
+unseen_row_leaves v s c patch unseen = (λ column none. (none, unseen_leaves v s column c unseen), inl refl)
 
 -- ---- walks
 
@@ -146,12 +168,14 @@ module _ (store : Store) (v : View) (seat : Sitting) (s rec head : ℕ) (p : Pos
     passed = [];
     versions = found.copy;
     passes = passes_start;
-    made = λ older. sym (set_unset older store.layout.limits.columns) ∙ ap (λ (q : List (Option Cell)). row_after older (Set q)) (sym is);
+    made = λ column low. inl (λ older. ap (column_of column) (sym (set_unset older store.layout.limits.columns) ∙ ap (λ (q : List (Option Cell)). row_after older (Set q)) (sym is)));
     chain = found.is.chain;
     fits = copy_fits;
     acts = seen_acts (knows v s) s found.copy;
     sees = copy_seen;
     answers = sym (set_unset (row_from None (seen_acts (knows v s) s found.copy)) store.layout.limits.columns) ∙ ap (λ (q : List (Option Cell)). row_after (row_from None (seen_acts (knows v s) s found.copy)) (Set q)) (sym is);
+    whole = refl;
+    left = λ column none. tt;
   }
 
   pub cell_start : (column : ℕ) → CellWalk store v seat s rec column head
@@ -168,12 +192,39 @@ module _ (store : Store) (v : View) (seat : Sitting) (s rec head : ℕ) (p : Pos
     acts = seen_acts (knows v s) s found.copy;
     sees = copy_seen;
     answers = refl;
+    whole = refl;
+    left = tt;
   }
+
+-- one more that isn't seen, or leaves the column
+none_told_next : (k : Known) (s column : ℕ) (above : List Version) (c : Version) → NoneTold k s column above → is_told k s column c ≡ false → NoneTold k s column (above ++ c ∷ [])
+none_told_next k s column [] c none e = (e, tt)
+none_told_next k s column (d ∷ above) c none e = (none.0, none_told_next k s column above c none.1 e)
+
+-- a page that was used stays so with further looks, and once one more version is passed
+pub used_on : (v a b : View) (s rec column : ℕ) (passed rest : List Version) → Watched a b s → UsedPage v a s rec column passed rest → UsedPage v b s rec column passed rest
+used_on v a b s rec column passed rest more used = let u = used.uses in record {
+  above = used.above;
+  below = used.below;
+  parts = used.parts;
+  uses = record { between = u.between; before = u.before; after = watched_on u.between a b s u.after more; number = u.number; words = u.words; frame = u.frame; in_hand = hand_stays a b s u.frame u.words more u.in_hand; may = u.may };
+}
+
+used_next : (v a d : View) (s rec column : ℕ) (passed versions : List Version) (c : Version) (rest : List Version) → versions ≡ c ∷ rest → Watched a d s → UsedPage v a s rec column passed versions → UsedPage v d s rec column (passed ++ c ∷ []) rest
+used_next v a d s rec column passed versions c rest is more used = let u : UsedPage v d s rec column passed (c ∷ rest) = used_on v a d s rec column passed (c ∷ rest) more (subst (λ (cs : List Version). UsedPage v a s rec column passed cs) is used) in record {
+  above = u.above;
+  below = u.below ++ c ∷ [];
+  parts = ap (λ (cs : List Version). cs ++ c ∷ []) u.parts ∙ append_assoc u.above u.below (c ∷ []);
+  uses = subst (λ (cs : List Version). UsesPage v d s rec column u.above cs) (sym (append_assoc u.below (c ∷ []) rest)) u.uses;
+}
 
 -- one version, at the seat a; the loads of the visit led to b, and those of the back word to d
 module _ (store : Store) (v : View) (a b d : Sitting) (s rec n range t m : ℕ) (host : hosts v s ≡ true) (opened : (knows v s).is_open ≡ true) (some : 0 < n) (range_is : range ≡ rec / 256) (tail_is : t ≡ range * store.layout.limits.tails + n) where
   seen_same : Possible v → Watched v a.view s → (c : Version) (older : Option (List Cell)) → seen_after (knows a.view s) s c older ≡ seen_after (knows v s) s c older
   seen_same p watched c older = ap (λ (e : Bool). cond e (row_after older (act_by c)) older) (sees_on v a.view s c.writer p host opened watched)
+
+  told_same : (column : ℕ) → Possible v → Watched v a.view s → (c : Version) → is_told (knows v s) s column c ≡ is_told (knows a.view s) s column c
+  told_same column p watched c = ap (λ (e : Bool). e && touches_by column c.encoding) (sym (sees_on v a.view s c.writer p host opened watched))
 
   -- the version is resolved
   resolved_here : (c : Version) → IsReader store a s → Watched v a.view s → IsAt a.view s t c → Resolves a.view b.view s range n → Watched b.view d.view s → IsResolved v d.view s (range_of rec) c
@@ -195,9 +246,9 @@ module _ (store : Store) (v : View) (a b d : Sitting) (s rec n range t m : ℕ) 
       (subst (λ (cs : List Version). Passes v a.view s rec passed cs) is passes) (resolved_here c reader watched at resolves bd) (stamped_here c reader watched at resolves bd)
 
   -- what is seen of it, and of those that were passed, makes this of a row of older ones
-  made_here : (passed : List Version) (c : Version) (patch : List (Option Cell)) → Possible v → Watched v a.view s → ((older : Option (List Cell)) → row_from older (seen_acts (knows v s) s passed) ≡ row_after older (Set patch)) → (older : Option (List Cell))
-      → row_from older (seen_acts (knows v s) s (passed ++ c ∷ [])) ≡ row_after (seen_after (knows a.view s) s c older) (Set patch)
-  made_here passed c patch p watched made older = row_passed (knows v s) s passed c older ∙ (made (seen_after (knows v s) s c older) ∙ ap (λ (r : Option (List Cell)). row_after r (Set patch)) (sym (seen_same p watched c older)))
+  made_here : (column : ℕ) (passed : List Version) (c : Version) (patch : List (Option Cell)) → Possible v → Watched v a.view s → MakeColumn (knows v s) s column passed patch → (older : Option (List Cell))
+      → column_of column (row_from older (seen_acts (knows v s) s (passed ++ c ∷ []))) ≡ column_of column (row_after (seen_after (knows a.view s) s c older) (Set patch))
+  made_here column passed c patch p watched made older = ap (column_of column) (row_passed (knows v s) s passed c older) ∙ (made (seen_after (knows v s) s c older) ∙ ap (λ (r : Option (List Cell)). column_of column (row_after r (Set patch))) (sym (seen_same p watched c older)))
 
   cell_made_here : (column : ℕ) (passed : List Version) (c : Version) → Possible v → Watched v a.view s → ((older : Option (List Cell)) → cell_in column (row_from older (seen_acts (knows v s) s passed)) ≡ cell_in column older) → (older : Option (List Cell))
       → cell_in column (row_from older (seen_acts (knows v s) s (passed ++ c ∷ []))) ≡ cell_in column (seen_after (knows a.view s) s c older)
@@ -217,8 +268,8 @@ module _ (store : Store) (v : View) (a b d : Sitting) (s rec n range t m : ℕ) 
       ∙ ap (λ (r : Option (List Cell)). row_after r (Set patch)) (row_step (knows v s) s c cs ∙ sym (seen_same walk.possible walk.watched c (row_from None (seen_acts (knows v s) s cs)))))
 
   pub row_next : (patch more : List (Option Cell)) → RowWalk store v a s rec n patch → Watched a.view b.view s → length more ≡ store.layout.limits.columns → ((c : Version) → IsAt a.view s t c → Visited (knows a.view s) s c store.layout.limits.columns patch more Older)
-      → Resolves a.view b.view s range n → IsReader store d s → Watched b.view d.view s → ((c : Version) → IsAt a.view s t c → m ≡ c.back) → RowWalk store v d s rec m more
-  row_next patch more walk ab wide visited resolves reader bd back = let q = at_number store a s rec n walk.reader walk.versions walk.chain some range t range_is tail_is in let ad = watched_on a.view b.view d.view s ab bd in record {
+      → Resolves a.view b.view s range n → IsReader store d s → Watched b.view d.view s → ((c : Version) → IsAt a.view s t c → m ≡ c.back) → ((c : Version) → IsAt a.view s t c → Leaves (λ column. is_told (knows a.view s) s column c) patch more Older) → RowWalk store v d s rec m more
+  row_next patch more walk ab wide visited resolves reader bd back leaves = let q = at_number store a s rec n walk.reader walk.versions walk.chain some range t range_is tail_is in let ad = watched_on a.view b.view d.view s ab bd in record {
     reader = reader;
     possible = walk.possible;
     watched = watched_on v a.view d.view s walk.watched ad;
@@ -226,13 +277,25 @@ module _ (store : Store) (v : View) (a b d : Sitting) (s rec n range t m : ℕ) 
     passed = walk.passed ++ q.0 ∷ [];
     versions = q.1;
     passes = passed_here walk.passed q.0 q.1 walk.versions q.2 walk.reader walk.watched walk.passes q.3 ab resolves bd;
-    made = λ older. made_here walk.passed q.0 patch walk.possible walk.watched walk.made older ∙ visited q.0 q.3 older;
+    made = λ column low. ⊎_elim
+        (λ (made : MakeColumn (knows v s) s column walk.passed patch). inl (λ older. made_here column walk.passed q.0 patch walk.possible walk.watched made older ∙ ap (column_of column) (visited q.0 q.3 older)))
+        (λ (used : UsedPage v a.view s rec column walk.passed walk.versions). inr (used_next v a.view d.view s rec column walk.passed walk.versions q.0 q.1 q.2 ad used))
+        (walk.made column low);
     chain = subst (λ (k : ℕ). IsChainFrom store.layout.limits (knows d.view s).facts rec k q.1) (sym (back q.0 q.3)) (chain_stays store.layout.limits (knows a.view s).facts (knows d.view s).facts rec q.0.back q.1 (facts_on a.view d.view s ad) q.5);
     fits = (fit_step (knows v s) s q.0 q.1 (subst (λ (cs : List Version). FitInTurn None (seen_acts (knows v s) s cs)) q.2 walk.fits)).0;
     acts = walk.acts;
     sees = walk.sees;
     answers = newest_after q.0 q.1 patch walk q.2 ∙ visited q.0 q.3 (row_from None (seen_acts (knows v s) s q.1));
+    whole = walk.whole ∙ (ap (λ (cs : List Version). seen_acts (knows v s) s (walk.passed ++ cs)) q.2 ∙ ap (seen_acts (knows v s) s) (sym (append_assoc walk.passed (q.0 ∷ []) q.1)));
+    left = λ column none. let h = (leaves q.0 q.3).0 column none in none_told_next (knows v s) s column walk.passed q.0 (walk.left column h.0) (told_same column walk.possible walk.watched q.0 ∙ h.1);
   }
+
+  -- the copy is the same
+  pub row_copy_same : (patch more : List (Option Cell)) (walk : RowWalk store v a s rec n patch) (ab : Watched a.view b.view s) (wide : length more ≡ store.layout.limits.columns) (visited : (c : Version) → IsAt a.view s t c → Visited (knows a.view s) s c store.layout.limits.columns patch more Older)
+      (resolves : Resolves a.view b.view s range n) (reader : IsReader store d s) (bd : Watched b.view d.view s) (back : (c : Version) → IsAt a.view s t c → m ≡ c.back) (leaves : (c : Version) → IsAt a.view s t c → Leaves (λ column. is_told (knows a.view s) s column c) patch more Older)
+      → let next = row_next patch more walk ab wide visited resolves reader bd back leaves in walk.passed ++ walk.versions ≡ next.passed ++ next.versions
+  unfolding row_next
+  row_copy_same patch more walk ab wide visited resolves reader bd back leaves = let q = at_number store a s rec n walk.reader walk.versions walk.chain some range t range_is tail_is in ap (λ (cs : List Version). walk.passed ++ cs) q.2 ∙ sym (append_assoc walk.passed (q.0 ∷ []) q.1)
 
   pub row_done : (nulls : ℕ) (patch more : List (Option Cell)) (row : List Cell) → RowWalk store v a s rec n patch → ((c : Version) → IsAt a.view s t c → Visited (knows a.view s) s c store.layout.limits.columns patch more (Row nulls))
       → ((c : Version) → IsAt a.view s t c → row ≡ overlaid (cells_of nulls 0 c.values) more) → IsRowOf v s rec (Some row)
@@ -255,8 +318,11 @@ module _ (store : Store) (v : View) (a b d : Sitting) (s rec n range t m : ℕ) 
     walk.passed ++ q.0 ∷ [],
     q.1,
     passed_here walk.passed q.0 q.1 walk.versions q.2 walk.reader walk.watched walk.passes q.3 ab resolves bd,
-    inr (λ older wide turn. made_here walk.passed q.0 patch walk.possible walk.watched walk.made older
-        ∙ (visited q.0 q.3 older (wide_here walk.reader walk.watched older wide) (fits_here walk.passed q.0 older walk.possible walk.watched turn) ∙ ap (λ (r : List Cell). Some r) (sym (is q.0 q.3)))),
+    inr (inl (λ column low. ⊎_elim
+        (λ (made : MakeColumn (knows v s) s column walk.passed patch). inl (λ older wide turn. made_here column walk.passed q.0 patch walk.possible walk.watched made older
+        ∙ ap (column_of column) (visited q.0 q.3 older (wide_here walk.reader walk.watched older wide) (fits_here walk.passed q.0 older walk.possible walk.watched turn) ∙ ap (λ (r : List Cell). Some r) (sym (is q.0 q.3)))))
+        (λ (used : UsedPage v a.view s rec column walk.passed walk.versions). inr (used_next v a.view d.view s rec column walk.passed walk.versions q.0 q.1 q.2 (watched_on a.view b.view d.view s ab bd) used))
+        (walk.made column low))),
   )
 
   pub gone_walked : (patch more : List (Option Cell)) → RowWalk store v a s rec n patch → Watched a.view b.view s → ((c : Version) → IsAt a.view s t c → Visited (knows a.view s) s c store.layout.limits.columns patch more NoRow) → Resolves a.view b.view s range n
@@ -265,7 +331,10 @@ module _ (store : Store) (v : View) (a b d : Sitting) (s rec n range t m : ℕ) 
     walk.passed ++ q.0 ∷ [],
     q.1,
     passed_here walk.passed q.0 q.1 walk.versions q.2 walk.reader walk.watched walk.passes q.3 ab resolves bd,
-    inr (λ older wide turn. made_here walk.passed q.0 patch walk.possible walk.watched walk.made older ∙ visited q.0 q.3 older),
+    inr (inl (λ column low. ⊎_elim
+        (λ (made : MakeColumn (knows v s) s column walk.passed patch). inl (λ older wide turn. made_here column walk.passed q.0 patch walk.possible walk.watched made older ∙ ap (column_of column) (visited q.0 q.3 older)))
+        (λ (used : UsedPage v a.view s rec column walk.passed walk.versions). inr (used_next v a.view d.view s rec column walk.passed walk.versions q.0 q.1 q.2 (watched_on a.view b.view d.view s ab bd) used))
+        (walk.made column low))),
   )
 
   pub cell_walked : (column : ℕ) (held : Option ℕ) → CellWalk store v a s rec column n → Watched a.view b.view s → ((c : Version) → IsAt a.view s t c → Tells (knows a.view s) s c store.layout.limits.columns column (Some held)) → Resolves a.view b.view s range n
@@ -274,13 +343,13 @@ module _ (store : Store) (v : View) (a b d : Sitting) (s rec n range t m : ℕ) 
     walk.passed ++ q.0 ∷ [],
     q.1,
     passed_here walk.passed q.0 q.1 walk.versions q.2 walk.reader walk.watched walk.passes q.3 ab resolves bd,
-    inr (λ older wide turn. cell_made_here column walk.passed q.0 walk.possible walk.watched walk.made older
-        ∙ tells q.0 q.3 older (wide_here walk.reader walk.watched older wide) (fits_here walk.passed q.0 older walk.possible walk.watched turn)),
+    inr (inl (λ older wide turn. cell_made_here column walk.passed q.0 walk.possible walk.watched walk.made older
+        ∙ tells q.0 q.3 older (wide_here walk.reader walk.watched older wide) (fits_here walk.passed q.0 older walk.possible walk.watched turn))),
   )
 
   pub cell_next : (column : ℕ) → CellWalk store v a s rec column n → Watched a.view b.view s → ((c : Version) → IsAt a.view s t c → Tells (knows a.view s) s c store.layout.limits.columns column None)
-      → Resolves a.view b.view s range n → IsReader store d s → Watched b.view d.view s → ((c : Version) → IsAt a.view s t c → m ≡ c.back) → CellWalk store v d s rec column m
-  cell_next column walk ab tells resolves reader bd back = let q = at_number store a s rec n walk.reader walk.versions walk.chain some range t range_is tail_is in let ad = watched_on a.view b.view d.view s ab bd in record {
+      → Resolves a.view b.view s range n → IsReader store d s → Watched b.view d.view s → ((c : Version) → IsAt a.view s t c → m ≡ c.back) → ((c : Version) → IsAt a.view s t c → is_told (knows a.view s) s column c ≡ false) → CellWalk store v d s rec column m
+  cell_next column walk ab tells resolves reader bd back leaves = let q = at_number store a s rec n walk.reader walk.versions walk.chain some range t range_is tail_is in let ad = watched_on a.view b.view d.view s ab bd in record {
     reader = reader;
     possible = walk.possible;
     watched = watched_on v a.view d.view s walk.watched ad;
@@ -294,7 +363,15 @@ module _ (store : Store) (v : View) (a b d : Sitting) (s rec n range t m : ℕ) 
     sees = walk.sees;
     answers = let older : Option (List Cell) = row_from None (seen_acts (knows v s) s q.1) in walk.answers ∙ (ap (λ (cs : List Version). cell_in column (row_from None (seen_acts (knows v s) s cs))) q.2
         ∙ (ap (cell_in column) (row_step (knows v s) s q.0 q.1 ∙ sym (seen_same walk.possible walk.watched q.0 older)) ∙ tells q.0 q.3 older));
+    whole = walk.whole ∙ (ap (λ (cs : List Version). seen_acts (knows v s) s (walk.passed ++ cs)) q.2 ∙ ap (seen_acts (knows v s) s) (sym (append_assoc walk.passed (q.0 ∷ []) q.1)));
+    left = none_told_next (knows v s) s column walk.passed q.0 walk.left (told_same column walk.possible walk.watched q.0 ∙ leaves q.0 q.3);
   }
+
+  -- the copy is the same
+  pub copy_same : (column : ℕ) (walk : CellWalk store v a s rec column n) (ab : Watched a.view b.view s) (tells : (c : Version) → IsAt a.view s t c → Tells (knows a.view s) s c store.layout.limits.columns column None) (resolves : Resolves a.view b.view s range n) (reader : IsReader store d s) (bd : Watched b.view d.view s)
+      (back : (c : Version) → IsAt a.view s t c → m ≡ c.back) (leaves : (c : Version) → IsAt a.view s t c → is_told (knows a.view s) s column c ≡ false) → let next = cell_next column walk ab tells resolves reader bd back leaves in walk.passed ++ walk.versions ≡ next.passed ++ next.versions
+  unfolding cell_next
+  copy_same column walk ab tells resolves reader bd back leaves = let q = at_number store a s rec n walk.reader walk.versions walk.chain some range t range_is tail_is in ap (λ (cs : List Version). walk.passed ++ cs) q.2 ∙ sym (append_assoc walk.passed (q.0 ∷ []) q.1)
 
   pub cell_done : (column : ℕ) (held : Option ℕ) → CellWalk store v a s rec column n → ((c : Version) → IsAt a.view s t c → Tells (knows a.view s) s c store.layout.limits.columns column (Some held)) → IsCellOf v s rec column held
   cell_done column held walk tells = let q = at_number store a s rec n walk.reader walk.versions walk.chain some range t range_is tail_is in let older : Option (List Cell) = row_from None (seen_acts (knows v s) s q.1) in
@@ -305,6 +382,55 @@ module _ (store : Store) (v : View) (a b d : Sitting) (s rec n range t m : ℕ) 
             ∙ (ap (cell_in column) (row_step (knows v s) s q.0 q.1 ∙ sym (seen_same walk.possible walk.watched q.0 older))
             ∙ tells q.0 q.3 older (wide_row store.layout.limits rec (knows v s) s q.1 q.5.whole) (λ e. fits (sym (sees_on v a.view s q.0.writer walk.possible host opened walk.watched) ∙ e))))),
       )
+
+-- with further looks the walk is where it was
+pub cell_stays : (store : Store) (v : View) (a b : Sitting) (s rec column n : ℕ) → CellWalk store v a s rec column n → Watched a.view b.view s → IsReader store b s → CellWalk store v b s rec column n
+cell_stays store v a b s rec column n walk ab reader = record {
+  reader = reader;
+  possible = walk.possible;
+  watched = watched_on v a.view b.view s walk.watched ab;
+  passed = walk.passed;
+  versions = walk.versions;
+  passes = passes_later v a.view b.view s rec walk.passed ab walk.versions walk.passes;
+  chain = chain_stays store.layout.limits (knows a.view s).facts (knows b.view s).facts rec n walk.versions (facts_on a.view b.view s ab) walk.chain;
+  fits = walk.fits;
+  acts = walk.acts;
+  sees = walk.sees;
+  answers = walk.answers;
+  made = walk.made;
+  whole = walk.whole;
+  left = walk.left;
+}
+
+-- with the same copy
+pub stays_same : (store : Store) (v : View) (a b : Sitting) (s rec column n : ℕ) (walk : CellWalk store v a s rec column n) (ab : Watched a.view b.view s) (reader : IsReader store b s) → let still = cell_stays store v a b s rec column n walk ab reader in walk.passed ++ walk.versions ≡ still.passed ++ still.versions
+unfolding cell_stays
+stays_same store v a b s rec column n walk ab reader = refl
+
+-- the same of a row
+pub row_stays : (store : Store) (v : View) (a b : Sitting) (s rec n : ℕ) (patch : List (Option Cell)) → RowWalk store v a s rec n patch → Watched a.view b.view s → IsReader store b s → RowWalk store v b s rec n patch
+row_stays store v a b s rec n patch walk ab reader = record {
+  reader = reader;
+  possible = walk.possible;
+  watched = watched_on v a.view b.view s walk.watched ab;
+  wide = walk.wide;
+  passed = walk.passed;
+  versions = walk.versions;
+  passes = passes_later v a.view b.view s rec walk.passed ab walk.versions walk.passes;
+  chain = chain_stays store.layout.limits (knows a.view s).facts (knows b.view s).facts rec n walk.versions (facts_on a.view b.view s ab) walk.chain;
+  fits = walk.fits;
+  acts = walk.acts;
+  sees = walk.sees;
+  answers = walk.answers;
+  made = λ column low. ⊎_elim (λ (made : MakeColumn (knows v s) s column walk.passed patch). inl made)
+      (λ (used : UsedPage v a.view s rec column walk.passed walk.versions). inr (used_on v a.view b.view s rec column walk.passed walk.versions ab used)) (walk.made column low);
+  whole = walk.whole;
+  left = walk.left;
+}
+
+pub row_stays_same : (store : Store) (v : View) (a b : Sitting) (s rec n : ℕ) (patch : List (Option Cell)) (walk : RowWalk store v a s rec n patch) (ab : Watched a.view b.view s) (reader : IsReader store b s) → let still = row_stays store v a b s rec n patch walk ab reader in walk.passed ++ walk.versions ≡ still.passed ++ still.versions
+unfolding row_stays
+row_stays_same store v a b s rec n patch walk ab reader = refl
 
 -- the chain's end
 pub row_over : (store : Store) (v : View) (a : Sitting) (s rec n : ℕ) (patch : List (Option Cell)) → n ≤ 0 → RowWalk store v a s rec n patch → IsRowOf v s rec None

@@ -1,23 +1,27 @@
 //! One column of a record's row.
-ghost use Rattle.std.specs.Prelude.{◌≡◌, ℕ, ◌+◌, ◌*◌, ◌<◌, ◌≤◌, true};
+ghost use Rattle.std.specs.Prelude.{◌≡◌, ℕ, ◌+◌, ◌*◌, ◌<◌, ◌≤◌, true, false, None};
 ghost use Rattle.lst_core_state.specs.Cells.{record_count};
 ghost use Rattle.lst_rule.specs.Rule.{knows, hosts};
 ghost use Rattle.lst_rule.specs.Stores.{IsSeatOf};
 ghost use Rattle.lst_sights.specs.Copies.{Version};
 ghost use Rattle.lst_sights.specs.Watching.{Watched};
-ghost use Rattle.lst_walk.specs.Readers.{IsReader, IsAt, HasVersion, Resolves};
+ghost use Rattle.lst_walk.specs.Readers.{IsReader, IsAt, HasVersion, LoadsTail, Resolves};
+ghost use Rattle.lst_walk.specs.Pages.{touches_by, is_told, SavesCell};
 ghost use Rattle.lst_walk.specs.Walks.{IsCellOf, WalksCell, Tells, Told};
 
+use crate::pages::{entry_of, number_of};
 use crate::stamps::is_seen;
-use crate::words::{encoding, head, value};
+use crate::words::{below, encoding, head, value};
 use lst_bits::{Kind, has_column};
 use lst_rule::{RecordId, Seat, Store};
-use lst_sights::{tail_of, version_below};
+use lst_sights::tail_of;
 
 /// The number in a column, 0 for null, of the row that the open transaction sees of a record: of the snapshot at its begin, with its own
 /// writes on it. None comes exactly where it sees no row, of a record without a seen key too. The walk goes along the chain from the newest
 /// version, to the first one that is seen and tells of the column. It resolves each version that it passes, this one included: where it finds
-/// the transaction committed and the start word not stamped, it stores the commit time there.
+/// the transaction committed and the start word not stamped, it stores the commit time there. Where the session has a pin, the column's page is
+/// taken in hand first, and its entry answers as soon as the walk is at a number that is at most the page's TPS, if the entry's time is at most
+/// the begin: at the head no word of a tail record is loaded then.
 pub fn column(store: &Store, seat: &mut Seat, s: u32, rec: RecordId, c: u32) -> Option<u64>
     requires seat { IsSeatOf store.now seat.old }
     requires host { hosts seat.old.view s ≡ true }
@@ -29,15 +33,20 @@ pub fn column(store: &Store, seat: &mut Seat, s: u32, rec: RecordId, c: u32) -> 
     ensures watched { Watched seat.old.view seat.new.view s }
     ensures cell { IsCellOf seat.old.view s rec.number c result }
     ensures walk { WalksCell seat.old.view seat.new.view s rec.number c result }
+    ensures saves { 0 < (knows seat.old.view s).pages.session.pin → SavesCell seat.old.view seat.new.view s rec.number c }
 {
     seat.consider();
     let range = rec.number / 256;
     let mut number = head(store, seat, s, rec);
+    let entry = entry_of(store, seat, s, rec, c);
     while number > 0 {
+        if number as u64 <= entry.until {
+            return number_of(store, seat, s, rec, entry);
+        }
         if let Some(held) = held(store, seat, s, range, number, c) {
             return held;
         }
-        number = version_below(store, seat, s, tail_of(store, range, number));
+        number = below(store, seat, s, tail_of(store, range, number));
     }
     None
 }
@@ -59,7 +68,9 @@ fn held(
     requires column { column < store.now.layout.limits.columns }
     ensures reader { IsReader store.now seat.new s }
     ensures watched { Watched seat.old.view seat.new.view s }
+    ensures loads { LoadsTail seat.old.view seat.new.view s (range * store.now.layout.limits.tails + number) }
     ensures tells { (c : Version) → IsAt seat.old.view s (range * store.now.layout.limits.tails + number) c → Tells (knows seat.old.view s) s c store.now.layout.limits.columns column result }
+    ensures leaves { result ≡ None → (c : Version) → IsAt seat.old.view s (range * store.now.layout.limits.tails + number) c → is_told (knows seat.old.view s) s column c ≡ false }
     ensures resolved { Resolves seat.old.view seat.new.view s range number }
 {
     if is_seen(store, seat, s, range, number) {
@@ -76,7 +87,9 @@ fn told(store: &Store, seat: &mut Seat, s: u32, tail: u32, column: u32) -> Optio
     requires column { column < store.now.layout.limits.columns }
     ensures reader { IsReader store.now seat.new s }
     ensures watched { Watched seat.old.view seat.new.view s }
+    ensures loads { LoadsTail seat.old.view seat.new.view s tail }
     ensures told { (c : Version) → IsAt seat.old.view s tail c → Told c store.now.layout.limits.columns column result }
+    ensures leaves { result ≡ None → (c : Version) → IsAt seat.old.view s tail c → touches_by column c.encoding ≡ false }
 {
     let encoding = encoding(store, seat, s, tail);
     match encoding.kind {

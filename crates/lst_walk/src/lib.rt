@@ -1,9 +1,13 @@
-//! The version walk: what a session's open transaction sees of a record, read off the record's chain of tail records.
+//! The version walk: what a session's open transaction sees of a record, read off the record's chain of tail records, and off base pages.
 //!
-//! Base pages are not used: every page stands at lineage number 0, so each read goes along the chain from its newest version.
+//! A session with a pin takes the page of the column, or the pages of all columns, in hand. The walk goes down the chain from its newest version, and
+//! once it is at a tail record that a page has, by number, the page's entry tells of its column, if its time is at most the begin. A session without
+//! a pin goes along the chain alone.
 #![tactic(auto)]
 
 mod columns;
+mod packed;
+mod pages;
 mod rows;
 mod stamps;
 mod words;

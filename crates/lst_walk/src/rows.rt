@@ -1,23 +1,29 @@
 //! A record's row.
-ghost use Rattle.std.specs.Prelude.{◌≡◌, ℕ, ◌+◌, ◌*◌, ◌<◌, ◌≤◌, true, length, slice_index, unwrap_or, is_some};
+ghost use Rattle.std.specs.Prelude.{◌≡◌, ℕ, ◌+◌, ◌*◌, ◌<◌, ◌≤◌, true, length, map, slice_index, unwrap_or, is_some, None, Bool};
 ghost use Rattle.std.specs.List.{list_all};
 ghost use Rattle.lst_model.specs.Cells.{overlaid, cell_of, cells_of, patched};
 ghost use Rattle.lst_core_state.specs.Cells.{record_count};
+ghost use Rattle.lst_rule.specs.declared.view.View.{View};
 ghost use Rattle.lst_rule.specs.Rule.{knows, hosts};
 ghost use Rattle.lst_rule.specs.Stores.{IsSeatOf};
 ghost use Rattle.lst_sights.specs.Copies.{Version};
 ghost use Rattle.lst_sights.specs.Watching.{Watched};
-ghost use Rattle.lst_walk.specs.Readers.{IsReader, IsAt, HasVersion, Resolves};
+ghost use Rattle.lst_walk.specs.Readers.{IsReader, IsAt, HasVersion, LoadsTail, Resolves};
 ghost use Rattle.lst_walk.specs.Patches.{merged};
-ghost use Rattle.lst_walk.specs.Walks.{IsRowOf, WalksRow, Visited, Acted};
+ghost use Rattle.lst_walk.specs.Packed.{Skims};
+ghost use Rattle.lst_walk.specs.Taking.{entry_at};
+ghost use Rattle.lst_walk.specs.Pages.{touches_by, is_told, SavesRow};
+ghost use Rattle.lst_walk.specs.Walks.{IsRowOf, WalksRow, Visited, Acted, Leaves};
+ghost use Rattle.lst_walk.specs.Filling.{RowPages, GoesOn, Fills, SetsAll, FillsColumn, SetsColumn};
 
+use crate::pages::{Entry, cell_of, entries_of, newest};
 use crate::stamps::is_seen;
-use crate::words::{cell, encoding, head};
+use crate::words::{below, cell, encoding, head};
 use arrayvec::ArrayVec;
 use lst_bits::{Encoding, Kind, has_column};
 use lst_model::Row;
 use lst_rule::{RecordId, Seat, Store};
-use lst_sights::{tail_of, version_below};
+use lst_sights::tail_of;
 
 /// What a visit of a version comes to.
 pub(crate) enum Visit {
@@ -29,10 +35,22 @@ pub(crate) enum Visit {
     Older,
 }
 
+/// What the pages' entries that may be used at a number come to.
+pub(crate) enum Filled {
+    /// There is no row.
+    Absent,
+    /// The patch sets each column of the row.
+    Whole,
+    /// The row is that of the older versions, with the patch on it.
+    Partly,
+}
+
 /// The row of a record that the open transaction sees: that of the snapshot at its begin, with its own writes on it. None comes exactly where
 /// it sees no row, of a record without a seen key too. The walk goes along the chain from the newest version, to the first put or delete that is
 /// seen or until each column is set. It resolves each version that it passes, this last one included: where it finds the transaction committed
-/// and the start word not stamped, it stores the commit time there.
+/// and the start word not stamped, it stores the commit time there. Where the session has a pin, the pages of all columns are taken in hand first,
+/// and at each number that the walk comes to, each column that isn't set yet is filled by its page's entry, if the number is at most the
+/// page's TPS, and the entry's time at most the begin. Where that holds of every column at the head, no word of a tail record is loaded.
 pub fn row(store: &Store, seat: &mut Seat, s: u32, rec: RecordId) -> Option<Row>
     requires seat { IsSeatOf store.now seat.old }
     requires host { hosts seat.old.view s ≡ true }
@@ -43,21 +61,116 @@ pub fn row(store: &Store, seat: &mut Seat, s: u32, rec: RecordId) -> Option<Row>
     ensures watched { Watched seat.old.view seat.new.view s }
     ensures row { IsRowOf seat.old.view s rec.number result }
     ensures walk { WalksRow seat.old.view seat.new.view s rec.number result }
+    ensures saves { 0 < (knows seat.old.view s).pages.session.pin → SavesRow seat.old.view seat.new.view s rec.number }
 {
     seat.consider();
     let range = rec.number / 256;
     let mut cells = [None; 8];
     let patch = &mut cells[..store.layout().limits.columns as usize];
     let mut number = head(store, seat, s, rec);
+    let entries = entries_of(store, seat, s, rec);
+    let last = newest(&entries);
     while number > 0 {
+        match fill(store, seat, s, rec, number, &entries, last, patch) {
+            Filled::Absent => return None,
+            Filled::Whole => return Some(row_of(patch)),
+            Filled::Partly => {}
+        }
         let tail = tail_of(store, range, number);
         match look(store, seat, s, range, number, patch) {
             Visit::Row { nulls } => return Some(row_under(store, seat, s, tail, nulls, patch)),
             Visit::NoRow => return None,
-            Visit::Older => number = version_below(store, seat, s, tail),
+            Visit::Older => number = below(store, seat, s, tail),
         }
     }
     None
+}
+
+/// Fills each column that the patch doesn't set by the entry of its page, where that may be used at this number. None may be above `last`.
+fn fill(
+    store: &Store,
+    seat: &mut Seat,
+    s: u32,
+    rec: RecordId,
+    number: u32,
+    entries: &[Entry; 8],
+    last: u64,
+    patch: &mut [Option<Option<u64>>],
+) -> Filled
+    requires reader { IsReader store.now seat.old s }
+    requires number { 0 < number }
+    requires last { (column : ℕ) → (entry_at entries.now column).until ≤ last }
+    requires wide { length patch.old ≡ store.now.layout.limits.columns }
+    requires walk { (v : View) × RowPages store.now v seat.old s rec.number number entries.now patch.old }
+    ensures reader { IsReader store.now seat.new s }
+    ensures skims { Skims seat.old.view seat.new.view s }
+    ensures wide { length patch.new ≡ length patch.old }
+    ensures filled { (v : View) → RowPages store.now v seat.old s rec.number number entries.now patch.old → Fills store.now v seat.new s rec.number number entries.now patch.new result }
+    ensures sets { SetsAll store.now.layout.limits.columns number entries.now patch.old patch.new result }
+{
+    if number as u64 > last {
+        return Filled::Partly;
+    }
+    let mut is_used = false;
+    for column in 0..store.layout().limits.columns {
+        match fill_column(store, seat, s, rec, number, entries, column, patch) {
+            None => return Filled::Absent,
+            Some(used) => is_used |= used,
+        }
+    }
+    if is_used && is_whole(patch) {
+        Filled::Whole
+    } else {
+        Filled::Partly
+    }
+}
+
+/// Fills one column, if the patch doesn't set it and the entry of its page may be used, and answers whether it did. None comes where the entry
+/// says that there is no row.
+fn fill_column(
+    store: &Store,
+    seat: &mut Seat,
+    s: u32,
+    rec: RecordId,
+    number: u32,
+    entries: &[Entry; 8],
+    column: u32,
+    patch: &mut [Option<Option<u64>>],
+) -> Option<bool>
+    requires reader { IsReader store.now seat.old s }
+    requires number { 0 < number }
+    requires wide { length patch.old ≡ store.now.layout.limits.columns }
+    requires column { column < store.now.layout.limits.columns }
+    requires walk { (v : View) × RowPages store.now v seat.old s rec.number number entries.now patch.old }
+    ensures reader { IsReader store.now seat.new s }
+    ensures skims { Skims seat.old.view seat.new.view s }
+    ensures filled { (v : View) (was : Bool) → GoesOn store.now v seat.old s rec.number number entries.now patch.old was → FillsColumn store.now v seat.new s rec.number number entries.now patch.new was result }
+    ensures sets { SetsColumn number entries.now column patch.old patch.new result }
+{
+    let entry = entries[column as usize];
+    if number as u64 <= entry.until && patch[column as usize].is_none() {
+        match cell_of(store, seat, s, rec, entry) {
+            None => None,
+            Some(cell) => {
+                patch[column as usize] = Some(cell);
+                Some(true)
+            }
+        }
+    } else {
+        Some(false)
+    }
+}
+
+/// The row of a patch that sets each column.
+fn row_of(patch: &[Option<Option<u64>>]) -> Row
+    requires few { length patch.now ≤ 8 }
+    ensures { result ≡ map (λ cell. unwrap_or cell None) patch.now }
+{
+    let mut row = Row::of_numbers(ArrayVec::new());
+    for column in 0..patch.len() {
+        row.push(patch[column].unwrap_or(None));
+    }
+    row
 }
 
 /// Looks at a version of a range, by the number of its tail record, under a patch of newer versions.
@@ -76,7 +189,9 @@ fn look(
     requires wide { length patch.old ≡ store.now.layout.limits.columns }
     ensures reader { IsReader store.now seat.new s }
     ensures watched { Watched seat.old.view seat.new.view s }
+    ensures loads { LoadsTail seat.old.view seat.new.view s (range * store.now.layout.limits.tails + number) }
     ensures visited { (c : Version) → IsAt seat.old.view s (range * store.now.layout.limits.tails + number) c → Visited (knows seat.old.view s) s c store.now.layout.limits.columns patch.old patch.new result }
+    ensures leaves { (c : Version) → IsAt seat.old.view s (range * store.now.layout.limits.tails + number) c → Leaves (λ column. is_told (knows seat.old.view s) s column c) patch.old patch.new result }
     ensures resolved { Resolves seat.old.view seat.new.view s range number }
 {
     if is_seen(store, seat, s, range, number) {
@@ -99,7 +214,9 @@ fn acted(
     requires wide { length patch.old ≡ store.now.layout.limits.columns }
     ensures reader { IsReader store.now seat.new s }
     ensures watched { Watched seat.old.view seat.new.view s }
+    ensures loads { LoadsTail seat.old.view seat.new.view s tail }
     ensures acted { (c : Version) → IsAt seat.old.view s tail c → Acted c store.now.layout.limits.columns patch.old patch.new result }
+    ensures leaves { (c : Version) → IsAt seat.old.view s tail c → Leaves (λ column. touches_by column c.encoding) patch.old patch.new result }
 {
     let encoding = encoding(store, seat, s, tail);
     match encoding.kind {
@@ -141,6 +258,7 @@ fn row_under(
     requires wide { length patch.now ≡ store.now.layout.limits.columns }
     ensures reader { IsReader store.now seat.new s }
     ensures watched { Watched seat.old.view seat.new.view s }
+    ensures loads { LoadsTail seat.old.view seat.new.view s tail }
     ensures row { (c : Version) → IsAt seat.old.view s tail c → result ≡ overlaid (cells_of nulls 0 c.values) patch.now }
 {
     let mut row = Row::of_numbers(ArrayVec::new());
@@ -166,6 +284,7 @@ fn cell_under(
     requires column { column < store.now.layout.limits.columns }
     ensures reader { IsReader store.now seat.new s }
     ensures watched { Watched seat.old.view seat.new.view s }
+    ensures loads { LoadsTail seat.old.view seat.new.view s tail }
     ensures cell { (c : Version) → IsAt seat.old.view s tail c → result ≡ unwrap_or newer (cell_of nulls column (slice_index c.values column)) }
 {
     match newer {
@@ -188,6 +307,7 @@ fn set_under(
     requires wide { length patch.old ≡ store.now.layout.limits.columns }
     ensures reader { IsReader store.now seat.new s }
     ensures watched { Watched seat.old.view seat.new.view s }
+    ensures loads { LoadsTail seat.old.view seat.new.view s tail }
     ensures patch { (c : Version) → IsAt seat.old.view s tail c → patch.new ≡ merged patch.old (patched encoding.mask 0 (cells_of encoding.nulls 0 c.values)) }
 {
     for column in 0..store.layout().limits.columns {

@@ -8,7 +8,7 @@ ghost use Rattle.lst_rule.specs.Stores.{IsSeatOf};
 ghost use Rattle.lst_sights.specs.Copies.{Version};
 ghost use Rattle.lst_sights.specs.Seen.{sees};
 ghost use Rattle.lst_sights.specs.Watching.{Watched};
-ghost use Rattle.lst_walk.specs.Readers.{IsReader, IsAt, HasVersion, IsNotCommitted, Timed, Untimed, Stamped, Resolves, Concludes};
+ghost use Rattle.lst_walk.specs.Readers.{IsReader, IsAt, HasVersion, LoadsTail, IsNotCommitted, Timed, Untimed, Stamped, Resolves, Concludes};
 
 use lst_bits::{Start, unpack_start};
 use lst_rule::{Seat, Status, Store, load_cell, step_stamp, transaction_status};
@@ -57,6 +57,7 @@ fn time_of(
     requires number { (0 < number) × (number ≤ store.now.layout.limits.txns) }
     ensures reader { IsReader store.now seat.new s }
     ensures watched { Watched seat.old.view seat.new.view s }
+    ensures loads { LoadsTail seat.old.view seat.new.view s (range * store.now.layout.limits.tails + tail) }
     ensures some { IfSome result (λ time. (0 < time) × Contains (knows seat.new.view s).facts (StateAt session number (time + 1))) }
     ensures stamped { IfSome result (λ time. Stamped seat.old.view seat.new.view s range tail time) }
     ensures none { IfNone result (IsNotCommitted seat.old.view seat.new.view s session number) }
@@ -82,6 +83,7 @@ pub(crate) fn is_seen(store: &Store, seat: &mut Seat, s: u32, range: u32, tail: 
     requires version { HasVersion seat.old.view s (range * store.now.layout.limits.tails + tail) }
     ensures reader { IsReader store.now seat.new s }
     ensures watched { Watched seat.old.view seat.new.view s }
+    ensures loads { LoadsTail seat.old.view seat.new.view s (range * store.now.layout.limits.tails + tail) }
     ensures seen { (c : Version) → IsAt seat.old.view s (range * store.now.layout.limits.tails + tail) c → result ≡ sees (knows seat.old.view s) s c.writer }
     ensures resolved { Resolves seat.old.view seat.new.view s range tail }
 {
@@ -118,6 +120,7 @@ fn is_committed(
     requires other { name_of session number ≢ name_of s (knows seat.old.view s).number }
     ensures reader { IsReader store.now seat.new s }
     ensures watched { Watched seat.old.view seat.new.view s }
+    ensures loads { LoadsTail seat.old.view seat.new.view s (range * store.now.layout.limits.tails + tail) }
     ensures seen { result ≡ sees (knows seat.old.view s) s (name_of session number) }
     ensures told { Concludes seat.old.view seat.new.view s range tail session number }
 {

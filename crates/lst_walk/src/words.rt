@@ -1,14 +1,16 @@
 //! The words of a record's versions.
-ghost use Rattle.std.specs.Prelude.{◌≡◌, ℕ, ◌+◌, ◌<◌, slice_index};
+ghost use Rattle.std.specs.Prelude.{◌≡◌, ℕ, ◌+◌, ◌/◌, ◌<◌, slice_index, true};
+ghost use Rattle.lst_layout.specs.declared.place.Place.TheVariants.{HeadWord};
 ghost use Rattle.lst_core_state.specs.Cells.{record_count, act_with, nulls_of};
-ghost use Rattle.lst_rule.specs.Rule.{knows};
+ghost use Rattle.lst_rule.specs.Rule.{knows, hosts};
 ghost use Rattle.lst_rule.specs.Learned.{Possible};
-ghost use Rattle.lst_sights.specs.Copies.{Version};
+ghost use Rattle.lst_rule.specs.Stores.{IsSeatOf, Looked};
+ghost use Rattle.lst_sights.specs.Copies.{Version, IsLinked};
 ghost use Rattle.lst_sights.specs.Seen.{act_by};
-ghost use Rattle.lst_sights.specs.Loads.{ChainFound, WordFound};
+ghost use Rattle.lst_sights.specs.Loads.{ChainFound, WordFound, IsBack};
 ghost use Rattle.lst_sights.specs.Watching.{Watched};
-ghost use Rattle.lst_walk.specs.Readers.{IsReader, IsAt, HasVersion};
-ghost use Rattle.lst_bits.specs.Encodings.{kind_code};
+ghost use Rattle.lst_walk.specs.Readers.{IsReader, IsAt, HasVersion, LoadsTail};
+ghost use Rattle.lst_bits.specs.Encodings.{kind_code, encoding_of};
 ghost use Rattle.lst_model.specs.Cells.{cell_of, cells_of};
 
 use lst_bits::{Encoding, has_column, unpack_encoding, unpack_head};
@@ -22,6 +24,7 @@ pub(crate) fn head(store: &Store, seat: &mut Seat, s: u32, rec: RecordId) -> u32
     ensures watched { Watched seat.old.view seat.new.view s }
     ensures possible { Possible seat.new.view }
     ensures chain { ChainFound store.now.layout.limits (knows seat.new.view s) s rec.number result }
+    ensures looked { (word : ℕ) × Looked seat.old.view seat.new.view s (HeadWord rec.number) word × (result ≡ word / 2) }
 {
     unpack_head(load_head(store, seat, s, rec.number)).0
 }
@@ -33,9 +36,23 @@ pub(crate) fn word(store: &Store, seat: &mut Seat, s: u32, tail: u32, place: u32
     requires place { (0 < place) × (place < 3 + store.now.layout.limits.columns) }
     ensures reader { IsReader store.now seat.new s }
     ensures watched { Watched seat.old.view seat.new.view s }
+    ensures loads { LoadsTail seat.old.view seat.new.view s tail }
     ensures word { (c : Version) → IsAt seat.old.view s tail c → WordFound store.now.layout.limits c place result }
 {
     load_cell(store, seat, s, tail, place)
+}
+
+/// The number in its range of the version below one, or 0.
+pub(crate) fn below(store: &Store, seat: &mut Seat, s: u32, tail: u32) -> u32
+    requires seat { IsSeatOf store.now seat.old }
+    requires host { hosts seat.old.view s ≡ true }
+    requires version { IsLinked seat.old.view.limits (knows seat.old.view s).facts tail }
+    ensures seat { IsSeatOf store.now seat.new }
+    ensures watched { Watched seat.old.view seat.new.view s }
+    ensures loads { LoadsTail seat.old.view seat.new.view s tail }
+    ensures back { IsBack seat.old.view.limits (knows seat.old.view s).facts tail result }
+{
+    load_cell(store, seat, s, tail, 2) as u32
 }
 
 /// What a version does, by its encoding word.
@@ -44,8 +61,10 @@ pub(crate) fn encoding(store: &Store, seat: &mut Seat, s: u32, tail: u32) -> Enc
     requires version { HasVersion seat.old.view s tail }
     ensures reader { IsReader store.now seat.new s }
     ensures watched { Watched seat.old.view seat.new.view s }
+    ensures loads { LoadsTail seat.old.view seat.new.view s tail }
     ensures act { (c : Version) → IsAt seat.old.view s tail c → act_by c ≡ act_with (kind_code result.kind) result.mask (cells_of result.nulls 0 c.values) }
     ensures nulls { (c : Version) → IsAt seat.old.view s tail c → result.nulls ≡ nulls_of c.encoding }
+    ensures is { (c : Version) → IsAt seat.old.view s tail c → result ≡ encoding_of c.encoding }
 {
     unpack_encoding(word(store, seat, s, tail, 1))
 }
@@ -57,6 +76,7 @@ pub(crate) fn value(store: &Store, seat: &mut Seat, s: u32, tail: u32, column: u
     requires column { column < store.now.layout.limits.columns }
     ensures reader { IsReader store.now seat.new s }
     ensures watched { Watched seat.old.view seat.new.view s }
+    ensures loads { LoadsTail seat.old.view seat.new.view s tail }
     ensures value { (c : Version) → IsAt seat.old.view s tail c → result ≡ slice_index c.values column }
 {
     word(store, seat, s, tail, 3 + column)
@@ -76,6 +96,7 @@ pub(crate) fn cell(
     requires column { column < store.now.layout.limits.columns }
     ensures reader { IsReader store.now seat.new s }
     ensures watched { Watched seat.old.view seat.new.view s }
+    ensures loads { LoadsTail seat.old.view seat.new.view s tail }
     ensures cell { (c : Version) → IsAt seat.old.view s tail c → result ≡ cell_of nulls column (slice_index c.values column) }
 {
     if has_column(nulls, column) {

@@ -3,7 +3,9 @@ use Rattle.lst_rule.specs.Rule.{knows}
 use Rattle.lst_walk.proofs.Reading.{at_on, version_on, watched_on}
 use Rattle.lst_walk.proofs.Stamping.{at_same, has_same}
 use Rattle.lst_walk.proofs.Resolving.{resolves_later}
-use Rattle.lst_walk.proofs.Walking.{seen_tells, unseen_tells}
+use Rattle.lst_walk.proofs.Walking.{seen_tells, unseen_tells, unseen_leaves, seen_leaves}
+use Rattle.std.proofs.Common.{◌+◌, ◌*◌}
+use Rattle.lst_walk.proofs.Finds.{loads_tail}
 use Rattle.lst_walk.proofs.columns.held.Goals as goal
 
 pub told-requires-clause-reader : goal.told-requires-clause-reader
@@ -23,3 +25,13 @@ returns-else-is_seen-clause-tells c = λ d at. unseen_tells (knows c.args.seat.n
 
 pub returns-then-is_seen-clause-resolved : goal.returns-then-is_seen-clause-resolved
 returns-then-is_seen-clause-resolved c = resolves_later c.args.seat.now.view c.is_seen.new.seat.view c.told.new.seat.view c.args.s c.args.range c.args.number c.told.ensures.watched c.is_seen.ensures.resolved
+
+pub returns-then-is_seen-clause-leaves : goal.returns-then-is_seen-clause-leaves
+returns-then-is_seen-clause-leaves c = λ none d at. seen_leaves (knows c.args.seat.now.view c.args.s) c.args.s c.args.column d
+    (c.told.ensures.leaves none d (at_same c.is_seen.new.seat.view c.args.s _ c.tail_of.result d (sym c.tail_of.ensures) (at_on c.args.seat.now.view c.is_seen.new.seat.view c.args.s _ d c.is_seen.ensures.watched at)))
+
+pub returns-else-is_seen-clause-leaves : goal.returns-else-is_seen-clause-leaves
+returns-else-is_seen-clause-leaves c = λ none d at. unseen_leaves (knows c.args.seat.now.view c.args.s) c.args.s c.args.column d (sym (c.is_seen.ensures.seen d at) ∙ c.if-is_seen.false)
+
+pub returns-then-is_seen-clause-loads : goal.returns-then-is_seen-clause-loads
+returns-then-is_seen-clause-loads c = loads_tail c.args.seat.now.view c.is_seen.new.seat.view c.told.new.seat.view c.args.s c.tail_of.result (c.args.range * c.args.store.now.layout.limits.tails + c.args.number) c.tail_of.ensures c.is_seen.ensures.loads c.told.ensures.loads

@@ -1,8 +1,12 @@
 use Rattle.std.proofs.Common.{ℕ, refl, sym, ap, ◌∙◌, map, true≢false}
+use Rattle.lst_bits.specs.declared.encodings.Encoding.{Encoding}
+use Rattle.lst_bits.specs.declared.encodings.Kind.{Kind}
+use Rattle.lst_pages.specs.Tails.{touches_column}
 use Rattle.lst_model.specs.Cells.{number_of, cells_of}
 use Rattle.lst_walk.proofs.Meanings.{numbers_by}
 use Rattle.lst_walk.proofs.Reading.{at_on, watched_on, version_on}
 use Rattle.lst_walk.proofs.Acting.{bit_set, bit_clear, columns_of, put_told, del_told, set_told, set_untold}
+use Rattle.lst_walk.proofs.Finds.{loads_tail}
 use Rattle.lst_walk.proofs.columns.told.Goals as goal
 
 pub returns-in-Put-clause-told : goal.returns-in-Put-clause-told
@@ -32,3 +36,13 @@ returns-then-has_column-clause-watched c = watched_on c.args.seat.now.view c.enc
 
 pub returns-in-Put-clause-watched : goal.returns-in-Put-clause-watched
 returns-in-Put-clause-watched c = watched_on c.args.seat.now.view c.encoding-encoding.new.seat.view c.value.new.seat.view c.args.s c.encoding-encoding.ensures.watched c.value.ensures.watched
+
+pub returns-else-has_column-clause-leaves : goal.returns-else-has_column-clause-leaves
+returns-else-has_column-clause-leaves c = λ none d at. ap (λ (e : Encoding). touches_column c.args.column e.kind e.mask) (sym (c.encoding-encoding.ensures.is d at))
+    ∙ (ap (λ (k : Kind). touches_column c.args.column k c.encoding-encoding.result.mask) c.in-Set.is ∙ bit_clear c.encoding-encoding.result.mask c.args.column (λ h. true≢false (sym (c.if-has_column.ensures.1 h))))
+
+pub returns-in-Put-clause-loads : goal.returns-in-Put-clause-loads
+returns-in-Put-clause-loads c = loads_tail c.args.seat.now.view c.encoding-encoding.new.seat.view c.value.new.seat.view c.args.s c.args.tail c.args.tail refl c.encoding-encoding.ensures.loads c.value.ensures.loads
+
+pub returns-then-has_column-clause-loads : goal.returns-then-has_column-clause-loads
+returns-then-has_column-clause-loads c = loads_tail c.args.seat.now.view c.encoding-encoding.new.seat.view c.value-then-has_column.new.seat.view c.args.s c.args.tail c.args.tail refl c.encoding-encoding.ensures.loads c.value-then-has_column.ensures.loads

@@ -1,6 +1,8 @@
-use Rattle.std.proofs.Common.{sym, ◌∙◌}
+use Rattle.std.proofs.Common.{inr, sym, ◌∙◌}
 use Rattle.lst_walk.proofs.Reading.{at_on, version_on, watched_on}
-use Rattle.lst_walk.proofs.Acting.{columns_of, put_acted, del_acted, set_acted, set_whole}
+use Rattle.lst_walk.proofs.Acting.{columns_of, put_acted, del_acted, set_acted, set_whole, set_leaves}
+use Rattle.std.proofs.Common.{refl}
+use Rattle.lst_walk.proofs.Finds.{loads_tail}
 use Rattle.lst_walk.proofs.rows.acted.Goals as goal
 
 pub returns-in-Put-clause-acted : goal.returns-in-Put-clause-acted
@@ -28,3 +30,17 @@ pub returns-else-is_whole-clause-acted : goal.returns-else-is_whole-clause-acted
 returns-else-is_whole-clause-acted c = λ d at. set_acted d c.encoding-encoding.result (c.encoding-encoding.ensures.act d at) c.args.store.now.layout.limits.columns c.args.patch.now c.set_under.new.patch c.in-Set.is c.requires.wide
     (columns_of c.args.store.now.layout.limits c.args.seat.now.view c.args.s c.args.tail d c.requires.reader.seat_of.limits at)
     (c.set_under.ensures.patch d (at_on c.args.seat.now.view c.encoding-encoding.new.seat.view c.args.s c.args.tail d c.encoding-encoding.ensures.watched at))
+
+pub returns-else-is_whole-clause-leaves : goal.returns-else-is_whole-clause-leaves
+returns-else-is_whole-clause-leaves c = λ d at. (
+  λ column none. set_leaves d c.encoding-encoding.result (c.encoding-encoding.ensures.is d at) c.args.store.now.layout.limits.columns c.args.patch.now c.set_under.new.patch c.in-Set.is c.requires.wide
+      (columns_of c.args.store.now.layout.limits c.args.seat.now.view c.args.s c.args.tail d c.requires.reader.seat_of.limits at)
+      (c.set_under.ensures.patch d (at_on c.args.seat.now.view c.encoding-encoding.new.seat.view c.args.s c.args.tail d c.encoding-encoding.ensures.watched at)) column none,
+  inr (sym c.is_whole.ensures ∙ c.if-is_whole.false),
+)
+
+pub returns-then-is_whole-clause-loads : goal.returns-then-is_whole-clause-loads
+returns-then-is_whole-clause-loads c = loads_tail c.args.seat.now.view c.encoding-encoding.new.seat.view c.set_under.new.seat.view c.args.s c.args.tail c.args.tail refl c.encoding-encoding.ensures.loads c.set_under.ensures.loads
+
+pub returns-else-is_whole-clause-loads : goal.returns-else-is_whole-clause-loads
+returns-else-is_whole-clause-loads c = loads_tail c.args.seat.now.view c.encoding-encoding.new.seat.view c.set_under.new.seat.view c.args.s c.args.tail c.args.tail refl c.encoding-encoding.ensures.loads c.set_under.ensures.loads

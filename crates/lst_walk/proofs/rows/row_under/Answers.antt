@@ -27,7 +27,7 @@ loop-column-init c = fills_start c.args.store.now c.args.s c.args.tail (λ (d : 
 pub loop-column-preserved : goal.loop-column-preserved
 loop-column-preserved c = let low : c.loop-column.column < length c.args.patch.now = (let l = ap (λ (y : Layout). y.limits.columns) c.layout.ensures in let t = c.loop-column-test.true in let w = c.requires.wide in omega arith) in
     fills_next c.args.store.now c.args.s c.args.tail (λ (d : Version). overlaid (cells_of c.args.nulls 0 d.values) c.args.patch.now) c.args.seat.now.view c.loop-column.seat c.cell_under.new.seat c.loop-column.column c.loop-column.row c.push.new.self c.cell_under.result c.loop-column.invariant
-    c.cell_under.ensures.reader c.cell_under.ensures.watched c.push.ensures
+    c.cell_under.ensures.reader c.cell_under.ensures.watched c.cell_under.ensures.loads c.push.ensures
     (λ d at. overlaid_at (cells_of c.args.nulls 0 d.values) c.args.patch.now c.loop-column.column (slice_index_or c.args.patch.now c.loop-column.column None) (let len = length-cells_of c.args.nulls 0 d.values in let e = columns_of c.args.store.now.layout.limits c.args.seat.now.view c.args.s c.args.tail d c.requires.reader.seat_of.limits at in let w = c.requires.wide in omega arith) (slice_get-get_or c.args.patch.now c.loop-column.column None low)
     ∙ (ap (λ (x : Cell). Some (unwrap_or (slice_index_or c.args.patch.now c.loop-column.column None) x))
     (cell_first c.args.nulls d.values c.loop-column.column (let e = columns_of c.args.store.now.layout.limits c.args.seat.now.view c.args.s c.args.tail d c.requires.reader.seat_of.limits at in let w = c.requires.wide in omega arith))

@@ -38,7 +38,7 @@ loop-column-preserved c =
       | then-has_column+then-is_none w ↦ let now = slice_set c.loop-column.patch k (Some w.cell.result) in
           subst (λ (seat : Sitting). Merges c.args.store.now v seat c.args.s c.args.tail (k + 1) c.args.patch.now c.if-has_column.patch target) (sym w.seat-is)
           (subst (λ (cells : List (Option Cell)). Merges c.args.store.now v w.cell.new.seat c.args.s c.args.tail (k + 1) c.args.patch.now cells target) (sym w.patch-is)
-          (merges_next c.args.store.now c.args.s c.args.tail target v c.loop-column.seat w.cell.new.seat k c.args.patch.now c.loop-column.patch (Some w.cell.result) c.loop-column.invariant w.cell.ensures.reader w.cell.ensures.watched low
+          (merges_next c.args.store.now c.args.s c.args.tail target v c.loop-column.seat w.cell.new.seat k c.args.patch.now c.loop-column.patch (Some w.cell.result) c.loop-column.invariant w.cell.ensures.reader w.cell.ensures.watched w.cell.ensures.loads low
           (λ d at. at_k d at ∙ ap (λ o. Some o) (newest_set here (has_bit mask k) (cell_of nulls k (slice_index d.values k)) (w.is_none.ensures ∙ ap (λ b. not b) w.if-is_none.true) (bit_set mask k (w.if-has_column.ensures.0 refl))
           ∙ ap (λ x. Some x) (sym (w.cell.ensures.cell d (at_on v c.loop-column.seat.view c.args.s c.args.tail d c.loop-column.invariant.watched at)))))))
       | else-has_column w ↦

@@ -3,6 +3,8 @@ use Rattle.lst_layout.specs.declared.place.Place.TheVariants.{CellWord}
 use Rattle.lst_core_state.specs.State.{name_of}
 use Rattle.lst_walk.proofs.Reading.{watched_on, reader_on, looked_watched, start_found}
 use Rattle.lst_walk.proofs.Stamping.{tail_place, start_is, named, named_session, named_number, version_at, at_same, stamp_seen, named_own_seen, named_other_seen, untimed_empty, timed_found, own_found, concluded, other_name, own_few}
+use Rattle.std.proofs.Common.{◌+◌, ◌*◌}
+use Rattle.lst_walk.proofs.Finds.{loads_cell, loads_tail}
 use Rattle.lst_walk.proofs.stamps.is_seen.Goals as goal
 
 pub load_cell-start-requires-clause-place : goal.load_cell-start-requires-clause-place
@@ -70,3 +72,15 @@ returns-then-is_own-clause-resolved c = inr (inr (own_found c.args.store.now.lay
 
 pub returns-else-is_own-clause-resolved : goal.returns-else-is_own-clause-resolved
 returns-else-is_own-clause-resolved c = concluded c.args.store.now.layout.limits c.args.seat.now.view c.load_cell-start.new.seat.view c.is_committed.new.seat.view c.args.s c.args.range c.args.tail c.tail_of.result c.load_cell-start.result c.requires.reader.seat_of.limits c.tail_of.ensures c.load_cell-start.ensures.looked c.in-By.session c.in-By.number c.in-By.ensures.word c.in-By.ensures.range.0 (looked_watched c.args.seat.now.view c.load_cell-start.new.seat.view c.args.s c.load_cell-start.result (CellWord c.tail_of.result 0) c.requires.reader.host (tail_place c.args.store.now.layout.limits c.args.seat.now.view c.args.range c.args.tail c.tail_of.result 0 c.requires.reader.seat_of.limits c.tail_of.ensures c.requires.range c.requires.tail (omega arith)) tt c.load_cell-start.ensures.looked) c.is_committed.ensures.told
+
+pub returns-in-Empty-clause-loads : goal.returns-in-Empty-clause-loads
+returns-in-Empty-clause-loads c = loads_cell c.args.seat.now.view c.load_cell-start.new.seat.view c.args.s c.tail_of.result (c.args.range * c.args.store.now.layout.limits.tails + c.args.tail) 0 c.load_cell-start.result c.tail_of.ensures c.load_cell-start.ensures.looked
+
+pub returns-in-At-clause-loads : goal.returns-in-At-clause-loads
+returns-in-At-clause-loads c = loads_cell c.args.seat.now.view c.load_cell-start.new.seat.view c.args.s c.tail_of.result (c.args.range * c.args.store.now.layout.limits.tails + c.args.tail) 0 c.load_cell-start.result c.tail_of.ensures c.load_cell-start.ensures.looked
+
+pub returns-then-is_own-clause-loads : goal.returns-then-is_own-clause-loads
+returns-then-is_own-clause-loads c = loads_cell c.args.seat.now.view c.load_cell-start.new.seat.view c.args.s c.tail_of.result (c.args.range * c.args.store.now.layout.limits.tails + c.args.tail) 0 c.load_cell-start.result c.tail_of.ensures c.load_cell-start.ensures.looked
+
+pub returns-else-is_own-clause-loads : goal.returns-else-is_own-clause-loads
+returns-else-is_own-clause-loads c = loads_tail c.args.seat.now.view c.load_cell-start.new.seat.view c.is_committed.new.seat.view c.args.s (c.args.range * c.args.store.now.layout.limits.tails + c.args.tail) (c.args.range * c.args.store.now.layout.limits.tails + c.args.tail) refl (loads_cell c.args.seat.now.view c.load_cell-start.new.seat.view c.args.s c.tail_of.result (c.args.range * c.args.store.now.layout.limits.tails + c.args.tail) 0 c.load_cell-start.result c.tail_of.ensures c.load_cell-start.ensures.looked) c.is_committed.ensures.loads

@@ -4,6 +4,9 @@ use Rattle.lst_walk.proofs.Reading.{watched_on, reader_on}
 use Rattle.lst_walk.proofs.Stamping.{may_stamp, stamped_at, stamped_facts, few_sessions, state_within, not_committed}
 use Rattle.lst_sights.proofs.Watching.{stamps_watch}
 use Rattle.lst_sights.proofs.Asking.{status_watched}
+use Rattle.std.proofs.Common.{◌≡◌, ◌+◌, ◌*◌, ap}
+use Rattle.lst_core_state.specs.declared.known.Known.{Known}
+use Rattle.lst_walk.proofs.Finds.{loads_none, loads_join, loads_status}
 use Rattle.lst_walk.proofs.stamps.time_of.Goals as goal
 
 pub step_stamp-requires-clause-within : goal.step_stamp-requires-clause-within
@@ -68,3 +71,16 @@ returns-in-Empty-clause-watched c = absurd c.in-Empty.ensures.status.known
 
 pub returns-in-Empty-clause-none : goal.returns-in-Empty-clause-none
 returns-in-Empty-clause-none c = absurd c.in-Empty.ensures.status.known
+
+pub returns-in-Committed-clause-loads : goal.returns-in-Committed-clause-loads
+returns-in-Committed-clause-loads c = loads_join (λ t. t ≡ c.args.range * c.args.store.now.layout.limits.tails + c.args.tail) c.args.seat.now.view c.transaction_status.new.seat.view c.step_stamp.new.seat.view c.args.s (loads_status (λ t. t ≡ c.args.range * c.args.store.now.layout.limits.tails + c.args.tail) c.args.seat.now.view c.transaction_status.new.seat.view c.args.s c.args.session c.args.number c.transaction_status.result c.transaction_status.ensures.status.says)
+    (loads_none (λ t. t ≡ c.args.range * c.args.store.now.layout.limits.tails + c.args.tail) c.transaction_status.new.seat.view c.step_stamp.new.seat.view c.args.s (ap (λ (k : Known). k.finds) c.step_stamp.ensures.made.view.now))
+
+pub returns-in-Closed-clause-loads : goal.returns-in-Closed-clause-loads
+returns-in-Closed-clause-loads c = loads_status (λ t. t ≡ c.args.range * c.args.store.now.layout.limits.tails + c.args.tail) c.args.seat.now.view c.transaction_status.new.seat.view c.args.s c.args.session c.args.number c.transaction_status.result c.transaction_status.ensures.status.says
+
+pub returns-in-Unfinished-clause-loads : goal.returns-in-Unfinished-clause-loads
+returns-in-Unfinished-clause-loads c = loads_status (λ t. t ≡ c.args.range * c.args.store.now.layout.limits.tails + c.args.tail) c.args.seat.now.view c.transaction_status.new.seat.view c.args.s c.args.session c.args.number c.transaction_status.result c.transaction_status.ensures.status.says
+
+pub returns-in-Empty-clause-loads : goal.returns-in-Empty-clause-loads
+returns-in-Empty-clause-loads c = loads_status (λ t. t ≡ c.args.range * c.args.store.now.layout.limits.tails + c.args.tail) c.args.seat.now.view c.transaction_status.new.seat.view c.args.s c.args.session c.args.number c.transaction_status.result c.transaction_status.ensures.status.says

@@ -22,3 +22,6 @@ returns-clause-possible c = looked_possible c.args.seat.now.view c.load_head.new
 pub returns-clause-chain : goal.returns-clause-chain
 returns-clause-chain c = subst (λ (n : ℕ). ChainFound c.args.store.now.layout.limits (knows c.load_head.new.seat.view c.args.s) c.args.s c.args.rec.number n) (sym c.unpack_head.ensures.head)
     (head_found c.args.seat.now.view c.load_head.new.seat.view c.args.s c.args.rec.number c.load_head.result c.args.store.now.layout.limits c.requires.reader.seat_of.limits c.load_head.ensures.looked.view.limits c.requires.reader.host c.requires.rec c.load_head.ensures.looked)
+
+pub returns-clause-looked : goal.returns-clause-looked
+returns-clause-looked c = (c.load_head.result, c.load_head.ensures.looked, c.unpack_head.ensures.head)

@@ -3,6 +3,8 @@ use Rattle.lst_layout.specs.declared.limits.Limits.{Limits}
 use Rattle.lst_layout.specs.declared.place.Place.TheVariants.{CellWord}
 use Rattle.lst_sights.specs.Loads.{WordFound}
 use Rattle.lst_walk.proofs.Reading.{cell_within, looked_watched, word_found}
+use Rattle.std.proofs.Common.{refl}
+use Rattle.lst_walk.proofs.Finds.{loads_cell}
 use Rattle.lst_walk.proofs.words.word.Goals as goal
 
 pub load_cell-requires-clause-place : goal.load_cell-requires-clause-place
@@ -15,3 +17,6 @@ returns-clause-watched c = looked_watched c.args.seat.now.view c.load_cell.new.s
 pub returns-clause-word : goal.returns-clause-word
 returns-clause-word c = λ d at. subst (λ (l : Limits). WordFound l d c.args.place c.load_cell.result) c.requires.reader.seat_of.limits
     (word_found c.args.seat.now.view c.load_cell.new.seat.view c.args.s c.args.tail c.args.place c.load_cell.result c.requires.reader.host (subst (λ (l : Limits). c.args.place < 3 + l.columns) (sym c.requires.reader.seat_of.limits) c.requires.place.1) c.load_cell.ensures.looked d at)
+
+pub returns-clause-loads : goal.returns-clause-loads
+returns-clause-loads c = loads_cell c.args.seat.now.view c.load_cell.new.seat.view c.args.s c.args.tail c.args.tail c.args.place c.load_cell.result refl c.load_cell.ensures.looked

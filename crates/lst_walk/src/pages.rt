@@ -1,0 +1,201 @@
+//! Base pages: the entry of a record in a page that is in hand.
+ghost use Rattle.std.specs.Prelude.{◌≡◌, ℕ, ◌%◌, ◌<◌, ◌≤◌, List, Some, None, cond, nat_le, slice_index};
+ghost use Rattle.lst_layout.specs.Areas.{frame_count};
+ghost use Rattle.lst_pack.specs.Forms.{Packs, IsPacked};
+ghost use Rattle.lst_core_state.specs.Cells.{record_count};
+ghost use Rattle.lst_rule.specs.Rule.{knows};
+ghost use Rattle.lst_walk.specs.Readers.{IsReader};
+ghost use Rattle.lst_walk.specs.Packed.{packed_words, Skims};
+ghost use Rattle.lst_walk.specs.Pages.{Takes};
+ghost use Rattle.lst_walk.specs.Taking.{TakesAll, entry_at};
+ghost use Rattle.lst_sights.specs.Watching.{HasInHand};
+ghost use Rattle.lst_model.specs.Cells.{has_bit};
+ghost use Rattle.lst_pages.specs.Frames.{cell_in};
+
+use crate::packed::Packed;
+use lst_bits::unpack_time;
+use lst_layout::{FRAME_NULLS, FRAME_TIMES};
+use lst_pack::get_from;
+use lst_rule::{RecordId, Seat, Store, load_frame, step_look_page};
+
+/// What a page says of a record in a column.
+#[derive(Clone, Copy)]
+pub(crate) struct Entry {
+    /// The page's frame, which is in hand.
+    pub frame: u32,
+    /// The newest tail record, by its number, from which on the entry tells of the column: the page's TPS. 0 where there is no page, and
+    /// where the entry's time is above the begin.
+    pub until: u64,
+    /// Whether there is a row.
+    pub is_present: bool,
+}
+
+/// The entry of a record in the page of a column, which is taken in hand where the session has a pin.
+pub(crate) fn entry_of(store: &Store, seat: &mut Seat, s: u32, rec: RecordId, column: u32) -> Entry
+    requires reader { IsReader store.now seat.old s }
+    requires rec { rec.number < record_count store.now.layout.limits }
+    requires column { column < store.now.layout.limits.columns }
+    ensures reader { IsReader store.now seat.new s }
+    ensures skims { Skims seat.old.view seat.new.view s }
+    ensures takes { 0 < (knows seat.old.view s).pages.session.pin → Takes seat.old.view seat.new.view s rec.number column result }
+    ensures none { (knows seat.old.view s).pages.session.pin ≡ 0 → result.until ≡ 0 }
+{
+    if seat.pinned(s).is_some() {
+        taken(store, seat, s, rec, column)
+    } else {
+        Entry {
+            frame: 0,
+            until: 0,
+            is_present: false,
+        }
+    }
+}
+
+/// The same of a session with a pin.
+fn taken(store: &Store, seat: &mut Seat, s: u32, rec: RecordId, column: u32) -> Entry
+    requires reader { IsReader store.now seat.old s }
+    requires pinned { 0 < (knows seat.old.view s).pages.session.pin }
+    requires rec { rec.number < record_count store.now.layout.limits }
+    requires column { column < store.now.layout.limits.columns }
+    ensures reader { IsReader store.now seat.new s }
+    ensures skims { Skims seat.old.view seat.new.view s }
+    ensures takes { Takes seat.old.view seat.new.view s rec.number column result }
+{
+    let frame = step_look_page(store, seat, s, rec.number / 256, column) as u32;
+    let tps = load_frame(store, seat, s, frame, 0);
+    let stamp = load_frame(store, seat, s, frame, FRAME_TIMES + rec.number % 256);
+    let (time, is_present) = unpack_time(stamp);
+    Entry {
+        frame,
+        until: until(tps, time, seat.begin(s)),
+        is_present,
+    }
+}
+
+/// The TPS, where the time is at most the begin, and else 0.
+fn until(tps: u64, time: u64, begin: u64) -> u64
+    ensures { result ≡ cond (nat_le time begin) tps 0 }
+{
+    if time <= begin { tps } else { 0 }
+}
+
+/// The number that an entry tells of the column, 0 for null, or None where there is no row.
+pub(crate) fn number_of(
+    store: &Store,
+    seat: &mut Seat,
+    s: u32,
+    rec: RecordId,
+    entry: Entry,
+) -> Option<u64>
+    requires reader { IsReader store.now seat.old s }
+    requires frame { entry.frame < frame_count seat.old.view.limits }
+    requires packed { IsPacked (packed_words seat.old.view s entry.frame) }
+    ensures reader { IsReader store.now seat.new s }
+    ensures skims { Skims seat.old.view seat.new.view s }
+    ensures number { (values : List ℕ) → Packs (packed_words seat.old.view s entry.frame) values → result ≡ cond entry.is_present (Some (slice_index values (rec.number % 256))) None }
+{
+    if entry.is_present {
+        Some(value(store, seat, s, entry.frame, rec.number % 256))
+    } else {
+        None
+    }
+}
+
+/// The entries of a record in the pages of all columns, which are taken in hand where the session has a pin.
+pub(crate) fn entries_of(store: &Store, seat: &mut Seat, s: u32, rec: RecordId) -> [Entry; 8]
+    requires reader { IsReader store.now seat.old s }
+    requires rec { rec.number < record_count store.now.layout.limits }
+    ensures reader { IsReader store.now seat.new s }
+    ensures takes { TakesAll store.now seat.old.view seat.new s rec.number store.now.layout.limits.columns result }
+{
+    let mut entries = [Entry {
+        frame: 0,
+        until: 0,
+        is_present: false,
+    }; 8];
+    if seat.pinned(s).is_none() {
+        return entries;
+    }
+    for column in 0..store.layout().limits.columns {
+        entries[column as usize] = entry_of(store, seat, s, rec, column);
+    }
+    entries
+}
+
+/// The newest tail record, by its number, from which on an entry tells of its column.
+pub(crate) fn newest(entries: &[Entry; 8]) -> u64
+    ensures { (column : ℕ) → (entry_at entries.now column).until ≤ result }
+{
+    let mut last = 0;
+    for column in 0..8 {
+        last = entries[column].until.max(last);
+    }
+    last
+}
+
+/// The cell that an entry tells of the column, or None where there is no row.
+pub(crate) fn cell_of(
+    store: &Store,
+    seat: &mut Seat,
+    s: u32,
+    rec: RecordId,
+    entry: Entry,
+) -> Option<Option<u64>>
+    requires reader { IsReader store.now seat.old s }
+    requires frame { entry.frame < frame_count seat.old.view.limits }
+    requires packed { IsPacked (packed_words seat.old.view s entry.frame) }
+    ensures reader { IsReader store.now seat.new s }
+    ensures skims { Skims seat.old.view seat.new.view s }
+    ensures cell { (words : ℕ → ℕ) → HasInHand (knows seat.old.view s).pages.session entry.frame words → (values : List ℕ) → Packs (packed_words seat.old.view s entry.frame) values → result ≡ cond entry.is_present (Some (cell_in words (slice_index values (rec.number % 256)) (rec.number % 256))) None }
+{
+    if entry.is_present {
+        Some(present_cell(store, seat, s, entry.frame, rec.number % 256))
+    } else {
+        None
+    }
+}
+
+/// The cell at a slot of the page in a frame that is in hand: null where the slot's null bit is set.
+fn present_cell(store: &Store, seat: &mut Seat, s: u32, frame: u32, slot: u32) -> Option<u64>
+    requires reader { IsReader store.now seat.old s }
+    requires frame { frame < frame_count seat.old.view.limits }
+    requires packed { IsPacked (packed_words seat.old.view s frame) }
+    requires slot { slot < 256 }
+    ensures reader { IsReader store.now seat.new s }
+    ensures skims { Skims seat.old.view seat.new.view s }
+    ensures cell { (words : ℕ → ℕ) → HasInHand (knows seat.old.view s).pages.session frame words → (values : List ℕ) → Packs (packed_words seat.old.view s frame) values → result ≡ cell_in words (slice_index values slot) slot }
+{
+    let nulls = load_frame(store, seat, s, frame, FRAME_NULLS + slot / 64);
+    if is_bit(nulls, slot % 64) {
+        None
+    } else {
+        Some(value(store, seat, s, frame, slot))
+    }
+}
+
+/// Whether a bit of a word is set.
+fn is_bit(word: u64, bit: u32) -> bool
+    requires { bit < 64 }
+    ensures { result ≡ has_bit word bit }
+{
+    (word >> bit) % 2 == 1
+}
+
+/// The value at a slot of the page in a frame that is in hand.
+pub(crate) fn value(store: &Store, seat: &mut Seat, s: u32, frame: u32, slot: u32) -> u64
+    requires reader { IsReader store.now seat.old s }
+    requires frame { frame < frame_count seat.old.view.limits }
+    requires packed { IsPacked (packed_words seat.old.view s frame) }
+    requires slot { slot < 256 }
+    ensures reader { IsReader store.now seat.new s }
+    ensures skims { Skims seat.old.view seat.new.view s }
+    ensures value { (values : List ℕ) → Packs (packed_words seat.old.view s frame) values → result ≡ slice_index values slot }
+{
+    let mut words = Packed {
+        store,
+        seat,
+        s,
+        frame,
+    };
+    get_from(&mut words, slot)
+}
