@@ -11,7 +11,7 @@ length-listed : (word : ℕ → ℕ) (p n : ℕ) → length (listed word p n) �
 length-listed word p zero = refl
 length-listed word p (suc n) = let e = length-listed word (suc p) n in omega arith
 
-length-accepted : (l : Limits) (w : Words) (range n : ℕ) → length (accepted_first l w range n) ≡ n
+pub length-accepted : (l : Limits) (w : Words) (range n : ℕ) → length (accepted_first l w range n) ≡ n
 length-accepted l w range zero = refl
 length-accepted l w range (suc n) = let e = length-accepted l w range n in omega (arith, length-append (accepted_first l w range n) (accepted_at l w (range * l.tails + suc n) ∷ []))
 

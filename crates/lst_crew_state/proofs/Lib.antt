@@ -10,3 +10,8 @@ pub mod DrawnTails
 pub mod PlacedKeys
 pub mod Written
 pub mod Others
+pub mod Timed
+pub mod PageParts
+pub mod Settling
+pub mod Merging
+pub mod Folding

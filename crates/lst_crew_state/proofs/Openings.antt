@@ -48,7 +48,7 @@ module _ {A : Type 0} where
 
 -- ---- the laws
 
-nothing : {A : Type 0} (b : Bool) (d : A) → cond b d d ≡ d
+pub nothing : {A : Type 0} (b : Bool) (d : A) → cond b d d ≡ d
 nothing true d = refl
 nothing false d = refl
 

@@ -56,7 +56,7 @@ module _ (c : Core) (crew : IsCrew c) where
       (crew.sound.listed.tails range t low drawn)
 
   -- any other of a range is blank
-  undrawn_blank : (range t : ℕ) → range * l.tails + w.counts range < t → t ≤ range * l.tails + l.tails → w.cells t 0 ≡ 0
+  pub undrawn_blank : (range t : ℕ) → range * l.tails + w.counts range < t → t ≤ range * l.tails + l.tails → w.cells t 0 ≡ 0
   undrawn_blank range t above below = crew.sound.tail_words.undrawn t 0 (λ other low drawn.
       let a = drawn.0 in let b = drawn.1 in let d = drawn.2 in
       let same : other ≡ range = one_range l w c.known crew.sound.sized crew.sound.times crew.sound.each crew.sound.versions other range t a b (omega arith) below in

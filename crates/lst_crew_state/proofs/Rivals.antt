@@ -1,75 +1,27 @@
 -- The last accepted write of a key that isn't closed is the newest version of its chain that isn't, and its commit time is its state word's.
-use Rattle.std.proofs.Common.{◌≡◌, ◌≢◌, ℕ, zero, suc, ◌+◌, ◌-◌, ◌*◌, ◌/◌, ◌%◌, ◌<◌, ◌≤◌, Bool, true, false, cond, not, List, [], ◌∷◌, ◌++◌, length, refl, sym, subst, ap, ◌∙◌, arith, ⊎_elim, inl, inr, ◌⊎◌, true≢false, eqb, eq-eqb, ne_eqb, eqb-true, lt-ltb, le-ltb}
+use Rattle.std.proofs.Common.{◌≡◌, ◌≢◌, ℕ, zero, suc, ◌+◌, ◌-◌, ◌*◌, ◌/◌, ◌%◌, ◌<◌, ◌≤◌, Bool, true, false, cond, not, List, [], ◌∷◌, ◌++◌, refl, sym, subst, ap, ◌∙◌, arith, ⊎_elim, inl, inr, ◌⊎◌, true≢false, eqb, eq-eqb, ne_eqb, eqb-true, lt-ltb, le-ltb}
 use mathlib.Core.Logic.{dite}
 use native.Mathlib.Decide.{ℕ_discrete}
 use Rattle.std.specs.Prelude.{Option, Some, None, is_some, unwrap_or, nat_lt, ◌==◌, ◌&&◌}
 use Rattle.lst_layout.specs.declared.limits.Limits.{Limits}
-use Rattle.lst_model.specs.declared.acts.Write.{Write}
-use Rattle.lst_model.specs.declared.commits.Commit.{Commit}
 use Rattle.lst_model.specs.declared.replies.Cause.{Cause}
 use Rattle.lst_model.specs.declared.replies.Cause.TheVariants.{Newer, Unfinished}
 use Rattle.lst_core_state.specs.Lists.{Has, Links}
 use Rattle.lst_core_state.proofs.Lists.{links_low}
 use Rattle.lst_core_state.proofs.Sights.{is_false}
 use Rattle.lst_machine.specs.State.{Accepted}
-use Rattle.lst_machine.specs.Writes.{time_of, last_where, rival_of, conflict_at, conflict_with, conflict_of}
+use Rattle.lst_machine.specs.Writes.{last_where, rival_of, conflict_at, conflict_with, conflict_of}
 use Rattle.lst_core_state.specs.Cells.{record_count, range_of}
 use Rattle.lst_core_state.specs.Index.{is_placed}
-use Rattle.lst_core_state.specs.State.{Words, Core, entry, writer_at, state_at, record_in, back_in, head_of, name_of, line, writes_of, history, history_of, commit_at}
+use Rattle.lst_core_state.specs.State.{Words, Core, entry, writer_at, state_at, record_in, back_in, head_of, name_of, line, history_of}
 use Rattle.lst_core_state.specs.Sound.{InHand, Drawn, StoredOf}
-use Rattle.lst_core_state.proofs.Histories.{length-history}
 use Rattle.lst_core_state.proofs.Decoded.{both_say}
 use Rattle.lst_crew_state.specs.Crews.{IsCrew}
 use Rattle.lst_crew_state.specs.Telling.{accepted_at, accepted_first, told}
 use Rattle.lst_crew_state.specs.Laws.{AllClosed, Conflicts, ConflictsAreTold}
 use Rattle.lst_crew_state.proofs.Keys.{key_place}
 use Rattle.lst_crew_state.proofs.Owns.{no_hand, drawn_stored}
-
--- the time of a transaction once a commit stands last
-abbrev pub or_last : Option ℕ → Bool → ℕ → Option ℕ
-or_last (Some time) same last = Some time
-or_last None same last = cond same (Some last) None
-
-time-append : (history : List Commit) (commit : Commit) (s n : ℕ) → time_of (history ++ commit ∷ []) s n ≡ or_last (time_of history s n) (commit.session == s && commit.number == n) (length history + 1)
-time-append [] commit s n = at_test (commit.session == s && commit.number == n) refl
-  where
-    at_test : (b : Bool) → (commit.session == s && commit.number == n) ≡ b → time_of (commit ∷ []) s n ≡ or_last None b (0 + 1)
-    at_test true is = rw is refl
-    at_test false is = rw is refl
-time-append (first ∷ history) commit s n = at_test (time-append history commit s n) (first.session == s && first.number == n) refl (time_of history s n) refl (commit.session == s && commit.number == n) refl
-  where
-    at_test : time_of (history ++ commit ∷ []) s n ≡ or_last (time_of history s n) (commit.session == s && commit.number == n) (length history + 1)
-        → (b : Bool) → (first.session == s && first.number == n) ≡ b → (t : Option ℕ) → time_of history s n ≡ t → (c : Bool) → (commit.session == s && commit.number == n) ≡ c
-        → time_of (first ∷ (history ++ commit ∷ [])) s n ≡ or_last (time_of (first ∷ history) s n) (commit.session == s && commit.number == n) (length (first ∷ history) + 1)
-    at_test rest true is t at c last = rw is refl
-    at_test rest false is (Some t) at c last = rw (is, rest, at) refl
-    at_test rest false is None at true last = rw (is, rest, at, last) (ap Some (omega arith))
-    at_test rest false is None at false last = rw (is, rest, at, last) refl
-
--- the times of a log
-module _ (log : ℕ → ℕ) (begins : ℕ → ℕ → ℕ) (ws : ℕ → List Write) (s m : ℕ) where
-  abbrev upto : ℕ → List Commit
-  upto n = history n log begins ws
-
-  abbrev names : ℕ → Bool
-  names t = log t % 16 == s && log t / 16 == m
-
-  time_next : (n : ℕ) → time_of (upto (suc n)) s m ≡ or_last (time_of (upto n) s m) (names (suc n)) (suc n)
-  unfolding history
-  time_next n = time-append (upto n) (commit_at log begins ws (suc n)) s m ∙ ap (or_last (time_of (upto n) s m) (names (suc n))) (let e : length (upto n) + 1 ≡ suc n = omega (arith, length-history n log begins ws) in e)
-
-  -- a transaction that the log doesn't name has none
-  pub time_none : (n : ℕ) → ((t : ℕ) → 0 < t → t ≤ n → names t ≡ false) → time_of (upto n) s m ≡ None
-  unfolding history
-  time_none zero none = refl
-  time_none (suc n) none = time_next n ∙ (λ i. or_last (time_none n (λ t some low. none t some (omega arith)) i) (none (suc n) (omega arith) (omega arith) i) (suc n))
-
-  -- the first time at which it names it is the transaction's
-  pub time_some : (n time : ℕ) → 0 < time → time ≤ n → names time ≡ true → ((t : ℕ) → 0 < t → t < time → names t ≡ false) → time_of (upto n) s m ≡ Some time
-  time_some zero time some low is before = absurd (omega arith)
-  time_some (suc n) time some low is before = time_next n ∙ dite (ℕ_discrete time (suc n))
-      (λ e. (λ i. or_last (time_none n (λ t pos below. before t pos (omega arith)) i) ((ap names (sym e) ∙ is) i) (suc n)) ∙ ap Some (sym e))
-      (λ ne. ap (λ o. or_last o (names (suc n)) (suc n)) (time_some n time some (omega arith) is before))
+use Rattle.lst_crew_state.proofs.Timed.{untimed, timed}
 
 last-append : (f : Accepted → Bool) (xs : List Accepted) (y : Accepted) → last_where f (xs ++ y ∷ []) ≡ cond (f y) (Some y) (last_where f xs)
 last-append f [] y = at_test (f y)
@@ -182,39 +134,18 @@ module _ (c : Core) (crew : IsCrew c) (r : ℕ) (few : r < record_count c.limits
       abbrev x : ℕ
       x = writer_at w t
 
-      named_other : (u : ℕ) → w.log u ≢ x → (w.log u % 16 == x % 16 && w.log u / 16 == x / 16) ≡ false
-      named_other u ne = is_false (w.log u % 16 == x % 16 && w.log u / 16 == x / 16)
-          (λ is. let q = both_say (w.log u % 16 == x % 16) (w.log u / 16 == x / 16) is in let a : w.log u % 16 ≡ x % 16 = eqb-true (w.log u % 16) (x % 16) q.0 in let b : w.log u / 16 ≡ x / 16 = eqb-true (w.log u / 16) (x / 16) q.1 in ne (omega arith))
-
-      named_here : (u : ℕ) → w.log u ≡ x → (w.log u % 16 == x % 16 && w.log u / 16 == x / 16) ≡ true
-      named_here u e = λ i. eq-eqb (w.log u % 16) (x % 16) (ap (λ (y : ℕ). y % 16) e) i && eq-eqb (w.log u / 16) (x / 16) (ap (λ (y : ℕ). y / 16) e) i
-
-      -- a time that the log names it at is that of its state word
-      log_state : (u : ℕ) → 0 < u → u ≤ w.clock → w.log u ≡ x → state_at w t ≡ u + 1
-      log_state u pos low e = ap (entry w.states) (sym e) ∙ (crew.sound.times.named u pos low).state
-
-      untimed : state_at w t ≡ 0 → time_of (history_of l w) (x % 16) (x / 16) ≡ None
-      untimed none = time_none w.log w.begins (writes_of l w) (x % 16) (x / 16) w.clock (λ u pos low. named_other u (λ e. let f = log_state u pos low e in omega arith))
-
-      state_low : state_at w t ≤ w.clock + 1
-      state_low = let begun = (stored_at t (on_line t first_line).0).begun in let runs = crew.sound.each (x % 16) begun.0 in let away = (crew.idle (x % 16) begun.0).turn in dite (ℕ_discrete (x / 16) (c.known (x % 16)).number)
-          (λ e. let last = runs.settled_last (λ f. omega arith) in let same : state_at w t ≡ w.states (x % 16) (c.known (x % 16)).number = ap (w.states (x % 16)) e in omega arith)
-          (λ ne. runs.settled (x / 16) ne)
-
-      timed : (time : ℕ) → 0 < time → state_at w t ≡ time + 1 → time_of (history_of l w) (x % 16) (x / 16) ≡ Some time
-      timed time pos is = let begun = (stored_at t (on_line t first_line).0).begun in let low = state_low in
-          let named : w.log time ≡ 16 * (x / 16) + x % 16 = crew.sound.times.found (x % 16) (x / 16) time begun.0 pos (omega arith) is in
-          time_some w.log w.begins (writes_of l w) (x % 16) (x / 16) w.clock time pos (omega arith) (named_here time (omega arith)) (λ u some below. named_other u (λ e. let f = log_state u some (omega arith) e in omega arith))
+      first_stored : 0 < w.cells t 0
+      first_stored = (on_line t first_line).0
 
       module _ (s begin : ℕ) where
         abbrev answer : Option Cause
         answer = conflict_of (told c) s begin (w.keys r)
 
         open_answer : state_at w t ≡ 0 → answer ≡ cond (x % 16 == s) None (Some (Unfinished (x % 16) (x / 16)))
-        open_answer none = ap (conflict_with (history_of l w) s begin) (rival_is (λ e. omega arith)) ∙ ap (conflict_at s begin (accepted_at l w t)) (untimed none)
+        open_answer none = ap (conflict_with (history_of l w) s begin) (rival_is (λ e. omega arith)) ∙ ap (conflict_at s begin (accepted_at l w t)) (untimed c crew t first_stored none)
 
         timed_answer : (time : ℕ) → 0 < time → state_at w t ≡ time + 1 → answer ≡ cond (nat_lt begin time) (Some (Newer time)) None
-        timed_answer time pos is = ap (conflict_with (history_of l w) s begin) (rival_is (λ e. omega arith)) ∙ ap (conflict_at s begin (accepted_at l w t)) (timed time pos is)
+        timed_answer time pos is = ap (conflict_with (history_of l w) s begin) (rival_is (λ e. omega arith)) ∙ ap (conflict_at s begin (accepted_at l w t)) (timed c crew t first_stored time pos is)
 
     module _ (s : ℕ) (low : s < l.sessions) (is_on : (c.known s).is_open ≡ true) where
       abbrev begin : ℕ

@@ -1,11 +1,16 @@
--- What the calls of a crew do to the words, and to what a session knows of its transactions.
+-- What the calls of a crew do to the words, and to what is known of transactions, pins and pages.
 use Rattle.std.specs.Prelude.{◌≡◌, ◌≢◌, ℕ, ◌+◌, ◌*◌, ◌<◌, Bool, true, false, eqb}
 use Rattle.lst_layout.specs.declared.limits.Limits.{Limits}
 use Rattle.lst_layout.specs.Functions.{put, put_in}
 use Rattle.lst_model.specs.declared.acts.Act.{Act}
+use Rattle.lst_model.specs.declared.lines.Call.{Call}
+use Rattle.lst_model.specs.declared.lines.Call.TheVariants.{Begin, AsOf, Commit, Abort}
 use Rattle.lst_core_state.specs.declared.known.Known.{Known}
+use Rattle.lst_core_state.specs.declared.pages.MergerFrames.{MergerFrames}
 use Rattle.lst_core_state.specs.Cells.{range_of}
 use Rattle.lst_core_state.specs.State.{Words, writer_at, record_in, act_in, name_of}
+use Rattle.lst_page_state.specs.Sound.{IsPage}
+use Rattle.lst_crew_state.specs.Telling.{tps_known}
 
 -- the session's transactions are the same
 pub record SameTransactions (u k : Known) : Type 0 where
@@ -30,7 +35,7 @@ pub record HasEnded (u k : Known) : Type 0 where
   pub number : k.number ≡ u.number
   pub is_open : k.is_open ≡ false
 
--- the areas of which the machine's state is told are the same. The commit word, the epoch, the index, the indirection words, the directory, the
+-- the areas of which the store part of the machine's state is told are the same. The commit word, the epoch, the index, the indirection words, the directory, the
 -- frames, the pins and the postings may differ
 pub record TellAlike (a b : Words) : Type 0 where
   pub clock : b.clock ≡ a.clock
@@ -70,3 +75,36 @@ pub record IsWritten (l : Limits) (a b : Words) (rec n x : ℕ) (act : Act) : Ty
   pub by : writer_at b (range_of rec * l.tails + n) ≡ x
   pub on : record_in l b.cells (range_of rec * l.tails + n) ≡ rec
   pub made : act_in l b.cells (range_of rec * l.tails + n) ≡ act
+
+-- ---- pins and pages
+
+-- the session has the same epoch pinned, or none
+abbrev pub SamePin : Known → Known → Type 0
+SamePin u k = k.pages.session.pin ≡ u.pages.session.pin
+
+-- each session below n
+abbrev pub SamePinEach : ℕ → (ℕ → Known) → (ℕ → Known) → Type 0
+SamePinEach n u k = (t : ℕ) → t < n → SamePin (u t) (k t)
+
+-- but s, where there is one
+abbrev pub SamePinBut : ℕ → ℕ → (ℕ → Known) → (ℕ → Known) → Type 0
+SamePinBut n s u k = (t : ℕ) → t < n → t ≢ s → SamePin (u t) (k t)
+
+-- the merger knows the same TPS of each page, and the same epoch
+pub record SameStock (l : Limits) (m o : MergerFrames) : Type 0 where
+  pub tps : (r c : ℕ) → IsPage l r c → tps_known o r c ≡ tps_known m r c
+  pub epoch : o.epoch ≡ m.epoch
+
+-- a page was swapped: it has this TPS now, the other pages have theirs, and the epoch is one higher
+pub record HasSwapped (l : Limits) (m o : MergerFrames) (range column tps : ℕ) : Type 0 where
+  pub here : tps_known o range column ≡ tps
+  pub others : (r c : ℕ) → IsPage l r c → (r ≡ range → c ≢ column) → tps_known o r c ≡ tps_known m r c
+  pub epoch : o.epoch ≡ m.epoch + 1
+
+-- the call is one that begins or ends a transaction
+abbrev pub begins_or_ends : Call → Bool
+begins_or_ends Begin = true
+begins_or_ends (AsOf time) = true
+begins_or_ends Commit = true
+begins_or_ends Abort = true
+begins_or_ends call = false

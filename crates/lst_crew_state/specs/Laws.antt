@@ -1,26 +1,38 @@
 -- What the machine of one thread says of the state that a crew's store tells: its answers are those of the chains, and each call of the crew
 -- moves it to its next state.
-use Rattle.std.specs.Prelude.{◌≡◌, ◌≢◌, ℕ, ◌+◌, ◌/◌, ◌%◌, ◌<◌, ◌≤◌, List, [], ◌∷◌, ◌++◌, Bool, true, false, Option, Some, None, length}
+use Rattle.std.specs.Prelude.{◌≡◌, ◌≢◌, ◌⊎◌, ℕ, ◌+◌, ◌/◌, ◌%◌, ◌<◌, ◌≤◌, List, [], ◌∷◌, ◌++◌, Bool, true, false, not, Option, Some, None, length}
 use Rattle.lst_layout.specs.declared.limits.Limits.{Limits}
 use Rattle.lst_layout.specs.Limits.{IsValid}
 use Rattle.lst_layout.specs.Words as layout
 use Rattle.lst_model.specs.declared.acts.Act.{Act}
+use Rattle.lst_model.specs.declared.lines.Call.{Call}
+use Rattle.lst_model.specs.declared.replies.Reply.{Reply}
+use Rattle.lst_model.specs.declared.replies.Reply.TheVariants.{Begun, Merged, NothingNew, NoFrame, Refused}
 use Rattle.lst_model.specs.declared.replies.Cause.{Cause}
 use Rattle.lst_model.specs.declared.replies.Cause.TheVariants.{Newer, Unfinished}
 use Rattle.lst_model.specs.Tables.{row_of}
 use Rattle.lst_model.specs.Histories.{row_from}
 use Rattle.lst_core_state.specs.Lists.{Has}
-use Rattle.lst_machine.specs.State.{opening_store}
+use Rattle.lst_machine.specs.State.{Opened, Store, opening_store, opening_pages}
 use Rattle.lst_machine.specs.Writes.{place_of, own_writes, sight_of, conflict_of}
-use Rattle.lst_machine.specs.Calls.{with_opened, with_closed, with_commit, with_placed, with_accepted}
+use Rattle.lst_machine.specs.Calls.{call_reply, with_opened, with_closed, with_commit, with_placed, with_accepted}
+use Rattle.lst_machine.specs.Merges.{settled_count, holds_frame, lowest_where, merge_reply, ended_where, pages_after_merge, pages_after_call}
 use Rattle.lst_core_state.specs.declared.known.Known.{Known}
+use Rattle.lst_core_state.specs.declared.pages.MergerFrames.{MergerFrames}
 use Rattle.lst_core_state.specs.Cells.{record_count}
 use Rattle.lst_core_state.specs.Index.{size, is_placed}
 use Rattle.lst_core_state.specs.State.{Words, Core, newcomer, writer_at, state_at, name_of, line, sight}
 use Rattle.lst_sights.specs.Watching.{IsStamped}
-use Rattle.lst_crew_state.specs.Crews.{IsCrew}
-use Rattle.lst_crew_state.specs.Telling.{told_store, told}
-use Rattle.lst_crew_state.specs.Effects.{SameTransactions, SameBut, TellAlike, HasBegun, HasEnded, begun_words, closed_words, committed_words, placed_words, IsWritten}
+use Rattle.lst_page_state.specs.Lists.{Every}
+use Rattle.lst_page_state.specs.State.{oldest_epoch, opening_merger}
+use Rattle.lst_page_state.specs.Settled.{settled_tails}
+use Rattle.lst_page_state.specs.Sound.{IsPage}
+use Rattle.lst_page_state.specs.Step.{lets_go}
+use Rattle.lst_page_state.specs.Known.{PagesSound}
+use Rattle.lst_crew_state.specs.Crews.{IsCrew, IsPinnedCrew}
+use Rattle.lst_crew_state.specs.Telling.{told_store, told, tps_known, told_pages, pages_told, told_state}
+use Rattle.lst_crew_state.specs.Folding.{AreFolded, AreAllFolded, NeedsNoTail}
+use Rattle.lst_crew_state.specs.Effects.{SameTransactions, SameBut, TellAlike, HasBegun, HasEnded, begun_words, closed_words, committed_words, placed_words, IsWritten, SamePinEach, SamePinBut, SameStock, HasSwapped, begins_or_ends}
 
 -- ---- what the state says
 
@@ -104,3 +116,97 @@ PlacesAreTold = (c : Core) → IsCrew c → (key q : ℕ) → c.words.counter < 
 abbrev pub WritesAreTold : Type 0
 WritesAreTold = (c : Core) → IsCrew c → (s rec n : ℕ) (act : Act) (b : Words) → s < c.limits.sessions → (c.known s).is_open ≡ true → rec < record_count c.limits → is_placed c.limits c.words.index rec ≡ true → n ≤ c.limits.tails
     → IsWritten c.limits c.words b rec n (name_of s (c.known s).number) act → told_store c.limits b c.known ≡ with_accepted (told c) s (c.words.keys rec) act
+
+-- ---- the page part
+
+-- at the opening no page has a tail, and nothing was swapped
+abbrev pub OpeningPagesAreTold : Type 0
+OpeningPagesAreTold = (l : Limits) → IsValid l → told_pages l (λ s. newcomer l) (opening_merger l) ≡ opening_pages
+
+-- it is told of the pins, of the TPS of each page, and of the epoch
+abbrev pub PinsAndPagesAreTold : Type 0
+PinsAndPagesAreTold = (l : Limits) (u k : ℕ → Known) (m o : MergerFrames) → SamePinEach l.sessions u k → SameStock l m o → told_pages l k o ≡ told_pages l u m
+
+-- a call that begins a transaction pins the epoch
+abbrev pub PinnedBeginsAreTold : Type 0
+PinnedBeginsAreTold = (l : Limits) (store : Store) (u k : ℕ → Known) (m o : MergerFrames) (s time : ℕ) (call : Call) → s < l.sessions → call_reply l store s call ≡ Begun time
+    → SamePinBut l.sessions s u k → (k s).pages.session.pin ≡ m.epoch + 1 → SameStock l m o → told_pages l k o ≡ pages_after_call l store (told_pages l u m) s call
+
+-- one that ends it takes the pin away. `ended_where` is what the machine does at a commit and at an abort
+abbrev pub PinnedEndsAreTold : Type 0
+PinnedEndsAreTold = (l : Limits) (store : Store) (u k : ℕ → Known) (m o : MergerFrames) (s : ℕ) (transaction : Opened) → s < l.sessions → store.opened s ≡ Some transaction
+    → SamePinBut l.sessions s u k → (k s).pages.session.pin ≡ 0 → SameStock l m o → told_pages l k o ≡ ended_where (store.opened s) (told_pages l u m) s
+
+-- a call that is refused, and one that neither begins nor ends a transaction, change no pin and no page
+abbrev pub OtherCallsLeavePages : Type 0
+OtherCallsLeavePages = (l : Limits) (store : Store) (u k : ℕ → Known) (m o : MergerFrames) (s : ℕ) (call : Call) → (begins_or_ends call ≡ false) ⊎ ((cause : Cause) × (call_reply l store s call ≡ Refused cause))
+    → SamePinEach l.sessions u k → SameStock l m o → told_pages l k o ≡ pages_after_call l store (told_pages l u m) s call
+
+-- ---- merges
+
+-- the settled writes of a range are its settled tails
+abbrev pub SettledAreTold : Type 0
+SettledAreTold = (c : Core) → IsCrew c → (range : ℕ) → range < c.limits.ranges → settled_count (told c) range ≡ length (settled_tails c.limits c.words range)
+
+-- the session's pin lets go of the oldest retired frame
+abbrev pub pin_lets_go : Core → ℕ → Bool
+pin_lets_go c s = lets_go (c.known s).pages.session.pin (oldest_epoch c.merger.pages.stock.retired)
+
+-- a session holds a spare frame exactly where its pin doesn't
+abbrev pub HoldersAreTold : Type 0
+HoldersAreTold = (c : Core) → IsPinnedCrew c → (s : ℕ) → s < c.limits.sessions → holds_frame c.limits (told c) (pages_told c) s ≡ not (pin_lets_go c s)
+
+-- a pin that holds each retired frame holds the oldest one
+abbrev pub HoldingAllIsHolding : Type 0
+HoldingAllIsHolding = (c : Core) → IsPinnedCrew c → (s : ℕ) → Every (λ r. lets_go (c.known s).pages.session.pin r.epoch ≡ false) c.merger.pages.stock.retired → pin_lets_go c s ≡ false
+
+-- the lowest session that does, and nobody
+abbrev pub LowestHolderIsTold : Type 0
+LowestHolderIsTold = (c : Core) → IsPinnedCrew c → (s : ℕ) → s < c.limits.sessions → pin_lets_go c s ≡ false → ((t : ℕ) → t < s → pin_lets_go c t ≡ true)
+    → lowest_where (holds_frame c.limits (told c) (pages_told c)) c.limits.sessions ≡ Some s
+
+abbrev pub NoHolderIsTold : Type 0
+NoHolderIsTold = (c : Core) → IsPinnedCrew c → ((s : ℕ) → s < c.limits.sessions → pin_lets_go c s ≡ true) → lowest_where (holds_frame c.limits (told c) (pages_told c)) c.limits.sessions ≡ None
+
+-- the machine's reply to a merge is this, and what is known then tells its next pages
+pub record IsMergedTo (c : Core) (range column : ℕ) (k : ℕ → Known) (o : MergerFrames) (answer : Reply) : Type 0 where
+  pub reply : merge_reply c.limits (told c) (pages_told c) range column ≡ answer
+  pub next : told_pages c.limits k o ≡ pages_after_merge c.limits (told c) (pages_told c) range column
+
+-- n tails of the range are settled
+abbrev pub AreSettled : Core → ℕ → ℕ → Type 0
+AreSettled c range n = n ≡ length (settled_tails c.limits c.words range)
+
+-- the page has them all
+abbrev pub NothingNewIsTold : Type 0
+NothingNewIsTold = (c : Core) → IsCrew c → (range column n : ℕ) (k : ℕ → Known) (o : MergerFrames) → IsPage c.limits range column → AreSettled c range n → tps_known c.merger.pages.stock range column ≡ n
+    → SamePinEach c.limits.sessions c.known k → SameStock c.limits c.merger.pages.stock o → IsMergedTo c range column k o (NothingNew n)
+
+-- it hasn't, and s is the lowest session whose pin holds the oldest retired frame
+abbrev pub NoFrameIsTold : Type 0
+NoFrameIsTold = (c : Core) → IsPinnedCrew c → (range column n s : ℕ) (k : ℕ → Known) (o : MergerFrames) → IsPage c.limits range column → AreSettled c range n → tps_known c.merger.pages.stock range column ≢ n
+    → s < c.limits.sessions → pin_lets_go c s ≡ false → ((t : ℕ) → t < s → pin_lets_go c t ≡ true)
+    → SamePinEach c.limits.sessions c.known k → SameStock c.limits c.merger.pages.stock o → IsMergedTo c range column k o (NoFrame s)
+
+-- it hasn't, and every pin lets go of that frame: a page of all settled tails takes its place
+abbrev pub SwapsAreTold : Type 0
+SwapsAreTold = (c : Core) → IsPinnedCrew c → (range column n : ℕ) (k : ℕ → Known) (o : MergerFrames) → IsPage c.limits range column → AreSettled c range n → tps_known c.merger.pages.stock range column ≢ n
+    → ((s : ℕ) → s < c.limits.sessions → pin_lets_go c s ≡ true)
+    → SamePinEach c.limits.sessions c.known k → HasSwapped c.limits c.merger.pages.stock o range column n → IsMergedTo c range column k o (Merged n)
+
+-- ---- reads of merged rows
+
+-- where the page of a column has folded each accepted write on a key, ended by a time, a read of the column of the key's record at that time needs no tail
+-- record
+abbrev pub FoldedKeysNeedNoTail : Type 0
+FoldedKeysNeedNoTail = (c : Core) → IsCrew c → PagesSound c → (rec column time : ℕ) → rec < record_count c.limits → is_placed c.limits c.words.index rec ≡ true → column < c.limits.columns
+    → AreFolded (told_state c) (c.words.keys rec) column time → NeedsNoTail c.words rec column time
+
+-- and where the pages of the column have folded every accepted write, that of no record needs one, whether or not the record was drawn
+abbrev pub FoldedTablesNeedNoTail : Type 0
+FoldedTablesNeedNoTail = (c : Core) → IsCrew c → PagesSound c → (rec column time : ℕ) → rec < record_count c.limits → column < c.limits.columns
+    → AreAllFolded c.limits (told_state c) column time → NeedsNoTail c.words rec column time
+
+-- stamps, which are all that a read stores, leave it so
+abbrev pub StampedNeedsNoTail : Type 0
+StampedNeedsNoTail = (a b : Words) → IsStamped a b → (rec column time : ℕ) → NeedsNoTail a rec column time → NeedsNoTail b rec column time

@@ -1,11 +1,14 @@
--- The state of the machine of one thread that a store tells: its lists, read off the words.
-use Rattle.std.specs.Prelude.{ℕ, zero, suc, ◌+◌, ◌*◌, ◌/◌, ◌%◌, List, [], ◌∷◌, ◌++◌, cond, eqb, nat_lt, Option, Some, None}
+-- The state of the machine of one thread that a store tells: its lists, read off the words, and what the merger and the pins say of its pages.
+use Rattle.std.specs.Prelude.{ℕ, zero, suc, ◌+◌, ◌-◌, ◌*◌, ◌/◌, ◌%◌, List, [], ◌∷◌, ◌++◌, cond, eqb, nat_lt, ◌&&◌, Option, Some, None}
 use Rattle.lst_layout.specs.declared.limits.Limits.{Limits}
 use Rattle.lst_core_state.specs.Writes.{write}
-use Rattle.lst_machine.specs.State.{Accepted, Opened, Store}
+use Rattle.lst_machine.specs.State.{Accepted, Opened, Store, Pages, State}
 use Rattle.lst_core_state.specs.declared.known.Known.{Known}
+use Rattle.lst_core_state.specs.declared.pages.MergerFrames.{MergerFrames}
 use Rattle.lst_core_state.specs.Cells.{listed}
 use Rattle.lst_core_state.specs.State.{Words, Core, writer_at, record_in, act_in, history_of}
+use Rattle.lst_pages.specs.Frames.{tps_in}
+use Rattle.lst_page_state.specs.Runs.{frame_known, page_known}
 
 -- the write of a tail, and its transaction
 abbrev pub accepted_at : Limits → Words → ℕ → Accepted
@@ -34,3 +37,23 @@ told_store l w known = record {
 
 abbrev pub told : Core → Store
 told c = told_store c.limits c.words c.known
+
+-- the TPS of a page, as the merger knows it
+abbrev pub tps_known : MergerFrames → ℕ → ℕ → ℕ
+tps_known m r c = tps_in (frame_known m (page_known m r c))
+
+-- the TPS of each page; the epoch, which is the number of swaps; and by session the epoch that it has pinned, which is the number of swaps when
+-- its open transaction began. A pin is that epoch plus one, and 0 where there is none
+abbrev pub told_pages : Limits → (ℕ → Known) → MergerFrames → Pages
+told_pages l known m = record {
+  tps = λ r c. cond (nat_lt r l.ranges && nat_lt c l.columns) (tps_known m r c) 0;
+  swaps = m.epoch;
+  swaps_at_begin = λ s. cond (nat_lt s l.sessions) ((known s).pages.session.pin - 1) 0;
+}
+
+abbrev pub pages_told : Core → Pages
+pages_told c = told_pages c.limits c.known c.merger.pages.stock
+
+-- both parts
+abbrev pub told_state : Core → State
+told_state c = record { store = told c; pages = pages_told c }
