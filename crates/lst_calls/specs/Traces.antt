@@ -1,5 +1,5 @@
 -- The calls of a session step by step: which views lie between, and what leads from each to the next.
-use Rattle.std.specs.Prelude.{◌≡◌, ◌≢◌, ◌⊎◌, ℕ, ◌+◌, ◌*◌, ◌<◌, List, [], ◌∷◌, true, false, length, slice_set, Bool, Option, None, Result, Ok, Err}
+use Rattle.std.specs.Prelude.{◌≡◌, ◌≢◌, ◌⊎◌, ℕ, ◌+◌, ◌*◌, ◌<◌, ◌≤◌, List, [], ◌∷◌, true, false, length, slice_set, Bool, Option, None, Result, Ok, Err}
 use Rattle.lst_layout.specs.Addresses.{address}
 use Rattle.lst_layout.specs.declared.place.Place.TheVariants.{CommitWord, StateWord, HeadWord}
 use Rattle.lst_model.specs.declared.acts.Act.{Act}
@@ -17,12 +17,14 @@ use Rattle.lst_rule.specs.Learned.{Possible, Learns, Kept, Made}
 use Rattle.lst_sights.specs.Watching.{Watched}
 use Rattle.lst_index.specs.Searches.{IsPlaced, Ended, IsUnseen, Works, Keeps}
 use Rattle.lst_index.specs.Placings.{Drew, DrawsAfterLook, FoundFull, Leaves, LeavesFull}
-use Rattle.lst_txn.specs.Transactions.{Commits}
+use Rattle.lst_txn.specs.Transactions.{Sees, Opens, Commits}
+use Rattle.lst_retire.specs.Pins.{Pins, Unpins}
 use Rattle.lst_write.specs.Holding.{Latches, FindsLatched}
 use Rattle.lst_write.specs.Judgements.{HasJudged, FaultIs}
 use Rattle.lst_write.specs.declared.judgement.JudgeFault.TheVariants as fault
 use Rattle.lst_second.specs.Posting.{Posts, AllPosted}
 use Rattle.lst_write.specs.Appending.{Appends, HasWhole, FindsFull, InstallsHeld}
+use Rattle.lst_walk.specs.Pages.{SavesRow}
 use Rattle.lst_walk.specs.Walks.{IsRowOf}
 use Rattle.lst_calls.specs.declared.kinds.WriteRefusal.{WriteRefusal}
 use Rattle.lst_calls.specs.declared.kinds.WriteRefusal.TheVariants.{Idle, ReadOnly, Missing, Exists, TableFull, Latched, Newer, Unfinished, TailFull}
@@ -66,13 +68,14 @@ pub record FindsFullTable (v w : View) (s key : ℕ) : Type 0 where
 
 -- ---- reads
 
--- the row of the record, which was found between
+-- the row of the record, which was found between. A session with a pin took the pages of all columns in hand first
 pub record ReadsRecord (v w : View) (s key : ℕ) (row : Option (List Cell)) : Type 0 where
   pub between : View
   pub rec : ℕ
   pub found : FindsRecord v between s rec key
   pub watched : Watched between w s
   pub is : IsRowOf between s rec row
+  pub saves : 0 < (knows between s).pages.session.pin → SavesRow between w s rec
 
 abbrev pub Reads : View → View → ℕ → ℕ → Option (List Cell) → Type 0
 Reads v w s key row = ((row ≡ None) × FindsNone v w s key) ⊎ ReadsRecord v w s key row
@@ -200,19 +203,39 @@ Changes v w s key act (Err Idle) = IsRefusedAtOnce v w s Idle
 Changes v w s key act (Err ReadOnly) = IsRefusedAtOnce v w s ReadOnly
 Changes v w s key act result = MayWrite v s × (((result ≡ Err Missing) × FindsNone v w s key) ⊎ TriesFound v w s key act result)
 
+-- ---- begins
+
+-- the session was pinned at an epoch that was loaded, and then its next transaction opened, with the begin b
+pub record Begins (v w : View) (s clock b : ℕ) (read_only : Bool) : Type 0 where
+  pub between : View
+  pub pins : Pins v between s
+  pub opens : Opens between w s clock b read_only
+
+-- and before that the clock was loaded, and found not below the time
+pub record BeginsAsOf (v w : View) (s clock time : ℕ) : Type 0 where
+  pub before : ℕ
+  pub between : View
+  pub sees : Sees v between s before
+  pub reached : time ≤ before
+  pub begins : Begins between w s clock time true
+
 -- ---- ends
 
--- the transaction, which has no writes, is closed
+-- the transaction, which is not committed, is closed, and then the pin taken away
 pub record Closes (v w : View) (s : ℕ) : Type 0 where
-  pub view : Learns v w s (record (knows v s) { is_open = false; own = [] })
-  pub words : w.words ≡ slice_set v.words (address v.limits (StateWord s (knows v s).number)) 1
+  pub between : View
+  pub view : Learns v between s (record (knows v s) { is_open = false; own = [] })
+  pub words : between.words ≡ slice_set v.words (address v.limits (StateWord s (knows v s).number)) 1
+  pub unpins : Unpins between w s
 
--- the turn is taken, and the transaction committed at the time
+-- the turn is taken, and the transaction committed at the time, and then the pin taken away
 pub record TakesAndCommits (v w : View) (s time : ℕ) : Type 0 where
   pub between : View
   pub takes : Learns v between s (took (knows v s))
   pub words : between.words ≡ slice_set v.words (address v.limits CommitWord) (s + 1)
-  pub commits : Commits between w s time
+  pub committed : View
+  pub commits : Commits between committed s time
+  pub unpins : Unpins committed w s
 
 abbrev pub Ends : View → View → ℕ → Outcome → Type 0
 Ends v w s (Committed time) = (0 < length (knows v s).own) × TakesAndCommits v w s time

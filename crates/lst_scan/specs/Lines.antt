@@ -1,4 +1,4 @@
--- The lines of a script with their scans: which of them a crew takes, and what each promises of the session that calls.
+-- The lines of a script with their scans: what each promises of the session that calls, or of the merger.
 use Rattle.std.specs.Prelude.{◌≡◌, ℕ, true, false}
 use Rattle.lst_model.specs.declared.lines.Call.{Call}
 use Rattle.lst_model.specs.declared.lines.Call.TheVariants as call
@@ -13,14 +13,8 @@ use Rattle.lst_rule.specs.declared.view.View.{View}
 use Rattle.lst_rule.specs.Rule.{knows}
 use Rattle.lst_session.specs.Calls.{OnlyLooks, FindsNoneFull}
 use Rattle.lst_session.specs.Crews.{TellsState, state_told}
-use Rattle.lst_session.specs.Lines.{IsOpen, IsClosed, CallLeaves}
+use Rattle.lst_session.specs.Lines.{IsOpen, IsClosed, CallLeaves, MergeLeaves}
 use Rattle.lst_scan.specs.Scans.{table_seen}
-
--- the lines that a crew takes: the end of a phase, and each call of a session; no merges yet
-abbrev pub IsNoMerge : Line → Type 0
-IsNoMerge line.Phase = Unit {0}
-IsNoMerge (line.Merge range column) = ⊥
-IsNoMerge (line.Call session call) = Unit {0}
 
 -- a state of the machine that the view told is told still
 abbrev pub KeepsState : View → View → Type 0
@@ -67,7 +61,7 @@ EachCallLeaves v w s call answer = CallLeaves v w s call answer
 -- by the line
 abbrev pub EachLineLeaves : View → View → Line → Reply → Type 0
 EachLineLeaves v w line.Phase answer = (answer ≡ Silent) × (w ≡ v)
-EachLineLeaves v w (line.Merge range column) answer = ⊥
+EachLineLeaves v w (line.Merge range column) answer = MergeLeaves v w range column answer
 EachLineLeaves v w (line.Call s call) answer = EachCallLeaves v w s call answer
 
 -- for want of memory: only a list and a find in an indexed column take any, once a transaction is found open, and then the session has only
@@ -81,5 +75,5 @@ CallLooks v w s call = w ≡ v
 
 abbrev pub LineLooks : View → View → Line → Type 0
 LineLooks v w line.Phase = w ≡ v
-LineLooks v w (line.Merge range column) = ⊥
+LineLooks v w (line.Merge range column) = w ≡ v
 LineLooks v w (line.Call s call) = CallLooks v w s call

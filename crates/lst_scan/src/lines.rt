@@ -4,7 +4,7 @@ ghost use Rattle.lst_machine.specs.Calls.{is_indexed};
 ghost use Rattle.lst_model.specs.Lines.{LineFits};
 ghost use Rattle.lst_model.specs.declared.lines.Call.TheVariants as call;
 ghost use Rattle.lst_session.specs.Crews.{IsCrewOf, TellsState, Answers, AnswersLine};
-ghost use Rattle.lst_scan.specs.Lines.{IsNoMerge, KeepsState, HasScanned, SumLeaves, CountLeaves, ScanLeaves, FindLeaves, EachLineLeaves, LineLooks};
+ghost use Rattle.lst_scan.specs.Lines.{KeepsState, HasScanned, SumLeaves, CountLeaves, ScanLeaves, FindLeaves, EachLineLeaves, LineLooks};
 
 use crate::finds::{FindRefusal, find};
 use crate::lists::rows;
@@ -14,8 +14,8 @@ use lst_rule::Store;
 use lst_session::Crew;
 use std::alloc::Global;
 
-/// The answer to a line that is no merge: a scan is made by the session's open transaction, and all other lines by the crew. It promises of
-/// the session that calls what the call itself promises; and where the crew tells a state of the machine, the answer is the machine's, and the
+/// The answer to a line: a scan is made by the session's open transaction, and all other lines by the crew. It promises of the session that
+/// calls, and of the merger, what the call itself promises; and where the crew tells a state of the machine, the answer is the machine's, and the
 /// crew then tells the next one. Memory may be wanted for a list of rows and for a find in an indexed column, with a transaction open: then the
 /// session has only looked, and the crew tells the same state.
 pub fn crew_line(
@@ -26,7 +26,6 @@ pub fn crew_line(
 ) -> Result<Reply, OutOfMemory>
     requires crew { IsCrewOf store.now crew.old }
     requires fits { LineFits crew.old.seat.view.limits.sessions crew.old.seat.view.limits.ranges crew.old.seat.view.limits.columns line.now }
-    requires taken { IsNoMerge line.now }
     ensures crew { IsCrewOf store.now crew.new }
     ensures machine { TellsState crew.old.seat.view → IfOk result (λ reply. TellsState crew.new.seat.view × AnswersLine crew.old.seat.view crew.new.seat.view line.now reply) }
     ensures session { IfOk result (λ reply. EachLineLeaves crew.old.seat.view crew.new.seat.view line.now reply) }

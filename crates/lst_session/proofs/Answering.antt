@@ -21,26 +21,29 @@ use Rattle.lst_rule.specs.Stores.{IsSeatOf}
 use Rattle.lst_txn.specs.declared.begins.BeginFault.{BeginFault}
 use Rattle.lst_txn.specs.declared.begins.BeginFault.TheVariants.{Active, Spent, Future}
 use Rattle.lst_txn.specs.Transactions as txn
-use Rattle.lst_crew_state.specs.Crews.{IsIdle}
+use Rattle.lst_crew_state.specs.Crews.{IsIdle, IsPinnedWhereOpen}
 use Rattle.lst_calls.specs.declared.kinds.WriteRefusal.{WriteRefusal}
 use Rattle.lst_calls.specs.declared.kinds.WriteRefusal.TheVariants.{Idle, ReadOnly, Missing, Exists, TableFull, Latched, Newer, Unfinished, TailFull}
+use Rattle.lst_calls.specs.Traces as traces
 use Rattle.lst_calls.specs.Traces.{is_put, misfit_of, FindsNone, FindsFullTable, Reads, TriesPlaced, TriesFound, MayWrite, Inserts, Changes}
 use Rattle.lst_walk.proofs.Walking.{row_of_key}
 use Rattle.lst_session.specs.declared.session.Session.{Session}
 use Rattle.lst_session.specs.Calls.{FindsOneFull, SameLists, Begins, Gets, Accepts, Refuses, Cause, row_seen}
 use Rattle.lst_session.specs.Passes.{IsReady}
-use Rattle.lst_session.proofs.Growing.{Steps, steps_on, steps_called, works_steps, works_hold, works_latched, watched_hands, watched_steps, none_full_on, one_full_on, works_room, watched_room, begun_early, sight_stays, seen_row}
-use Rattle.lst_session.proofs.Turning.{begins, begins_idle, ahead_idle}
+use Rattle.lst_session.proofs.Growing.{Steps, pins_stay, steps_on, steps_called, works_steps, works_hold, works_latched, watched_hands, watched_steps, none_full_on, one_full_on, works_room, watched_room, begun_early, sight_stays, seen_row}
+use Rattle.lst_session.proofs.Turning.{begins, begins_idle, begins_as_of, as_of_idle, ahead_idle}
 use Rattle.lst_session.proofs.Writing.{Comes, found_comes, placed_comes, kept_drawn, kept_free, own_then, accepts, refused, tried_idle}
 
 -- ---- the session is ready again
 
-pub ready : (store : Store) (old : Session) (seat : Sitting) → IsReady store old → IsSeatOf store seat → seat.view.hosts ≡ old.seat.view.hosts → IsIdle (knows seat.view old.number) → IsReady store record { seat = seat; number = old.number }
-ready store old seat r is hosted idle = record {
+pub ready : (store : Store) (old : Session) (seat : Sitting) → IsReady store old → IsSeatOf store seat → seat.view.hosts ≡ old.seat.view.hosts → IsIdle (knows seat.view old.number) → IsPinnedWhereOpen (knows seat.view old.number)
+    → IsReady store record { seat = seat; number = old.number }
+ready store old seat r is hosted idle pinned = record {
   seat_of = is;
   host = ap (λ (hs : List Bool). slice_index_or hs old.number false) hosted ∙ r.host;
   own = subst (λ (l : Limits). old.number < l.sessions) (r.seat_of.limits ∙ sym is.limits) r.own;
   idle = idle;
+  pinned = pinned;
 }
 
 -- ---- begins
@@ -50,22 +53,22 @@ same_view old new (Ok b) e = tt
 same_view old new (Err fault) e = ap (λ (seat : Sitting). seat.view) e
 
 module _ (v w : View) (s : ℕ) where
-  pub begun : (result : Result ℕ BeginFault) → IfOk result (λ b. txn.Opens v w s b b false) → IfOk result (λ b. Begins v w s b b false)
+  pub begun : (result : Result ℕ BeginFault) → IfOk result (λ b. traces.Begins v w s b b false) → IfOk result (λ b. Begins v w s b b false)
   begun (Ok b) o = begins v w s b b false o
   begun (Err fault) o = tt
 
-  pub begun_idle : (result : Result ℕ BeginFault) → IfOk result (λ b. txn.Opens v w s b b false) → OnErr result (w ≡ v) → IsIdle (knows v s) → IsIdle (knows w s)
+  pub begun_idle : (result : Result ℕ BeginFault) → IfOk result (λ b. traces.Begins v w s b b false) → OnErr result (w ≡ v) → IsIdle (knows v s) → IsIdle (knows w s)
   begun_idle (Ok b) o e idle = begins_idle v w s b b false o idle
   begun_idle (Err fault) o e idle = subst (λ (u : View). IsIdle (knows u s)) (sym e) idle
 
-  module _ (time : ℕ) where
-    pub opened : (result : Result ℕ BeginFault) → IfOk result (λ b. (b ≡ time) × ((clock : ℕ) × txn.Opens v w s clock time true)) → IfOk result (λ b. (b ≡ time) × ((clock : ℕ) × Begins v w s clock time true))
-    opened (Ok b) o = (o.0, (o.1.0, begins v w s o.1.0 time true o.1.1))
+  module _ (time : ℕ) (low : s < v.limits.sessions) where
+    pub opened : (result : Result ℕ BeginFault) → IfOk result (λ b. (b ≡ time) × ((clock : ℕ) × traces.BeginsAsOf v w s clock time)) → IfOk result (λ b. (b ≡ time) × ((clock : ℕ) × Begins v w s clock time true))
+    opened (Ok b) o = (o.0, (o.1.0, begins_as_of v w s o.1.0 time o.1.1 low))
     opened (Err fault) o = tt
 
-    pub opened_idle : (result : Result ℕ BeginFault) → IfOk result (λ b. (b ≡ time) × ((clock : ℕ) × txn.Opens v w s clock time true)) → ((clock : ℕ) → result ≡ Err (Future clock) → (clock < time) × txn.Sees v w s clock)
+    pub opened_idle : (result : Result ℕ BeginFault) → IfOk result (λ b. (b ≡ time) × ((clock : ℕ) × traces.BeginsAsOf v w s clock time)) → ((clock : ℕ) → result ≡ Err (Future clock) → (clock < time) × txn.Sees v w s clock)
         → ((result ≡ Err Active) ⊎ (result ≡ Err Spent) → w ≡ v) → IsIdle (knows v s) → IsIdle (knows w s)
-    opened_idle (Ok b) o f e idle = begins_idle v w s o.1.0 time true o.1.1 idle
+    opened_idle (Ok b) o f e idle = as_of_idle v w s o.1.0 time o.1.1 idle
     opened_idle (Err Active) o f e idle = subst (λ (u : View). IsIdle (knows u s)) (sym (e (inl refl))) idle
     opened_idle (Err Spent) o f e idle = subst (λ (u : View). IsIdle (knows u s)) (sym (e (inr refl))) idle
     opened_idle (Err (Future clock)) o f e idle = ahead_idle v w s clock (f clock refl).1 idle
@@ -80,6 +83,7 @@ module _ (v w : View) (s key : ℕ) (row : Option (List Cell)) (own : s < v.limi
   gets (inl n) = let st : Steps v w s = works_steps v w s [] n.1.works in record {
     called = steps_called v w s st;
     same = st.stays.same;
+    pins = st.stays.pins;
     lists = none_lists n.1;
     is = n.0 ∙ sym (seen_row (knows w s) key ∙ ap (row_from None) (n.1.unseen.own (st.stays.same.transaction.is_open ∙ is_open)));
     room = works_room v w s n.1.works;
@@ -88,6 +92,7 @@ module _ (v w : View) (s key : ℕ) (row : Option (List Cell)) (own : s < v.limi
       let st : Steps v w s = steps_on v r.between w s come.steps (watched_steps r.between w s r.watched (own_then v r.between s come.steps own)) in record {
         called = steps_called v w s st;
         same = st.stays.same;
+        pins = st.stays.pins;
         lists = record {
           drawn = ap (λ (p : Placing). p.drawn) hands.placing ∙ kept_drawn (knows v s).placing (knows r.between s).placing r.found.keeps;
           latched = hands.latched ∙ come.latched;
@@ -116,6 +121,7 @@ refuses_still : (v : View) (s key most : ℕ) → Refuses v v s key most
 refuses_still v s key most = record {
   called = record { learns = learns_same v s; seen = ([], sym (append-nil (knows v s).seen)); facts = λ f h. h; finds = ([], sym (append-nil (knows v s).finds)) };
   same = record { transaction = record { number = refl; begin = refl; read_only = refl; is_open = refl }; own = refl; mine = refl };
+  pins = pins_stay (knows v s);
   done = refl;
   drew = record { drew = []; drawn = sym (append-nil (knows v s).placing.drawn); few = omega arith };
   after_look = inl refl;
@@ -146,6 +152,7 @@ module _ (v w : View) (s key : ℕ) (f : FindsFullTable v w s key) where
   full_refuses = record {
     called = steps_called v w s full_steps;
     same = full_steps.stays.same;
+    pins = full_steps.stays.pins;
     done = full_steps.stays.done;
     drew = record { drew = f.drew.drew; drawn = f.drew.drawn; few = (let h = f.drew.few in omega arith) };
     after_look = inl drawn_still;
@@ -183,6 +190,7 @@ module _ (v w : View) (s key : ℕ) (is_open : (knows v s).is_open ≡ true) (ea
   none_refuses = record {
     called = steps_called v w s none_steps;
     same = none_steps.stays.same;
+    pins = none_steps.stays.pins;
     done = none_steps.stays.done;
     drew = record { drew = []; drawn = kept_drawn (knows v s).placing (knows w s).placing f.keeps ∙ sym (append-nil (knows v s).placing.drawn); few = omega arith };
     after_look = inl (kept_drawn (knows v s).placing (knows w s).placing f.keeps);

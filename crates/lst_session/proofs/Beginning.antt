@@ -23,10 +23,12 @@ use Rattle.lst_txn.specs.Transactions.{Sees, Opens}
 use Rattle.lst_crew_state.specs.Crews.{IsIdle}
 use Rattle.lst_crew_state.specs.Effects.{HasBegun, begun_words}
 use Rattle.lst_crew_state.proofs.Began.{begins_are_told}
-use Rattle.lst_session.specs.Crews.{words_of, store_told, Answers}
+use Rattle.lst_session.specs.Crews.{words_of, store_told}
 use Rattle.lst_session.specs.Replies.{begin_reply}
-use Rattle.lst_session.proofs.Crewed.{IsCrewView, allowed_whole, core_of, known_is, is_crew, told_is, others_on, begins_is, opened_by, opened_some, opened_none, kept_words, set_words, stamped_is, same_draws, crew_after, told_on, told_stays, away_still}
+use Rattle.lst_session.proofs.Crewed.{IsCrewView, StoreAnswers, allowed_whole, core_of, known_is, is_crew, told_is, others_on, begins_is, opened_by, opened_some, opened_none, kept_words, set_words, stamped_is, same_draws, crew_after, told_on, told_stays, away_still}
+use Rattle.lst_calls.specs.Traces as traces
 use Rattle.lst_session.proofs.Ending.{not_true}
+use Rattle.lst_session.proofs.Pinning.{learnt_low, learnt_closed, learnt_more, pinned_crew, pinned_told, pinned_possible, answers_from}
 
 -- ---- the clock
 
@@ -97,14 +99,14 @@ module _ (v w : View) (s : ℕ) (crew : IsCrewView v) (p : Possible v) (low : s 
         ∙ (begins_are_told (core_of v crew p) (is_crew v crew p) s b r (knows w) low (ap (λ (k : Known). k.is_open) (sym known) ∙ closed) (others_on v crew p w s _ opens.view) begun
         ∙ ap (λ (store : Store). with_opened store s b r) (sym (told_is v crew p)))
 
-    pub begins_at : b ≡ x → r ≡ false → Answers v w s Begin (Begun b)
+    pub begins_at : b ≡ x → r ≡ false → StoreAnswers v w s Begin (Begun b)
     begins_at e f = let clock = e ∙ clock_is v opens.between s x crew.whole opens.load in record {
       reply = λ i. refused_or (sym none_refused i) (Begun (clock i));
       next = opens_told ∙ (λ i. opened_unless (sym none_refused i) (store_told v) s (clock i) (f i));
       limits = opens.view.limits;
     }
 
-    pub opens_as_of : r ≡ true → Answers v w s (AsOf b) (Begun b)
+    pub opens_as_of : r ≡ true → StoreAnswers v w s (AsOf b) (Begun b)
     opens_as_of f = let clock = clock_is v opens.between s x crew.whole opens.load in let none = as_of_not v.limits (store_told v) s b none_refused (let h = opens.early in omega arith) in record {
       reply = λ i. refused_or (sym none i) (Begun b);
       next = opens_told ∙ (λ i. opened_unless (sym none i) (store_told v) s b (f i));
@@ -122,12 +124,59 @@ module _ (v w : View) (s : ℕ) (crew : IsCrewView v) (p : Possible v) (low : s 
     pub sees_told : store_told w ≡ store_told v
     sees_told = told_stays v w s _ sees.load.view (record { number = refl; begin = refl; read_only = refl; is_open = refl }) (stamped_is (words_of v) (words_of w) sees_words)
 
-    pub to_come : (time : ℕ) → x < time → Answers v w s (AsOf time) (Refused (cause.Future x))
+    pub to_come : (time : ℕ) → x < time → StoreAnswers v w s (AsOf time) (Refused (cause.Future x))
     to_come time early = let clock = clock_is v w s x crew.whole sees.load in let future = as_of_future v.limits (store_told v) s time none_refused (omega arith) in record {
       reply = (λ i. Refused (cause.Future (clock i))) ∙ (λ i. refused_or (sym future i) (Begun time));
       next = sees_told ∙ (λ i. opened_unless (sym future i) (store_told v) s time true);
       limits = sees.load.view.limits;
     }
+
+-- ---- with the session pinned
+
+module _ (v w : View) (s : ℕ) (crew : IsCrewView v) (low : s < v.limits.sessions) (closed : (knows v s).is_open ≡ false) (more : (knows v s).number ≢ v.limits.txns) (x b : ℕ) (r : Bool) (t : traces.Begins v w s x b r) where
+  crew_at : IsCrewView t.between
+  crew_at = pinned_crew v t.between s crew low t.pins
+
+  possible_at : Possible t.between
+  possible_at = pinned_possible v t.between s t.pins
+
+  low_at : s < t.between.limits.sessions
+  low_at = learnt_low v t.between s _ t.pins.view low
+
+  closed_at : (knows t.between s).is_open ≡ false
+  closed_at = learnt_closed v t.between s _ t.pins.view refl closed
+
+  more_at : (knows t.between s).number ≢ t.between.limits.txns
+  more_at = learnt_more v t.between s _ t.pins.view refl more
+
+  pub begins_crew : IsCrewView w
+  begins_crew = opens_crew t.between w s crew_at possible_at low_at closed_at more_at x b r t.opens
+
+  pub begins_now : b ≡ x → r ≡ false → StoreAnswers v w s Begin (Begun b)
+  begins_now e f = answers_from v t.between w s Begin (Begun b) t.pins.view.limits (pinned_told v t.between s crew low t.pins) (begins_at t.between w s crew_at possible_at low_at closed_at more_at x b r t.opens e f)
+
+  pub begins_then : r ≡ true → StoreAnswers v w s (AsOf b) (Begun b)
+  begins_then f = answers_from v t.between w s (AsOf b) (Begun b) t.pins.view.limits (pinned_told v t.between s crew low t.pins) (opens_as_of t.between w s crew_at possible_at low_at closed_at more_at x b r t.opens f)
+
+-- and the clock loaded before that
+module _ (v w : View) (s : ℕ) (crew : IsCrewView v) (p : Possible v) (low : s < v.limits.sessions) (closed : (knows v s).is_open ≡ false) (more : (knows v s).number ≢ v.limits.txns) (x time : ℕ) (t : traces.BeginsAsOf v w s x time) where
+  seen_crew : IsCrewView t.between
+  seen_crew = sees_crew v t.between s crew p low closed more t.before t.sees
+
+  at_low : s < t.between.limits.sessions
+  at_low = learnt_low v t.between s _ t.sees.load.view low
+
+  at_closed : (knows t.between s).is_open ≡ false
+  at_closed = learnt_closed v t.between s _ t.sees.load.view refl closed
+
+  at_more : (knows t.between s).number ≢ t.between.limits.txns
+  at_more = learnt_more v t.between s _ t.sees.load.view refl more
+
+  pub as_of_crew : IsCrewView w
+  as_of_crew = begins_crew t.between w s seen_crew at_low at_closed at_more x time true t.begins
+
+  pub as_of_at : StoreAnswers v w s (AsOf time) (Begun time)
+  as_of_at = answers_from v t.between w s (AsOf time) (Begun time) t.sees.load.view.limits (sees_told v t.between s crew p low closed more t.before t.sees) (begins_then t.between w s seen_crew at_low at_closed at_more x time true t.begins refl)
 
 -- ---- refusals at once
 
@@ -138,14 +187,14 @@ module _ (v : View) (s : ℕ) (low : s < v.limits.sessions) where
   spent : (knows v s).is_open ≡ false → (knows v s).number ≡ v.limits.txns → begin_refusal v.limits (store_told v) s ≡ Some cause.Spent
   spent closed all = let e = begins_is v s low in refused_spent v.limits (store_told v) s (opened_none v s low closed) (omega arith)
 
-  begin_refused : (w : View) (c : Cause) → begin_refusal v.limits (store_told v) s ≡ Some c → w ≡ v → Answers v w s Begin (Refused c)
+  begin_refused : (w : View) (c : Cause) → begin_refusal v.limits (store_told v) s ≡ Some c → w ≡ v → StoreAnswers v w s Begin (Refused c)
   begin_refused w c is same = record {
     reply = λ i. refused_or (sym is i) (Begun (length (store_told v).history));
     next = ap store_told same ∙ (λ i. opened_unless (sym is i) (store_told v) s (length (store_told v).history) false);
     limits = ap (λ (u : View). u.limits) same;
   }
 
-  as_of_at_once : (w : View) (time : ℕ) (c : Cause) → begin_refusal v.limits (store_told v) s ≡ Some c → w ≡ v → Answers v w s (AsOf time) (Refused c)
+  as_of_at_once : (w : View) (time : ℕ) (c : Cause) → begin_refusal v.limits (store_told v) s ≡ Some c → w ≡ v → StoreAnswers v w s (AsOf time) (Refused c)
   as_of_at_once w time c is₀ same = let is = as_of_refused v.limits (store_told v) s time c is₀ in record {
     reply = λ i. refused_or (sym is i) (Begun time);
     next = ap store_told same ∙ (λ i. opened_unless (sym is i) (store_told v) s time true);
@@ -155,10 +204,10 @@ module _ (v : View) (s : ℕ) (low : s < v.limits.sessions) where
 -- ---- the calls
 
 module _ (m n : Sitting) (s : ℕ) (crew : IsCrewView m.view) (p : Possible m.view) (low : s < m.view.limits.sessions) where
-  pub begin_answers : (result : Result ℕ BeginFault) → IfOk result (λ b. Opens m.view n.view s b b false) → ((result ≡ Err begins.Active) ↔ ((knows m.view s).is_open ≡ true))
+  pub begin_answers : (result : Result ℕ BeginFault) → IfOk result (λ b. traces.Begins m.view n.view s b b false) → ((result ≡ Err begins.Active) ↔ ((knows m.view s).is_open ≡ true))
       → ((result ≡ Err begins.Spent) ↔ (((knows m.view s).is_open ≡ false) × ((knows m.view s).number ≡ m.view.limits.txns))) → ((clock : ℕ) → ¬ (result ≡ Err (begins.Future clock))) → OnErr result (n ≡ m)
-      → IsCrewView n.view × Answers m.view n.view s Begin (begin_reply result)
-  begin_answers (Ok b) opens is_active is_spent never same = (opens_crew m.view n.view s crew p low closed more b b false opens, begins_at m.view n.view s crew p low closed more b b false opens refl refl)
+      → IsCrewView n.view × StoreAnswers m.view n.view s Begin (begin_reply result)
+  begin_answers (Ok b) opens is_active is_spent never same = (begins_crew m.view n.view s crew low closed more b b false opens, begins_now m.view n.view s crew low closed more b b false opens refl refl)
     where
       closed : (knows m.view s).is_open ≡ false
       closed = not_true (knows m.view s).is_open (λ e. let f = is_active.1 e in absurd (cc))
@@ -169,10 +218,10 @@ module _ (m n : Sitting) (s : ℕ) (crew : IsCrewView m.view) (p : Possible m.vi
   begin_answers (Err begins.Spent) opens is_active is_spent never same = let h = is_spent.0 refl in (subst (λ (x : Sitting). IsCrewView x.view) (sym same) crew, begin_refused m.view s low n.view cause.Spent (spent m.view s low h.0 h.1) (ap (λ (x : Sitting). x.view) same))
   begin_answers (Err (begins.Future clock)) opens is_active is_spent never same = absurd (never clock refl)
 
-  pub as_of_answers : (time : ℕ) (result : Result ℕ BeginFault) → IfOk result (λ b. (b ≡ time) × ((clock : ℕ) × Opens m.view n.view s clock time true)) → ((result ≡ Err begins.Active) ↔ ((knows m.view s).is_open ≡ true))
+  pub as_of_answers : (time : ℕ) (result : Result ℕ BeginFault) → IfOk result (λ b. (b ≡ time) × ((clock : ℕ) × traces.BeginsAsOf m.view n.view s clock time)) → ((result ≡ Err begins.Active) ↔ ((knows m.view s).is_open ≡ true))
       → ((result ≡ Err begins.Spent) ↔ (((knows m.view s).is_open ≡ false) × ((knows m.view s).number ≡ m.view.limits.txns))) → ((clock : ℕ) → result ≡ Err (begins.Future clock) → (clock < time) × Sees m.view n.view s clock)
-      → ((result ≡ Err begins.Active) ⊎ (result ≡ Err begins.Spent) → n ≡ m) → IsCrewView n.view × Answers m.view n.view s (AsOf time) (begin_reply result)
-  as_of_answers time (Ok b) ok is_active is_spent future same = (opens_crew m.view n.view s crew p low closed more ok.1.0 time true ok.1.1, subst (λ (x : ℕ). Answers m.view n.view s (AsOf time) (Begun x)) (sym ok.0) (opens_as_of m.view n.view s crew p low closed more ok.1.0 time true ok.1.1 refl))
+      → ((result ≡ Err begins.Active) ⊎ (result ≡ Err begins.Spent) → n ≡ m) → IsCrewView n.view × StoreAnswers m.view n.view s (AsOf time) (begin_reply result)
+  as_of_answers time (Ok b) ok is_active is_spent future same = (as_of_crew m.view n.view s crew p low closed more ok.1.0 time ok.1.1, subst (λ (x : ℕ). StoreAnswers m.view n.view s (AsOf time) (Begun x)) (sym ok.0) (as_of_at m.view n.view s crew p low closed more ok.1.0 time ok.1.1))
     where
       closed : (knows m.view s).is_open ≡ false
       closed = not_true (knows m.view s).is_open (λ e. let f = is_active.1 e in absurd (cc))

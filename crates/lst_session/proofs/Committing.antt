@@ -1,5 +1,5 @@
 -- A transaction with writes is committed.
-use Rattle.std.proofs.Common.{◌≡◌, ℕ, ◌+◌, ◌*◌, ◌<◌, List, [], ◌∷◌, ◌++◌, true, false, length, refl, sym, subst, ap, ◌∙◌, arith, set, length-set}
+use Rattle.std.proofs.Common.{◌≡◌, ℕ, ◌+◌, ◌*◌, ◌<◌, List, [], ◌∷◌, ◌++◌, true, false, length, refl, sym, subst, ap, ◌∙◌, arith, set, slice_set, length-set}
 use Rattle.std.specs.Prelude.{Ok}
 use Rattle.lst_layout.specs.declared.limits.Limits.{Limits}
 use Rattle.lst_layout.specs.declared.place.Place.TheVariants.{ClockWord, CommitWord, LogWord, StateWord}
@@ -26,17 +26,19 @@ use Rattle.lst_rule.specs.Learned.{Possible, Learns}
 use Rattle.lst_rule.proofs.Learning.{learns_then}
 use Rattle.lst_rule.specs.Stores.{clocked}
 use Rattle.lst_txn.specs.Transactions as txn
-use Rattle.lst_calls.specs.Traces.{TakesAndCommits, Ends, Holds}
+use Rattle.lst_retire.specs.Pins.{Unpins}
+use Rattle.lst_calls.specs.Traces.{TakesAndCommits, Ends}
 use Rattle.lst_calls.specs.declared.kinds.Outcome.{Outcome}
 use Rattle.lst_calls.specs.declared.kinds.Outcome.TheVariants.{Committed, Ended}
 use Rattle.lst_crew_state.specs.Effects.{HasEnded, committed_words}
 use Rattle.lst_crew_state.proofs.Counts.{counts_are_told}
 use Rattle.lst_crew_state.proofs.Owns.{own_writes_are_told}
 use Rattle.lst_crew_state.proofs.Ended.{commits_are_told}
-use Rattle.lst_session.specs.Crews.{words_of, store_told, Answers}
+use Rattle.lst_session.specs.Crews.{words_of, store_told}
 use Rattle.lst_session.specs.Replies.{commit_reply}
-use Rattle.lst_session.proofs.Crewed.{IsCrewView, allowed_whole, core_of, hosted_all, known_is, is_crew, told_is, others_on, opened_some, same_draws, crew_after, told_on}
+use Rattle.lst_session.proofs.Crewed.{IsCrewView, StoreAnswers, allowed_whole, core_of, hosted_all, known_is, is_crew, told_is, others_on, opened_some, same_draws, crew_after, told_on}
 use Rattle.lst_session.proofs.Ending.{closed_crew, closed_told}
+use Rattle.lst_session.proofs.Pinning.{unpinned_crew, unpinned_told, answers_to}
 
 -- ---- the words
 
@@ -72,6 +74,14 @@ shown_committed l a x s n t wide log state = changed l e wide_e CommitWord 0 tt 
     wide_e : length e ≡ areas.words_of l
     wide_e = length-set d (address l ClockWord) t ∙ wide_d
 
+-- ---- the turn is taken and spent
+
+pub record Spends (v w : View) (s time : ℕ) : Type 0 where
+  pub between : View
+  pub takes : Learns v between s (took (knows v s))
+  pub words : between.words ≡ slice_set v.words (address v.limits CommitWord) (s + 1)
+  pub commits : txn.Commits between w s time
+
 -- ---- the machine
 
 end_some : (store : Store) (o : Opened) (writes : List Write) → 0 < length writes → end_reply store o writes ≡ CommittedReply (length store.history + 1)
@@ -100,14 +110,14 @@ module _ (v w : View) (s : ℕ) (crew : IsCrewView v) (p : Possible v) (low : s 
   own_is = (λ i. own_writes v.limits (told_is v crew p i) s) ∙ (own_writes_are_told (core_of v crew p) (is_crew v crew p) s low opened_core ∙ ap (λ (k : Known). k.own) (sym known))
 
   -- what the machine answers, and its next state, by what the transaction wrote
-  answers_end : (answer : Reply) → answer ≡ end_reply (store_told v) opening (knows v s).own → store_told w ≡ with_commit (store_told v) s opening (knows v s).own → w.limits ≡ v.limits → Answers v w s Commit answer
+  answers_end : (answer : Reply) → answer ≡ end_reply (store_told v) opening (knows v s).own → store_told w ≡ with_commit (store_told v) s opening (knows v s).own → w.limits ≡ v.limits → StoreAnswers v w s Commit answer
   answers_end answer is next same = let is_opened = opened_some v s low opened in record {
     reply = is ∙ ((λ i. end_reply (store_told v) opening (sym own_is i)) ∙ (λ i. in_open (sym is_opened i) (λ (o : Opened). end_reply (store_told v) o (own_writes v.limits (store_told v) s))));
     next = next ∙ ((λ i. with_commit (store_told v) s opening (sym own_is i)) ∙ (λ i. after_commit v.limits (store_told v) s (sym is_opened i)));
     limits = same;
   }
 
-  module _ (t : ℕ) (some : 0 < length (knows v s).own) (trace : TakesAndCommits v w s t) where
+  module _ (t : ℕ) (some : 0 < length (knows v s).own) (trace : Spends v w s t) where
     abbrev n : ℕ
     n = (knows v s).number
 
@@ -156,13 +166,27 @@ module _ (v w : View) (s : ℕ) (crew : IsCrewView v) (p : Possible v) (low : s 
     history_is : length (store_told v).history ≡ (words_of v).clock
     history_is = ap (λ (store : Store). length store.history) (told_is v crew p) ∙ (counts_are_told (core_of v crew p) (is_crew v crew p)).clock
 
-    pub commit_answers : Answers v w s Commit (CommittedReply t)
+    pub commit_answers : StoreAnswers v w s Commit (CommittedReply t)
     commit_answers = answers_end (CommittedReply t) (ap CommittedReply (let e = history_is in let f = time_is in let g : t ≡ length (store_told v).history + 1 = omega arith in g) ∙ sym (end_some (store_told v) opening (knows v s).own some)) commit_told learns.limits
 
-  pub end_answers : (outcome : Outcome) → Ends v w s outcome → IsCrewView w × Answers v w s Commit (commit_reply (Ok outcome))
-  end_answers (Committed t) e = (commit_crew t e.0 e.1, commit_answers t e.0 e.1)
-  end_answers (Ended t) e = let c = e.2 in (
-    closed_crew v w s crew p low opened c.view c.words,
-    answers_end (EndedReply t) (ap EndedReply e.1 ∙ sym (end_none (store_told v) opening (knows v s).own e.0))
-        (closed_told v w s crew p low opened c.view c.words ∙ sym (with_none (store_told v) s opening (knows v s).own e.0)) c.view.limits,
-  )
+-- ---- with the pin taken away
+
+module _ (v w : View) (s : ℕ) (crew : IsCrewView v) (p : Possible v) (low : s < v.limits.sessions) (is_on : (knows v s).is_open ≡ true) where
+  -- from the view u on
+  module _ (u : View) (answer : Reply) (same : u.limits ≡ v.limits) (unpins : Unpins u w s) where
+    few : s < u.limits.sessions
+    few = subst (λ (l : Limits). s < l.sessions) (sym same) low
+
+    then_unpinned : IsCrewView u → StoreAnswers v u s Commit answer → IsCrewView w × StoreAnswers v w s Commit answer
+    then_unpinned again a = (unpinned_crew u w s again few unpins, answers_to v u w s Commit answer unpins.view.limits (unpinned_told u w s again few unpins) a)
+
+  spends : (t : ℕ) (trace : TakesAndCommits v w s t) → Spends v trace.committed s t
+  spends t trace = record { between = trace.between; takes = trace.takes; words = trace.words; commits = trace.commits }
+
+  pub end_answers : (outcome : Outcome) → Ends v w s outcome → IsCrewView w × StoreAnswers v w s Commit (commit_reply (Ok outcome))
+  end_answers (Committed t) e = let x = e.1 in let u : View = x.committed in let a = commit_answers v u s crew p low is_on t e.0 (spends t x) in
+      then_unpinned u (CommittedReply t) a.limits x.unpins (commit_crew v u s crew p low is_on t e.0 (spends t x)) a
+  end_answers (Ended t) e = let c = e.2 in let u : View = c.between in then_unpinned u (EndedReply t) c.view.limits c.unpins
+      (closed_crew v u s crew p low is_on c.view c.words)
+      (answers_end v u s crew p low is_on (EndedReply t) (ap EndedReply e.1 ∙ sym (end_none (store_told v) (opening v u s crew p low is_on) (knows v s).own e.0))
+      (closed_told v u s crew p low is_on c.view c.words ∙ sym (with_none (store_told v) s (opening v u s crew p low is_on) (knows v s).own e.0)) c.view.limits)

@@ -9,10 +9,14 @@ use Rattle.lst_layout.specs.Addresses.{IsWithin, address}
 use Rattle.lst_layout.specs.Areas as areas
 use Rattle.lst_layout.specs.Words.{Words, shown, with_word}
 use Rattle.lst_layout.proofs.Shown.{changed}
+use Rattle.lst_model.specs.declared.lines.Call.{Call}
+use Rattle.lst_model.specs.declared.replies.Reply.{Reply}
 use Rattle.lst_machine.specs.State.{Opened}
+use Rattle.lst_machine.specs.Calls.{call_reply, store_after}
 use Rattle.lst_core_state.specs.declared.known.Known.{Known}
 use Rattle.lst_core_state.specs.declared.known.Stage.{Stage}
 use Rattle.lst_core_state.specs.declared.known.Stage.TheVariants.{Away, Taken, Fresh, Logged, Stated, Done}
+use Rattle.lst_core_state.specs.declared.pages.MergerFrames.{MergerFrames}
 use Rattle.lst_core_state.specs.Cells.{record_count}
 use Rattle.lst_core_state.specs.Index.{is_placed}
 use Rattle.lst_core_state.specs.State.{Core, rank}
@@ -21,17 +25,19 @@ use Rattle.lst_core_state.specs.State.{state_over}
 use Rattle.lst_rule.specs.declared.view.View.{View}
 use Rattle.lst_rule.specs.Rule.{knows, hosts, Allowed}
 use Rattle.lst_rule.specs.Learned.{Possible, Learns, Kept}
-use Rattle.lst_rule.proofs.Knowing.{whole_words, knows_own}
+use Rattle.lst_rule.specs.PageSteps.{stock_of}
+use Rattle.lst_rule.proofs.Knowing.{whole_words, knows_own, knows_merger}
 use Rattle.lst_sights.specs.Watching.{IsStamped, Watches, Watched}
 use Rattle.lst_sights.proofs.Stamps.{stamped_same}
 use Rattle.lst_crew_state.specs.Crews.{IsIdle, IsCrew}
-use Rattle.lst_crew_state.specs.Telling.{opened_of, told_store, told}
+use Rattle.lst_crew_state.specs.Telling.{opened_of, told_store, told, pages_told, tps_known, told_state}
 use Rattle.lst_crew_state.specs.Effects.{SameTransactions, SameBut}
 use Rattle.lst_crew_state.proofs.Openings.{below_is, transactions_are_told}
+use Rattle.lst_crew_state.proofs.PageParts.{pins_and_pages_are_told}
 use Rattle.lst_crew_state.proofs.Stamped.{stamps_tell_nothing}
 use Rattle.lst_rule.specs.declared.store.Store.{Store}
 use Rattle.lst_session.specs.declared.crew.Crew.{Crew}
-use Rattle.lst_session.specs.Crews.{words_of, IsCrewOf, TellsState, store_told}
+use Rattle.lst_session.specs.Crews.{words_of, IsCrewOf, TellsState, store_told, pages_known, state_told}
 
 -- ---- a crew that tells the machine's state
 
@@ -46,9 +52,15 @@ pub record IsCrewView (v : View) : Type 0 where
 pub crew_view : (store : Store) (crew : Crew) → IsCrewOf store crew → TellsState crew.seat.view → IsCrewView crew.seat.view
 crew_view store crew of tells = record { whole = tells.whole; idle = of.idle; records = tells.records; placed = tells.placed; tails = tells.tails }
 
+-- the answer to the session's call is the machine's, and the view then tells the store part of its next state
+pub record StoreAnswers (v w : View) (s : ℕ) (call : Call) (answer : Reply) : Type 0 where
+  pub reply : answer ≡ call_reply v.limits (store_told v) s call
+  pub next : store_told w ≡ store_after v.limits (store_told v) s call
+  pub limits : w.limits ≡ v.limits
+
 -- what a call answers as the machine does, and the state that the view tells then
-pub told_by : {P : Type 0} (w : View) → IsCrewView w × P → TellsState w × P
-told_by w both = let c = both.0 in (record { whole = c.whole; records = c.records; placed = c.placed; tails = c.tails }, both.1)
+pub told_by : {P Q : Type 0} (w : View) → (P → Q) → IsCrewView w × P → TellsState w × Q
+told_by w whole both = let c = both.0 in (record { whole = c.whole; records = c.records; placed = c.placed; tails = c.tails }, whole both.1)
 
 -- ---- the state of the core that the view is
 
@@ -85,6 +97,16 @@ module _ (v : View) (crew : IsCrewView v) (p : Possible v) where
   -- the state that it tells is that of this state of the core
   pub told_is : store_told v ≡ told core_of
   told_is = transactions_are_told v.limits (words_of v) p.known (knows v) (λ s low. same_known (p.known s) (knows v s) (known_is s low))
+
+  pub stock_is : stock_of v ≡ p.merger.pages.stock
+  stock_is = ap (λ (k : Known). k.pages.stock) (knows_merger v v.words p.known p.merger allowed_whole v.limits.sessions (hosted_all v.limits.sessions (omega arith)) refl)
+
+  pub pages_is : pages_known v ≡ pages_told core_of
+  pages_is = pins_and_pages_are_told v.limits p.known (knows v) p.merger.pages.stock (stock_of v) (λ s low. ap (λ (k : Known). k.pages.session.pin) (known_is s low))
+      record { tps = λ r q inside. ap (λ (m : MergerFrames). tps_known m r q) stock_is; epoch = ap (λ (m : MergerFrames). m.epoch) stock_is }
+
+  pub state_is : state_told v ≡ told_state core_of
+  state_is = λ i. record { store = told_is i; pages = pages_is i }
 
   -- the other sessions are those of the core after a step of s
   pub others_on : (w : View) (s : ℕ) (k : Known) → Learns v w s k → SameBut v.limits.sessions s p.known (knows w)

@@ -1,6 +1,7 @@
 -- A transaction ends.
 use Rattle.std.proofs.Common.{◌≡◌, ℕ, ◌<◌, [], Bool, true, false, refl, sym, subst, ap, ◌∙◌, arith, slice_set, true≢false}
 use Rattle.std.specs.Prelude.{Result, Ok, Err, IfOk, OnErr, IsOk, ◌↔◌}
+use Rattle.lst_layout.specs.declared.limits.Limits.{Limits}
 use Rattle.lst_layout.specs.declared.place.Place.TheVariants.{StateWord}
 use Rattle.lst_layout.specs.Addresses.{IsWithin, address}
 use Rattle.lst_model.specs.declared.replies.Reply.TheVariants.{Aborted, Refused}
@@ -19,9 +20,11 @@ use Rattle.lst_txn.specs.Transactions.{IsFree}
 use Rattle.lst_crew_state.specs.Crews.{IsIdle}
 use Rattle.lst_crew_state.specs.Effects.{HasEnded, closed_words}
 use Rattle.lst_crew_state.proofs.Ended.{closes_are_told}
-use Rattle.lst_session.specs.Crews.{words_of, store_told, Answers}
+use Rattle.lst_session.specs.Crews.{words_of, store_told}
 use Rattle.lst_session.specs.Replies.{abort_reply}
-use Rattle.lst_session.proofs.Crewed.{IsCrewView, allowed_whole, core_of, known_is, is_crew, told_is, others_on, opened_some, opened_none, set_words, same_draws, crew_after, told_on}
+use Rattle.lst_calls.specs.Traces.{Closes}
+use Rattle.lst_session.proofs.Pinning.{unpinned_crew, unpinned_told, answers_to}
+use Rattle.lst_session.proofs.Crewed.{IsCrewView, StoreAnswers, allowed_whole, core_of, known_is, is_crew, told_is, others_on, opened_some, opened_none, set_words, same_draws, crew_after, told_on}
 
 module _ (v w : View) (s : ℕ) (crew : IsCrewView v) (p : Possible v) (low : s < v.limits.sessions) (opened : (knows v s).is_open ≡ true) (learns : Learns v w s (record (knows v s) { is_open = false; own = [] }))
     (is : w.words ≡ slice_set v.words (address v.limits (StateWord s (knows v s).number)) 1) where
@@ -47,7 +50,7 @@ module _ (v w : View) (s : ℕ) (crew : IsCrewView v) (p : Possible v) (low : s 
       ∙ (closes_are_told (core_of v crew p) (is_crew v crew p) s (knows w) low (ap (λ (k : Known). k.is_open) (sym known) ∙ opened) (others_on v crew p w s _ learns) ended
       ∙ ap (λ (store : Store). with_closed store s) (sym (told_is v crew p)))
 
-  pub aborts : Answers v w s Abort Aborted
+  pub aborts : StoreAnswers v w s Abort Aborted
   aborts = let is_opened = opened_some v s low opened in record {
     reply = λ i. in_open (sym is_opened i) (λ _. Aborted);
     next = closed_told ∙ (λ i. after_abort (store_told v) s (sym is_opened i));
@@ -55,7 +58,7 @@ module _ (v w : View) (s : ℕ) (crew : IsCrewView v) (p : Possible v) (low : s 
   }
 
 -- where none is open, nothing happens
-pub idle_abort : (v w : View) (s : ℕ) → s < v.limits.sessions → (knows v s).is_open ≡ false → w ≡ v → Answers v w s Abort (Refused cause.Idle)
+pub idle_abort : (v w : View) (s : ℕ) → s < v.limits.sessions → (knows v s).is_open ≡ false → w ≡ v → StoreAnswers v w s Abort (Refused cause.Idle)
 idle_abort v w s low closed same = let none = opened_none v s low closed in record {
   reply = λ i. in_open (sym none i) (λ _. Aborted);
   next = ap store_told same ∙ (λ i. after_abort (store_told v) s (sym none i));
@@ -70,8 +73,10 @@ not_true false ne = refl
 pub is_free : (v : View) (s : ℕ) → IsIdle (knows v s) → IsFree (knows v s)
 is_free v s idle = (idle.turn, ap (λ (h : Hold). h.latch) idle.hold)
 
-pub abort_answers : (m n : Sitting) (s : ℕ) (result : Result (Unit {0}) Idle) → IsCrewView m.view → Possible m.view → s < m.view.limits.sessions → IfOk result (λ _. Learns m.view n.view s (record (knows m.view s) { is_open = false; own = [] }))
-    → IfOk result (λ _. n.view.words ≡ slice_set m.view.words (address m.view.limits (StateWord s (knows m.view s).number)) 1) → (IsOk result ↔ ((knows m.view s).is_open ≡ true)) → OnErr result (n ≡ m)
-    → IsCrewView n.view × Answers m.view n.view s Abort (abort_reply result)
-abort_answers m n s (Ok done) crew p low learns is idle same = (closed_crew m.view n.view s crew p low (idle.0 refl) learns is, aborts m.view n.view s crew p low (idle.0 refl) learns is)
-abort_answers m n s (Err none) crew p low learns is idle same = (subst (λ (x : Sitting). IsCrewView x.view) (sym same) crew, idle_abort m.view n.view s low (not_true (knows m.view s).is_open (λ e. true≢false (sym (idle.1 e)))) (ap (λ (x : Sitting). x.view) same))
+pub abort_answers : (m n : Sitting) (s : ℕ) (result : Result (Unit {0}) Idle) → IsCrewView m.view → Possible m.view → s < m.view.limits.sessions → IfOk result (λ _. Closes m.view n.view s) → (IsOk result ↔ ((knows m.view s).is_open ≡ true)) → OnErr result (n ≡ m)
+    → IsCrewView n.view × StoreAnswers m.view n.view s Abort (abort_reply result)
+abort_answers m n s (Ok done) crew p low c idle same = let closed = closed_crew m.view c.between s crew p low (idle.0 refl) c.view c.words in let few : s < c.between.limits.sessions = subst (λ (l : Limits). s < l.sessions) (sym c.view.limits) low in (
+  unpinned_crew c.between n.view s closed few c.unpins,
+  answers_to m.view c.between n.view s Abort Aborted c.unpins.view.limits (unpinned_told c.between n.view s closed few c.unpins) (aborts m.view c.between s crew p low (idle.0 refl) c.view c.words),
+)
+abort_answers m n s (Err none) crew p low c idle same = (subst (λ (x : Sitting). IsCrewView x.view) (sym same) crew, idle_abort m.view n.view s low (not_true (knows m.view s).is_open (λ e. true≢false (sym (idle.1 e)))) (ap (λ (x : Sitting). x.view) same))

@@ -12,13 +12,16 @@ use Rattle.lst_rule.specs.Rule.{knows, hosts}
 use Rattle.lst_rule.specs.Seats.{Sitting}
 use Rattle.lst_rule.specs.Stores.{IsSeatOf}
 use Rattle.lst_seat.specs.Seats.{hosted_by, AreAllHosted, IsGap, Gathers, HasSeenAll, IsGatheredFrom}
-use Rattle.lst_crew_state.specs.Crews.{IsIdle}
+use Rattle.lst_rule.specs.PageSteps.{stock_of}
+use Rattle.lst_retire.specs.Frames.{AreSpares}
+use Rattle.lst_crew_state.specs.Crews.{IsIdle, IsPinnedWhereOpen}
 use Rattle.lst_session.specs.declared.crew.Crew.{Crew}
 use Rattle.lst_session.specs.declared.session.Session.{Session}
 use Rattle.lst_session.specs.Crews.{IsCrewOf, store_told}
 use Rattle.lst_session.specs.Parting.{IsPass, has_number, known_by, AreAllThere, IsGathered}
 use Rattle.lst_session.specs.Passes.{IsReady}
 use Rattle.lst_session.proofs.Growing.{away_stays}
+use Rattle.lst_session.proofs.Keeping.{spares_still}
 
 abbrev pub seats_in : List Session → List Sitting
 seats_in sessions = map (λ (x : Session). x.seat) sessions
@@ -110,22 +113,22 @@ module _ (store : Store) (sessions : List Session) (m : Sitting) (passes : All (
 
   -- ---- the seat of all
 
-  module _ (w : Sitting) (w_of : IsSeatOf store w) (g : Gathers (seats_in sessions) m.view w.view) where
-    own_low : (x : Session) → IsPass store x → x.number < w.view.limits.sessions
+  module _ (new : Crew) (w_of : IsSeatOf store new.seat) (g : Gathers (seats_in sessions) m.view new.seat.view) where
+    own_low : (x : Session) → IsPass store x → x.number < new.seat.view.limits.sessions
     own_low x pass = subst (λ (l : Limits). x.number < l.sessions) (pass.seat_of.limits ∙ sym w_of.limits) pass.own
 
-    each : All (λ (x : Session). HasSeenAll w.view x.number (known_by x)) sessions
+    each : All (λ (x : Session). HasSeenAll new.seat.view x.number (known_by x)) sessions
     each k none low = let x = get_or sessions k none in let pass = passes k none low in
-        (seat_of_each (λ (seat : Sitting). IsGatheredFrom w.view seat.view) g.each k none low).0 x.number (own_low x pass) pass.host
+        (seat_of_each (λ (seat : Sitting). IsGatheredFrom new.seat.view seat.view) g.each k none low).0 x.number (own_low x pass) pass.host
 
-    w_sessions : w.view.limits.sessions ≡ m.view.limits.sessions
+    w_sessions : new.seat.view.limits.sessions ≡ m.view.limits.sessions
     w_sessions = ap (λ (l : Limits). l.sessions) g.limits
 
-    seen_all : (s : ℕ) → s < w.view.limits.sessions → (f : Found sessions s) × HasSeenAll w.view s (known_by f.session)
+    seen_all : (s : ℕ) → s < new.seat.view.limits.sessions → (f : Found sessions s) × HasSeenAll new.seat.view s (known_by f.session)
     seen_all s low = let f = found_at s (let e = w_sessions in omega arith) in
-        (f, subst (λ (t : ℕ). HasSeenAll w.view t (known_by f.session)) f.number (pass_of (λ (x : Session). HasSeenAll w.view x.number (known_by x)) sessions s f each))
+        (f, subst (λ (t : ℕ). HasSeenAll new.seat.view t (known_by f.session)) f.number (pass_of (λ (x : Session). HasSeenAll new.seat.view x.number (known_by x)) sessions s f each))
 
-    pub gathered : hosts m.view m.view.limits.sessions ≡ true → IsGathered sessions m.view w.view
+    pub gathered : hosts m.view m.view.limits.sessions ≡ true → IsGathered sessions m.view new.seat.view
     gathered on = record {
       limits = g.limits;
       all = g.hosted;
@@ -135,14 +138,25 @@ module _ (store : Store) (sessions : List Session) (m : Sitting) (passes : All (
       merger = g.own.1 (subst (λ (t : ℕ). hosts m.view t ≡ true) (sym w_sessions) on);
     }
 
-    idle_at : All (IsReady store) sessions → (s : ℕ) → s < w.view.limits.sessions → IsIdle (knows w.view s)
+    idle_at : All (IsReady store) sessions → (s : ℕ) → s < new.seat.view.limits.sessions → IsIdle (knows new.seat.view s)
     idle_at ready s low = let both = seen_all s low in let f : Found sessions s = both.0 in let idle = (pass_of (IsReady store) sessions s f ready).idle in
         subst IsIdle (sym both.1.now) record { rec = idle.rec; hold = idle.hold; turn = away_stays (known_by f.session).turn idle.turn }
 
-    pub crew_gathered : All (IsReady store) sessions → IsCrewOf store (record { seat = w })
-    crew_gathered ready = record {
+    pinned_at : All (IsReady store) sessions → (s : ℕ) → s < new.seat.view.limits.sessions → IsPinnedWhereOpen (knows new.seat.view s)
+    pinned_at ready s low = let both = seen_all s low in let f : Found sessions s = both.0 in subst IsPinnedWhereOpen (sym both.1.now) (pass_of (IsReady store) sessions s f ready).pinned
+
+    stock_same : hosts m.view m.view.limits.sessions ≡ true → stock_of new.seat.view ≡ stock_of m.view
+    stock_same on = ap (λ (k : Known). k.pages.stock) (gathered on).merger ∙ ap (λ (n : ℕ). (knows m.view n).pages.stock) w_sessions
+
+    pub spares_gathered : hosts m.view m.view.limits.sessions ≡ true → AreSpares m.view new.spares.items → AreSpares new.seat.view new.spares.items
+    spares_gathered on spares = spares_still m.view new.seat.view new.spares.items (stock_same on) spares
+
+    pub crew_gathered : AreSpares new.seat.view new.spares.items → All (IsReady store) sessions → IsCrewOf store new
+    crew_gathered spares ready = record {
       seat_of = w_of;
       hosted = λ s low. g.hosted s (omega arith);
-      merger = g.hosted w.view.limits.sessions (omega arith);
+      merger = g.hosted new.seat.view.limits.sessions (omega arith);
       idle = idle_at ready;
+      pinned = pinned_at ready;
+      spares = spares;
     }

@@ -19,8 +19,8 @@ use Rattle.lst_rule.specs.Learned.{Possible, Kept}
 use Rattle.lst_index.specs.Searches.{Works, Keeps}
 use Rattle.lst_calls.specs.Traces.{Reads}
 use Rattle.lst_crew_state.proofs.Owns.{sights_are_told}
-use Rattle.lst_session.specs.Crews.{words_of, store_told, Answers}
-use Rattle.lst_session.proofs.Crewed.{IsCrewView, core_of, known_is, is_crew, told_is, opened_some, kept_words, stamped_is, same_draws, crew_after, told_stays, watched_crew, watched_told}
+use Rattle.lst_session.specs.Crews.{words_of, store_told}
+use Rattle.lst_session.proofs.Crewed.{IsCrewView, StoreAnswers, core_of, known_is, is_crew, told_is, opened_some, kept_words, stamped_is, same_draws, crew_after, told_stays, watched_crew, watched_told}
 
 -- what the machine's transaction sees of a key is its session's sight
 pub sight_is : (v : View) → IsCrewView v → Possible v → (s : ℕ) → s < v.limits.sessions → (knows v s).is_open ≡ true → (key : ℕ) → row_of (sight_of v.limits (store_told v) s (knows v s).begin) key ≡ row_from None (sight (knows v s) key)
@@ -55,14 +55,14 @@ module _ (v w : View) (s : ℕ) (works : Works v w s []) (kept : Kept v w) (keep
 -- ---- reads
 
 module _ (v w : View) (s key : ℕ) (row : Option (List Cell)) (crew : IsCrewView v) (p : Possible v) (low : s < v.limits.sessions) (opened : (knows v s).is_open ≡ true) where
-  answers_row : row ≡ row_from None (sight (knows v s) key) → store_told w ≡ store_told v → w.limits ≡ v.limits → Answers v w s (Get key) (row_reply row)
+  answers_row : row ≡ row_from None (sight (knows v s) key) → store_told w ≡ store_told v → w.limits ≡ v.limits → StoreAnswers v w s (Get key) (row_reply row)
   answers_row is told same = let is_opened = opened_some v s low opened in record {
     reply = ap row_reply (is ∙ sym (sight_is v crew p s low opened key)) ∙ (λ i. in_open (sym is_opened i) (λ (t : Opened). row_reply (row_of (sight_of v.limits (store_told v) s t.begin) key)));
     next = told;
     limits = same;
   }
 
-  pub get_answers : Reads v w s key row → IsCrewView w × Answers v w s (Get key) (row_reply row)
+  pub get_answers : Reads v w s key row → IsCrewView w × StoreAnswers v w s (Get key) (row_reply row)
   get_answers (inl none) = let f = none.1 in (
     found_crew v w s f.works f.kept f.keeps crew low,
     answers_row

@@ -1,5 +1,5 @@
 -- What one step of a call after another leaves of what its session knows.
-use Rattle.std.proofs.Common.{◌≡◌, ⊎_elim, ℕ, ◌<◌, ◌≤◌, List, [], ◌∷◌, ◌++◌, true, length, take, Contains, refl, sym, subst, ap, ◌∙◌, arith, append_assoc, append-nil, None}
+use Rattle.std.proofs.Common.{slice_index_or, false, ◌≡◌, ⊎_elim, ℕ, ◌<◌, ◌≤◌, List, [], ◌∷◌, ◌++◌, true, length, take, Contains, refl, sym, subst, ap, ◌∙◌, arith, append_assoc, append-nil, None}
 use Rattle.std.proofs.lemmas.List.{take-append-le}
 use Rattle.std.proofs.lemmas.List.Elements.{All-nil, All-append, Contains-append_left, Contains-append_right}
 use Rattle.lst_model.specs.declared.commits.Commit.{Commit}
@@ -7,6 +7,7 @@ use Rattle.lst_model.specs.Histories.{Extends, all_acts_on, acts_on, row_from}
 use Rattle.lst_model.proofs.Folds.{get_snapshot}
 use Rattle.lst_core_state.specs.declared.known.Known.{Known}
 use Rattle.lst_core_state.specs.declared.known.Stage.{Stage}
+use Rattle.lst_core_state.specs.declared.pages.PageKnown.{PageKnown}
 use Rattle.lst_core_state.specs.declared.known.Stage.TheVariants.{Away, Taken, Fresh, Logged, Stated, Done}
 use Rattle.lst_core_state.specs.declared.facts.Fact.{Fact}
 use Rattle.lst_core_state.specs.declared.facts.Find.{Find}
@@ -14,10 +15,13 @@ use Rattle.lst_core_state.specs.State.{rank, sight}
 use Rattle.lst_core_state.specs.Step.{refreshed}
 use Rattle.lst_rule.specs.declared.view.View.{View}
 use Rattle.lst_rule.specs.Rule.{knows, hosts}
+use Rattle.lst_layout.specs.declared.limits.Limits.{Limits}
 use Rattle.lst_rule.specs.Learned.{Possible, Learns}
+use Rattle.lst_rule.specs.PageSteps.{stock_of}
 use Rattle.lst_rule.proofs.Learning.{learns_on}
 use Rattle.lst_sights.specs.Seen.{HasKey}
-use Rattle.lst_sights.specs.Watching.{IsNotFull, Watched}
+use Rattle.lst_sights.specs.Watching.{SamePins, IsNotFull, Watched}
+use Rattle.lst_sights.proofs.Watching.{same_pins}
 use Rattle.lst_sights.proofs.Telling.{low, is_known, is_on_known}
 use Rattle.lst_index.specs.Searches.{Works}
 use Rattle.lst_write.specs.Standings.{FoundSince}
@@ -46,10 +50,11 @@ key_stays u k rec key g has = (has.0, facts_stay u k g _ has.1)
 
 -- ---- steps within a transaction
 
--- the transaction, its own writes and the session's commits stay, nothing is done, and no turn is taken
+-- the transaction, its own writes, the session's commits and its pin stay, nothing is done, and no turn is taken
 pub record Stays (s : ℕ) (u k : Known) : Type 0 where
   pub grown : Grown u k
   pub same : SameWork s u k
+  pub pins : SamePins u k
   pub done : k.done ≡ u.done
   pub turn : rank u.turn ≡ 0 → rank k.turn ≡ 0
 
@@ -71,10 +76,20 @@ work_on s u k m a b = record {
   mine = b.mine ∙ a.mine;
 }
 
+pub pins_on : (u k m : Known) → SamePins u k → SamePins k m → SamePins u m
+pins_on u k m a b = record { pins = b.pins ∙ a.pins; pin = b.pin ∙ a.pin }
+
+abbrev pub pins_stay : (u : Known) → SamePins u u
+pins_stay u = record { pins = refl; pin = refl }
+
+pub pins_by : (u k : Known) → k.pages ≡ u.pages → SamePins u k
+pins_by u k e = record { pins = ap (λ (p : PageKnown). p.pins) e; pin = ap (λ (p : PageKnown). p.session.pin) e }
+
 pub stays_on : (s : ℕ) (u k m : Known) → Stays s u k → Stays s k m → Stays s u m
 stays_on s u k m a b = record {
   grown = grown_on u k m a.grown b.grown;
   same = work_on s u k m a.same b.same;
+  pins = pins_on u k m a.pins b.pins;
   done = b.done ∙ a.done;
   turn = λ e. b.turn (a.turn e);
 }
@@ -118,12 +133,23 @@ same_facts fs = ([], sym (append-nil fs))
 abbrev pub same_finds : (fs : List Find) → (more : List Find) × (fs ≡ fs ++ more)
 same_finds fs = ([], sym (append-nil fs))
 
+-- ---- the merger
+
+-- where a session learnt something, the merger is hosted still, and its stock is the same
+module _ (v w : View) (s : ℕ) (k : Known) (learns : Learns v w s k) where
+  pub merger_hosted : hosts v v.limits.sessions ≡ true → hosts w w.limits.sessions ≡ true
+  merger_hosted hosted = (λ i. slice_index_or (learns.hosted i) (learns.limits i).sessions false) ∙ hosted
+
+  pub stock_stays : s < v.limits.sessions → stock_of w ≡ stock_of v
+  stock_stays low = ap (λ (l : Limits). (knows w l.sessions).pages.stock) learns.limits ∙ ap (λ (m : Known). m.pages.stock) (learns.others v.limits.sessions (λ e. omega arith))
+
 -- ---- the steps of the index, and looks
 
 pub works_steps : (v w : View) (s : ℕ) (finds : List Find) → Works v w s finds → Steps v w s
 works_steps v w s finds works = steps_by v w s _ works.view record {
   grown = record { seen = same_extends (knows v s).seen; facts = (works.more, refl); finds = (finds, refl) };
   same = record { transaction = record { number = refl; begin = refl; read_only = refl; is_open = refl }; own = refl; mine = refl };
+  pins = record { pins = refl; pin = refl };
   done = refl;
   turn = λ e. e;
 }
@@ -147,6 +173,9 @@ module _ (v w : View) (s : ℕ) (watched : Watched v w s) where
   pub watched_hands : SameHands (knows v s) (knows w s)
   watched_hands = let e = watched.watches.is in record { placing = ap (λ (k : Known). k.placing) e; hold = ap (λ (k : Known). k.hold) e; latched = ap (λ (k : Known). k.latched) e }
 
+  pub watched_pins : SamePins (knows v s) (knows w s)
+  watched_pins = same_pins (knows v s) (knows w s) watched.watches
+
   pub watched_steps : s < v.limits.sessions → Steps v w s
   watched_steps own = let e = watched.watches.is in record {
     learns = watched.learns;
@@ -157,6 +186,7 @@ module _ (v w : View) (s : ℕ) (watched : Watched v w s) where
         own = ap (λ (k : Known). k.own) e;
         mine = watched.own own;
       };
+      pins = watched_pins;
       done = ap (λ (k : Known). k.done) e;
       turn = λ away. ap (λ (k : Known). rank k.turn) e ∙ ⊎_elim (λ (f : watched.watches.turn ≡ (knows v s).turn). ap rank f ∙ away) (λ (f : watched.watches.turn ≡ refreshed (knows v s).turn). ap rank f ∙ away_stays (knows v s).turn away) watched.watches.stage;
     };

@@ -7,7 +7,10 @@ use Rattle.lst_model.specs.declared.acts.Act.{Act}
 use Rattle.lst_core_state.specs.declared.known.Hold.{Hold}
 use Rattle.lst_rule.specs.declared.view.View.{View}
 use Rattle.lst_rule.specs.Rule.{knows, hosts}
-use Rattle.lst_rule.specs.Learned.{Learns}
+use Rattle.lst_core_state.specs.declared.pages.MergerFrames.{MergerFrames}
+use Rattle.lst_core_state.specs.declared.pages.Retired.{Retired}
+use Rattle.lst_rule.specs.PageSteps.{stock_of}
+use Rattle.lst_retire.specs.Frames.{AreSpares}
 use Rattle.lst_rule.specs.declared.store.Store.{Store}
 use Rattle.lst_rule.specs.Seats.{Sitting}
 use Rattle.lst_rule.specs.Stores.{IsSeatOf}
@@ -20,25 +23,33 @@ use Rattle.lst_calls.specs.declared.kinds.WriteRefusal.TheVariants as writes
 use Rattle.lst_calls.specs.declared.kinds.Outcome.{Outcome}
 use Rattle.lst_calls.specs.declared.kinds.Outcome.TheVariants.{Committed, Ended}
 use Rattle.lst_calls.specs.Traces as traces
-use Rattle.lst_crew_state.specs.Crews.{IsIdle}
+use Rattle.lst_crew_state.specs.Crews.{IsIdle, IsPinnedWhereOpen}
 use Rattle.lst_session.specs.declared.crew.Crew.{Crew}
 use Rattle.lst_session.specs.Calls.{Called, Begins, IsAhead, Accepts, Refuses, Cause, FindsLatch, Ends}
 use Rattle.lst_session.specs.Crews.{IsCrewOf}
-use Rattle.lst_session.proofs.Growing.{Grown, called, same_extends, same_facts, same_finds}
+use Rattle.lst_session.proofs.Growing.{Grown, stock_stays, called, same_extends, same_facts, same_finds}
 use Rattle.lst_session.proofs.Turning as turning
 
 -- ---- the crew after a call
 
-module _ (store : Store) (crew : Crew) (n : Sitting) (s : ℕ) (of : IsCrewOf store crew) (seat : IsSeatOf store n) where
-  -- of its session alone something was learnt, and that one has nothing in hand
-  pub crew_on : Called crew.seat.view n.view s → IsIdle (knows n.view s) → IsCrewOf store (record { seat = n })
-  crew_on is idle = record {
+-- the merger's spare frames are the same where its stock is
+pub spares_still : (v w : View) (spares : List Retired) → stock_of w ≡ stock_of v → AreSpares v spares → AreSpares w spares
+spares_still v w spares e are = record { retired = are.retired ∙ ap (λ (m : MergerFrames). m.retired) (sym e); idle = ap (λ (m : MergerFrames). m.waiting) e ∙ are.idle }
+
+module _ (store : Store) (crew : Crew) (n : Sitting) (s : ℕ) (of : IsCrewOf store crew) (seat : IsSeatOf store n) (here : s < crew.seat.view.limits.sessions) where
+  -- of its session alone something was learnt, and that one has nothing in hand, and is pinned while it has a transaction open
+  pub crew_on : Called crew.seat.view n.view s → IsIdle (knows n.view s) → IsPinnedWhereOpen (knows n.view s) → IsCrewOf store (record crew { seat = n })
+  crew_on is idle pinned = record {
     seat_of = seat;
     hosted = λ t low. ap (λ (hs : List Bool). slice_index_or hs t false) is.learns.hosted ∙ of.hosted t (subst (λ (l : Limits). t < l.sessions) is.learns.limits low);
     merger = (λ i. slice_index_or (is.learns.hosted i) (is.learns.limits i).sessions false) ∙ of.merger;
     idle = λ t low. dite (ℕ_discrete t s)
         (λ e. subst (λ (x : ℕ). IsIdle (knows n.view x)) (sym e) idle)
         (λ ne. subst IsIdle (sym (is.learns.others t ne)) (of.idle t (subst (λ (l : Limits). t < l.sessions) is.learns.limits low)));
+    pinned = λ t low. dite (ℕ_discrete t s)
+        (λ e. subst (λ (x : ℕ). IsPinnedWhereOpen (knows n.view x)) (sym e) pinned)
+        (λ ne. subst IsPinnedWhereOpen (sym (is.learns.others t ne)) (of.pinned t (subst (λ (l : Limits). t < l.sessions) is.learns.limits low)));
+    spares = spares_still crew.seat.view n.view crew.spares.items (stock_stays crew.seat.view n.view s (knows n.view s) is.learns here) of.spares;
   }
 
 -- a session that a crew hosts finds no latch
@@ -77,17 +88,17 @@ module _ (v w : View) (s : ℕ) where
   write_called key most act (Err refusal) ok err = let both : Refuses v w s key most × Cause v w s key act refusal = err in both.0.called
 
   pub end_called : (outcome : Outcome) → traces.Ends v w s outcome → Called v w s
-  end_called (Committed time) e = (turning.commits v e.1.between w s time e.1.takes e.1.commits e.0).called
-  end_called (Ended time) e = (turning.ends v w s e.2.view).called
+  end_called (Committed time) e = (turning.commits v w s time e.1 e.0).called
+  end_called (Ended time) e = (turning.ends v w s e.2).called
 
   pub end_idle : (outcome : Outcome) → traces.Ends v w s outcome → IsIdle (knows v s) → IsIdle (knows w s)
-  end_idle (Committed time) e idle = turning.commits_idle v e.1.between w s time e.1.takes e.1.commits idle
-  end_idle (Ended time) e idle = turning.ends_idle v w s e.2.view idle
+  end_idle (Committed time) e idle = turning.commits_idle v w s time e.1 idle
+  end_idle (Ended time) e idle = turning.ends_idle v w s e.2 idle
 
   pub abort_called : (result : Result (Unit {0}) Idle) → OnOk result (((knows v s).is_open ≡ true) × Ends v w s) → OnErr result (((knows v s).is_open ≡ false) × (w ≡ v)) → Called v w s
   abort_called (Ok done) ok err = ok.1.called
   abort_called (Err none) ok err = called_same err.1
 
-pub abort_idle : (m n : Sitting) (s : ℕ) (result : Result (Unit {0}) Idle) → IfOk result (λ _. Learns m.view n.view s (record (knows m.view s) { is_open = false; own = [] })) → OnErr result (n ≡ m) → IsIdle (knows m.view s) → IsIdle (knows n.view s)
-abort_idle m n s (Ok done) learns same idle = turning.ends_idle m.view n.view s learns idle
-abort_idle m n s (Err none) learns same idle = subst (λ (seat : Sitting). IsIdle (knows seat.view s)) (sym same) idle
+pub abort_idle : (m n : Sitting) (s : ℕ) (result : Result (Unit {0}) Idle) → IfOk result (λ _. traces.Closes m.view n.view s) → OnErr result (n ≡ m) → IsIdle (knows m.view s) → IsIdle (knows n.view s)
+abort_idle m n s (Ok done) closes same idle = turning.ends_idle m.view n.view s closes idle
+abort_idle m n s (Err none) closes same idle = subst (λ (seat : Sitting). IsIdle (knows seat.view s)) (sym same) idle

@@ -6,12 +6,14 @@ pub mod Answering
 pub mod Sounding
 pub mod Readying
 pub mod Crewed
+pub mod Pinned
+pub mod Pinning
 pub mod Ending
 pub mod Beginning
 pub mod Getting
+pub mod Saving
 pub mod Committing
 pub mod Opening
-pub mod Calling
 pub mod CrewJudging
 pub mod Holding
 pub mod CrewWriting
@@ -23,6 +25,8 @@ pub mod CrewAnswering
 pub mod Peeking
 pub mod Promising
 pub mod Keeping
+pub mod Paged
+pub mod Merging
 pub mod Recounting
 pub mod Parting
 pub mod Gathering

@@ -10,13 +10,16 @@ use Rattle.lst_rule.specs.Seats.{Sitting}
 use Rattle.lst_rule.specs.Stores.{IsSeatOf}
 use Rattle.lst_seat.specs.Seats.{IsPartOf, Parts}
 use Rattle.lst_seat.proofs.Gathering.{all_first, all_last}
-use Rattle.lst_crew_state.specs.Crews.{IsIdle}
+use Rattle.lst_rule.specs.PageSteps.{stock_of}
+use Rattle.lst_retire.specs.Frames.{AreSpares}
+use Rattle.lst_crew_state.specs.Crews.{IsIdle, IsPinnedWhereOpen}
 use Rattle.lst_session.specs.declared.crew.Crew.{Crew}
 use Rattle.lst_session.specs.declared.passes.Merger.{Merger}
 use Rattle.lst_session.specs.declared.session.Session.{Session}
 use Rattle.lst_session.specs.Crews.{IsCrewOf}
 use Rattle.lst_session.specs.Parting.{IsPass, numbered_from, are_numbered, IsPassFrom, IsParted, IsMergerOf}
 use Rattle.lst_session.specs.Passes.{IsReady}
+use Rattle.lst_session.proofs.Keeping.{spares_still}
 
 -- ---- numbers
 
@@ -56,7 +59,7 @@ numbers_next seats done before rest x passes new number placed after wide room s
 
 -- ---- the crew is parted
 
-module _ (store : Store) (v : View) (v_limits : v.limits ≡ store.layout.limits) (seats : List Sitting) (merger : Sitting) (p : Parts store v seats merger) where
+module _ (store : Store) (v : View) (v_limits : v.limits ≡ store.layout.limits) (seats : List Sitting) (merger : Merger) (p : Parts store v seats merger.seat) where
   abbrev passes : List Session
   passes = are_numbered seats
 
@@ -66,10 +69,10 @@ module _ (store : Store) (v : View) (v_limits : v.limits ≡ store.layout.limits
   pass_at : (s : ℕ) (none : Session) → s < v.limits.sessions → IsPassFrom store v s (get_or passes s none)
   pass_at s none low = subst (IsPassFrom store v s) (sym (numbered_at 0 seats s none none.seat (let e = p.count in omega arith))) record { number = plain s; part = p.each s none.seat low }
 
-  last_limits : merger.view.limits ≡ v.limits
+  last_limits : merger.seat.view.limits ≡ v.limits
   last_limits = p.last.seat_of.limits ∙ sym v_limits
 
-  pub parted : IsParted store v passes (record { seat = merger })
+  pub parted : IsParted store v passes merger
   parted = record {
     count = numbered_length 0 seats ∙ p.count;
     each = pass_at;
@@ -77,22 +80,27 @@ module _ (store : Store) (v : View) (v_limits : v.limits ≡ store.layout.limits
     limits = last_limits;
   }
 
-  pub merger_parted : IsMergerOf store (record { seat = merger })
-  merger_parted = record {
+  stock_same : stock_of merger.seat.view ≡ stock_of v
+  stock_same = ap (λ (l : Limits). (knows merger.seat.view l.sessions).pages.stock) last_limits ∙ ap (λ (k : Known). k.pages.stock) p.last.knows_same
+
+  pub merger_parted : AreSpares v merger.spares.items → IsMergerOf store merger
+  merger_parted spares = record {
     seat_of = p.last.seat_of;
-    host = p.last.hosted merger.view.limits.sessions ∙ eq-eqb merger.view.limits.sessions v.limits.sessions (ap (λ (l : Limits). l.sessions) last_limits);
+    host = p.last.hosted merger.seat.view.limits.sessions ∙ eq-eqb merger.seat.view.limits.sessions v.limits.sessions (ap (λ (l : Limits). l.sessions) last_limits);
+    spares = spares_still v merger.seat.view merger.spares.items stock_same spares;
   }
 
-  -- where nobody had anything in hand, each session is ready
-  ready_at : ((s : ℕ) → s < v.limits.sessions → IsIdle (knows v s)) → (s : ℕ) → s < v.limits.sessions → (x : Session) → IsPassFrom store v s x → IsReady store x
+  -- where nobody had anything in hand, and each was pinned while it had a transaction open, each session is ready
+  ready_at : ((s : ℕ) → s < v.limits.sessions → IsIdle (knows v s) × IsPinnedWhereOpen (knows v s)) → (s : ℕ) → s < v.limits.sessions → (x : Session) → IsPassFrom store v s x → IsReady store x
   ready_at idle s low x of = record {
     seat_of = of.part.seat_of;
     host = of.part.hosted x.number ∙ eq-eqb x.number s of.number;
     own = subst (λ (l : Limits). x.number < l.sessions) (v_limits ∙ sym of.part.seat_of.limits) (subst (λ (t : ℕ). t < v.limits.sessions) (sym of.number) low);
-    idle = subst (λ (t : ℕ). IsIdle (knows x.seat.view t)) (sym of.number) (subst IsIdle (sym of.part.knows_same) (idle s low));
+    idle = subst (λ (t : ℕ). IsIdle (knows x.seat.view t)) (sym of.number) (subst IsIdle (sym of.part.knows_same) (idle s low).0);
+    pinned = subst (λ (t : ℕ). IsPinnedWhereOpen (knows x.seat.view t)) (sym of.number) (subst IsPinnedWhereOpen (sym of.part.knows_same) (idle s low).1);
   }
 
-  pub all_ready : ((s : ℕ) → s < v.limits.sessions → IsIdle (knows v s)) → All (IsReady store) passes
+  pub all_ready : ((s : ℕ) → s < v.limits.sessions → IsIdle (knows v s) × IsPinnedWhereOpen (knows v s)) → All (IsReady store) passes
   all_ready idle k none low = let few : k < v.limits.sessions = (let e = numbered_length 0 seats ∙ p.count in omega arith) in ready_at idle k few (get_or passes k none) (pass_at k none few)
 
 -- ---- a session that is ready is a pass

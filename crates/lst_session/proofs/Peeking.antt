@@ -31,6 +31,7 @@ module _ (v w : View) (s : ℕ) (peeks : Peeks v w s) where
       finds = (peeks.peeked.finds, ap (λ (k : Known). k.finds) e);
     };
     same = record { transaction = peeked_transactions (knows v s) (knows w s) peeks.peeked; own = ap (λ (k : Known). k.own) e; mine = peeks.own };
+    pins = record { pins = ap (λ (k : Known). k.pages.pins) e; pin = ap (λ (k : Known). k.pages.session.pin) e ∙ peeks.peeked.pin };
     lists = record { drawn = ap (λ (k : Known). k.placing.drawn) e; latched = ap (λ (k : Known). k.latched) e; done = ap (λ (k : Known). k.done) e };
   }
 

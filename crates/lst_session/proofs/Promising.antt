@@ -5,7 +5,7 @@ use Rattle.lst_model.specs.declared.acts.Act.{Act}
 use Rattle.lst_model.specs.Cells.{Cell}
 use Rattle.lst_rule.specs.declared.view.View.{View}
 use Rattle.lst_rule.specs.Rule.{knows, hosts}
-use Rattle.lst_rule.specs.Learned.{Possible, Learns}
+use Rattle.lst_rule.specs.Learned.{Possible}
 use Rattle.lst_rule.specs.Seats.{Sitting}
 use Rattle.lst_txn.specs.declared.ends.Idle.{Idle}
 use Rattle.lst_calls.specs.declared.kinds.WriteRefusal.{WriteRefusal}
@@ -33,10 +33,10 @@ module _ (v w : View) (s : ℕ) (outcome : Outcome) (ends : traces.Ends v w s ou
   ended time is = turning.ended v w s (Ok outcome) ends time (ap Ok (same_outcome outcome (Ended time) is))
 
 module _ (m n : Sitting) (s : ℕ) where
-  pub aborted : (result : Result (Unit {0}) Idle) → IfOk result (λ _. Learns m.view n.view s (record (knows m.view s) { is_open = false; own = [] })) → (IsOk result ↔ ((knows m.view s).is_open ≡ true))
+  pub aborted : (result : Result (Unit {0}) Idle) → IfOk result (λ _. traces.Closes m.view n.view s) → (IsOk result ↔ ((knows m.view s).is_open ≡ true))
       → OnOk result (((knows m.view s).is_open ≡ true) × Ends m.view n.view s)
-  aborted (Ok done) learns is = (is.0 refl, turning.ends m.view n.view s learns)
-  aborted (Err none) learns is = tt
+  aborted (Ok done) closes is = (is.0 refl, turning.ends m.view n.view s closes)
+  aborted (Err none) closes is = tt
 
   pub not_aborted : (result : Result (Unit {0}) Idle) → (IsOk result ↔ ((knows m.view s).is_open ≡ true)) → OnErr result (n ≡ m) → OnErr result (((knows m.view s).is_open ≡ false) × (n.view ≡ m.view))
   not_aborted (Ok done) is same = tt

@@ -17,7 +17,7 @@ use Rattle.lst_rule.specs.Rule.{knows, hosts}
 use Rattle.lst_rule.specs.Seats.{Sitting}
 use Rattle.lst_rule.specs.Stores.{IsSeatOf}
 use Rattle.lst_seat.specs.Seats.{Tells, Hears}
-use Rattle.lst_crew_state.specs.Crews.{IsIdle}
+use Rattle.lst_crew_state.specs.Crews.{IsIdle, IsPinnedWhereOpen}
 use Rattle.lst_session.specs.declared.session.Session.{Session}
 use Rattle.lst_session.specs.Parting.{IsPass, known_by, OnlyHears, seen_at, HearsMore, HearMore, HasHeardOf, HasHeard, HaveHeard}
 use Rattle.lst_session.specs.Passes.{IsReady}
@@ -44,8 +44,11 @@ idle_hears a b x idle = subst IsIdle (sym x.is) record { rec = idle.rec; hold = 
 
 -- ---- one session
 
+pinned_hears : (a b : Known) → OnlyHears a b → IsPinnedWhereOpen a → IsPinnedWhereOpen b
+pinned_hears a b x pinned = subst IsPinnedWhereOpen (sym x.is) pinned
+
 pub ready_hears : (store : Store) (old new : Session) → HearsMore store old new → IsReady store old → IsReady store new
-ready_hears store old new h ready = record { seat_of = h.pass.seat_of; host = h.pass.host; own = h.pass.own; idle = idle_hears (known_by old) (known_by new) h.knows ready.idle }
+ready_hears store old new h ready = record { seat_of = h.pass.seat_of; host = h.pass.host; own = h.pass.own; idle = idle_hears (known_by old) (known_by new) h.knows ready.idle; pinned = pinned_hears (known_by old) (known_by new) h.knows ready.pinned }
 
 pub hears_more : (store : Store) (old : Session) (seat note : Sitting) → IsPass store old → IsSeatOf store seat → Hears old.seat.view seat.view note.view → HearsMore store old (record { seat = seat; number = old.number })
 hears_more store old seat note pass of h = record {

@@ -42,7 +42,7 @@ use Rattle.lst_calls.proofs.Trying.{never_idle, never_read_only, never_table_ful
 use Rattle.lst_write.specs.Judgements.{HasJudged}
 use Rattle.lst_session.specs.Calls.{FindsNoneFull, FindsOneFull, IsTailOf, Accepts, Refuses, HasLatched, WasJudged, Cause, row_seen}
 use Rattle.lst_session.proofs.Judging.{judged_then, stops_then, newer_then}
-use Rattle.lst_session.proofs.Growing.{Grown, grown_on, key_stays, learns_itself, called, Steps, steps_on, steps_by, steps_called, same_extends, same_facts, same_finds, works_steps, works_hold, works_latched, watched_hands, watched_steps, found_on, found_then, none_full_still, none_full_on, none_full_then, one_full_on, one_full_then, works_room, watched_room, sight_stays, seen_row}
+use Rattle.lst_session.proofs.Growing.{Grown, grown_on, pins_on, pins_by, key_stays, learns_itself, called, Steps, steps_on, steps_by, steps_called, same_extends, same_facts, same_finds, works_steps, works_hold, works_latched, watched_hands, watched_steps, found_on, found_then, none_full_still, none_full_on, none_full_then, one_full_on, one_full_then, works_room, watched_room, sight_stays, seen_row}
 
 -- ---- the record of the key
 
@@ -125,6 +125,7 @@ latch_goes v w s rec head l = record {
   steps = steps_by v w s _ l.view record {
     grown = record { seen = same_extends (knows v s).seen; facts = (l.facts, refl); finds = same_finds (knows v s).finds };
     same = record { transaction = record { number = refl; begin = refl; read_only = refl; is_open = refl }; own = refl; mine = refl };
+    pins = record { pins = refl; pin = refl };
     done = refl;
     turn = λ e. e;
   };
@@ -137,6 +138,7 @@ appends_keeping v w s rec head n act a = record {
     steps = steps_by v w s _ a.view record {
       grown = record { seen = same_extends (knows v s).seen; facts = (a.facts, refl); finds = (CountedTails (range_of rec) a.count ∷ [], refl) };
       same = record { transaction = record { number = refl; begin = refl; read_only = refl; is_open = refl }; own = refl; mine = refl };
+      pins = record { pins = refl; pin = refl };
       done = refl;
       turn = λ e. e;
     };
@@ -151,6 +153,7 @@ posts_keeping v w s p = record {
     steps = steps_by v w s _ p.view record {
       grown = record { seen = same_extends (knows v s).seen; facts = (p.facts, refl); finds = (p.finds, refl) };
       same = record { transaction = record { number = refl; begin = refl; read_only = refl; is_open = refl }; own = refl; mine = refl };
+      pins = record { pins = refl; pin = refl };
       done = refl;
       turn = λ e. e;
     };
@@ -165,6 +168,7 @@ full_keeping v w s range f = record {
     steps = steps_by v w s _ f.counts.view record {
       grown = record { seen = same_extends (knows v s).seen; facts = (f.counts.facts, refl); finds = (CountedTails range f.count ∷ FullTails range ∷ [], refl) };
       same = record { transaction = record { number = refl; begin = refl; read_only = refl; is_open = refl }; own = refl; mine = refl };
+      pins = record { pins = refl; pin = refl };
       done = refl;
       turn = λ e. e;
     };
@@ -179,6 +183,7 @@ release_keeping v w s l = record {
     steps = steps_by v w s _ l record {
       grown = record { seen = same_extends (knows v s).seen; facts = same_facts (knows v s).facts; finds = same_finds (knows v s).finds };
       same = record { transaction = record { number = refl; begin = refl; read_only = refl; is_open = refl }; own = refl; mine = refl };
+      pins = record { pins = refl; pin = refl };
       done = refl;
       turn = λ e. e;
     };
@@ -346,6 +351,7 @@ module _ (v u w : View) (s rec key most : ℕ) (act : Act) (may : MayWrite v s) 
         read_only = ap (λ (k : Known). k.read_only) e ∙ there.stays.same.transaction.read_only;
         is_open = ap (λ (k : Known). k.is_open) e ∙ there.stays.same.transaction.is_open;
       };
+      pins = pins_on (knows v s) (knows b s) (knows w s) there.stays.pins (pins_by (knows b s) (knows w s) (ap (λ (k : Known). k.pages) e));
       fits = subst (λ (row : Option (List Cell)). Fits row act) (same_row v judged s key early to_judged) i.holding.prepares.judges.agrees;
       own = ap (λ (k : Known). k.own) e ∙ ap (λ (ws : List Write). joined ws (write_on key act)) there.stays.same.own;
       mine = ap (mine s) e ∙ there.stays.same.mine;
@@ -385,7 +391,7 @@ module _ (v u w : View) (s rec key most : ℕ) (act : Act) (may : MayWrite v s) 
     freed = latching_on u r.between w s rec held back
 
     pub refuses : Refuses v w s key most
-    refuses = let st = to w freed in record { called = steps_called v w s st; same = st.stays.same; done = st.stays.done; drew = drew_to w freed; after_look = look_to w freed }
+    refuses = let st = to w freed in record { called = steps_called v w s st; same = st.stays.same; pins = st.stays.pins; done = st.stays.done; drew = drew_to w freed; after_look = look_to w freed }
 
     pub refuses_idle : IsIdle (knows v s) → IsIdle (knows w s)
     refuses_idle idle = let st = to w freed in record { rec = hand_to w freed idle.rec; hold = ap (λ (k : Known). k.hold) r.view.now; turn = st.stays.turn idle.turn }
@@ -436,6 +442,7 @@ module _ (v u w : View) (s rec key most : ℕ) (act : Act) (may : MayWrite v s) 
     finds = steps_by u w s _ f.finds.view record {
       grown = record { seen = same_extends (knows u s).seen; facts = (f.finds.facts, refl); finds = (LatchedRecord rec ∷ [], refl) };
       same = record { transaction = record { number = refl; begin = refl; read_only = refl; is_open = refl }; own = refl; mine = refl };
+      pins = record { pins = refl; pin = refl };
       done = refl;
       turn = λ e. e;
     }
@@ -455,6 +462,7 @@ module _ (v u w : View) (s rec key most : ℕ) (act : Act) (may : MayWrite v s) 
     latched_refuses = let st = steps_on v u w s comes.steps finds in record {
       called = steps_called v w s st;
       same = st.stays.same;
+      pins = st.stays.pins;
       done = st.stays.done;
       drew = subst (λ (p : Placing). Drew (knows v s).placing p most) (sym (ap (λ (k : Known). k.placing) f.finds.view.now)) comes.drew;
       after_look = look_stays v u w s key (ap (λ (k : Known). k.placing) f.finds.view.now) comes.after_look;

@@ -11,16 +11,17 @@ use Rattle.lst_model.specs.Soundness.{Fits}
 use Rattle.lst_core_state.specs.Writes.{write, commit}
 use Rattle.lst_core_state.specs.declared.known.Known.{Known}
 use Rattle.lst_core_state.specs.declared.facts.Find.{Find}
-use Rattle.lst_core_state.specs.declared.facts.Find.TheVariants.{FreshClock, HeldTurn, LatchedRecord, UnfinishedVersion, FullRecords, FullTails}
+use Rattle.lst_core_state.specs.declared.facts.Find.TheVariants.{FreshClock, FreshEpoch, HeldTurn, LatchedRecord, UnfinishedVersion, FullRecords, FullTails, TailLoad}
 use Rattle.lst_core_state.specs.Cells.{range_of}
 use Rattle.lst_core_state.specs.State.{mine, name_of, rank}
 use Rattle.lst_rule.specs.declared.view.View.{View}
 use Rattle.lst_rule.specs.Rule.{knows, hosts}
 use Rattle.lst_rule.specs.Learned.{Learns}
+use Rattle.lst_rule.specs.PageSteps.{stock_of}
 use Rattle.lst_sights.specs.Copies.{Version, Includes}
 use Rattle.lst_sights.specs.Seen.{HasKey}
 use Rattle.lst_sights.specs.Judging.{WroteAt}
-use Rattle.lst_sights.specs.Watching.{IsNotFull}
+use Rattle.lst_sights.specs.Watching.{IsNotFull, SamePins}
 use Rattle.lst_index.specs.Searches.{Ended, Works}
 use Rattle.lst_index.specs.Placings.{Drew, DrawsAfterLook, FoundFull}
 use Rattle.lst_write.specs.Holding.{Latches}
@@ -64,10 +65,11 @@ pub record SameLists (u k : Known) : Type 0 where
   pub latched : k.latched ≡ u.latched
   pub done : k.done ≡ u.done
 
--- nothing but looks was made: the transaction, its own writes, the session's commits and these lists stay
+-- nothing but looks was made: the transaction, its own writes, the session's commits, its pin and these lists stay
 pub record OnlyLooks (v w : View) (s : ℕ) : Type 0 where
   pub called : Called v w s
   pub same : SameWork s (knows v s) (knows w s)
+  pub pins : SamePins (knows v s) (knows w s)
   pub lists : SameLists (knows v s) (knows w s)
 
 -- what the open transaction sees of a key: the row in the snapshot at its begin, of what the session has seen, with its own writes on it
@@ -77,7 +79,7 @@ row_seen k key = row_of (snapshot k.seen k.begin k.own) key
 -- ---- begins
 
 -- the next transaction is open, with this begin and of this kind, without own writes. The clock was loaded in the call, and found at least
--- what the session had seen, which it has seen then
+-- what the session had seen, which it has seen then. The session is pinned at an epoch that was found in the call, and has set one pin more
 pub record Begins (v w : View) (s clock begin : ℕ) (read_only : Bool) : Type 0 where
   pub called : Called v w s
   pub lists : SameLists (knows v s) (knows w s)
@@ -88,12 +90,19 @@ pub record Begins (v w : View) (s clock begin : ℕ) (read_only : Bool) : Type 0
   pub least : length (knows v s).seen ≤ clock
   pub seen : length (knows w s).seen ≡ clock
   pub early : begin ≤ clock
+  pub epoch : ℕ
+  pub fresh_epoch : FoundSince v w s (FreshEpoch epoch)
+  -- where the view hosts the merger, it is the merger's epoch
+  pub current : hosts v v.limits.sessions ≡ true → epoch ≡ (stock_of v).epoch
+  pub pin : (knows w s).pages.session.pin ≡ epoch + 1
+  pub pins : (knows w s).pages.pins ≡ (knows v s).pages.pins + 1
   pub room : FindsNoneFull v w s
 
--- the clock was loaded in the call, and found below the time
+-- the clock was loaded in the call, and found below the time. No pin was set
 pub record IsAhead (v w : View) (s clock time : ℕ) : Type 0 where
   pub called : Called v w s
   pub same : SameWork s (knows v s) (knows w s)
+  pub pins : SamePins (knows v s) (knows w s)
   pub lists : SameLists (knows v s) (knows w s)
   pub fresh : FoundSince v w s (FreshClock clock)
   pub least : length (knows v s).seen ≤ clock
@@ -103,9 +112,21 @@ pub record IsAhead (v w : View) (s clock time : ℕ) : Type 0 where
 
 -- ---- reads
 
+-- a find of anything else than that a word of a tail record was loaded
+abbrev pub IsNoTailLoad : Find → Type 0
+IsNoTailLoad (TailLoad tail) = ⊥
+IsNoTailLoad f = Unit {0}
+
+-- since the view was v the session has loaded no word of a tail record: each such load would be one more find
+pub record LoadsNoTail (v w : View) (s : ℕ) : Type 0 where
+  pub more : List Find
+  pub grows : (knows w s).finds ≡ (knows v s).finds ++ more
+  pub none : All IsNoTailLoad more
+
 pub record Gets (v w : View) (s key : ℕ) (row : Option (List Cell)) : Type 0 where
   pub called : Called v w s
   pub same : SameWork s (knows v s) (knows w s)
+  pub pins : SamePins (knows v s) (knows w s)
   pub lists : SameLists (knows v s) (knows w s)
   pub is : row ≡ row_seen (knows w s) key
   pub room : FindsNoneFull v w s
@@ -126,6 +147,7 @@ pub record Accepts (v w : View) (s key most : ℕ) (act : Act) : Type 0 where
   pub may : MayWrite v s
   pub called : Called v w s
   pub transaction : SameTransactions (knows v s) (knows w s)
+  pub pins : SamePins (knows v s) (knows w s)
   pub fits : Fits (row_seen (knows v s) key) act
   pub own : (knows w s).own ≡ joined (knows v s).own (write key act)
   pub mine : mine s (knows w s) ≡ mine s (knows v s)
@@ -143,6 +165,7 @@ pub record Accepts (v w : View) (s key most : ℕ) (act : Act) : Type 0 where
 pub record Refuses (v w : View) (s key most : ℕ) : Type 0 where
   pub called : Called v w s
   pub same : SameWork s (knows v s) (knows w s)
+  pub pins : SamePins (knows v s) (knows w s)
   pub done : (knows w s).done ≡ (knows v s).done
   pub drew : Drew (knows v s).placing (knows w s).placing most
   pub after_look : DrawsAfterLook v w s key
@@ -226,11 +249,17 @@ Cause v w s key act TailFull = MayWrite v s × Fits (row_seen (knows v s) key) a
 
 -- ---- ends
 
--- the transaction is the commit at the time, above all that the session had seen
+-- the pin was taken away, and none set
+pub record TakesPinAway (u k : Known) : Type 0 where
+  pub pins : k.pages.pins ≡ u.pages.pins
+  pub pin : k.pages.session.pin ≡ 0
+
+-- the transaction is the commit at the time, above all that the session had seen, and its session isn't pinned
 pub record Commits (v w : View) (s time : ℕ) : Type 0 where
   pub called : Called v w s
   pub lists : SameLists (knows v s) (knows w s)
   pub ended : HasEnded (knows v s) (knows w s)
+  pub unpinned : TakesPinAway (knows v s) (knows w s)
   pub wrote : 0 < length (knows v s).own
   pub own : (knows w s).own ≡ []
   pub above : length (knows v s).seen < time
@@ -240,19 +269,21 @@ pub record Commits (v w : View) (s time : ℕ) : Type 0 where
   pub mine : let k = knows v s in mine s (knows w s) ≡ mine s k ++ commit s k.number k.begin k.own ∷ []
   pub room : FindsNoneFull v w s
 
--- the transaction is over, without a commit
+-- the transaction is over, without a commit, and its session isn't pinned
 pub record Ends (v w : View) (s : ℕ) : Type 0 where
   pub called : Called v w s
   pub lists : SameLists (knows v s) (knows w s)
   pub ended : HasEnded (knows v s) (knows w s)
+  pub unpinned : TakesPinAway (knows v s) (knows w s)
   pub own : (knows w s).own ≡ []
   pub mine : mine s (knows w s) ≡ mine s (knows v s)
   pub room : FindsNoneFull v w s
 
--- the commit word was found held: never by a seat that hosts every session while none of them has the turn
+-- the commit word was found held: never by a seat that hosts every session while none of them has the turn. The pin stays
 pub record FindsHeld (v w : View) (s : ℕ) : Type 0 where
   pub called : Called v w s
   pub same : SameWork s (knows v s) (knows w s)
+  pub pins : SamePins (knows v s) (knows w s)
   pub lists : SameLists (knows v s) (knows w s)
   pub wrote : 0 < length (knows v s).own
   pub found : FoundSince v w s HeldTurn

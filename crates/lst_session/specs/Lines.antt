@@ -7,12 +7,15 @@ use Rattle.lst_model.specs.declared.lines.Call.TheVariants as call
 use Rattle.lst_model.specs.declared.lines.Line.{Line}
 use Rattle.lst_model.specs.declared.lines.Line.TheVariants as line
 use Rattle.lst_model.specs.declared.replies.Reply.{Reply}
-use Rattle.lst_model.specs.declared.replies.Reply.TheVariants.{Begun, Done, Row, Absent, Committed, Ended, Aborted, Refused, Silent}
+use Rattle.lst_model.specs.declared.replies.Reply.TheVariants.{Begun, Done, Row, Absent, Committed, Ended, Aborted, Refused, Silent, Merged, NothingNew, NoFrame}
 use Rattle.lst_model.specs.declared.replies.Cause.TheVariants as cause
 use Rattle.lst_rule.specs.declared.view.View.{View}
 use Rattle.lst_rule.specs.Rule.{knows}
 use Rattle.lst_calls.specs.declared.kinds.WriteRefusal.{WriteRefusal}
+use Rattle.lst_merge.specs.declared.answers.Merge.TheVariants as merges
+use Rattle.lst_merge.specs.Merges.{Merges}
 use Rattle.lst_session.specs.Calls.{Begins, IsAhead, Gets, Accepts, Refuses, Cause, Commits, Ends}
+use Rattle.lst_session.specs.Crews.{SavesTails}
 use Rattle.lst_session.specs.Replies.{write_cause}
 
 -- whether a transaction is open
@@ -65,11 +68,11 @@ AbortLeaves v w s Aborted = IsOpen v s × Ends v w s
 AbortLeaves v w s (Refused cause.Idle) = IsClosed v s × (w ≡ v)
 AbortLeaves v w s answer = ⊥
 
--- by the call; a crew's line has no scans
+-- by the call, of a get also where it loads no word of a tail record; a crew's line has no scans
 abbrev pub CallLeaves : View → View → ℕ → Call → Reply → Type 0
 CallLeaves v w s call.Begin answer = BeginLeaves v w s answer
 CallLeaves v w s (call.AsOf time) answer = AsOfLeaves v w s time answer
-CallLeaves v w s (call.Get key) answer = GetLeaves v w s key answer
+CallLeaves v w s (call.Get key) answer = GetLeaves v w s key answer × SavesTails v w s key
 CallLeaves v w s (call.Insert key row) answer = WriteLeaves v w s key 1 (Put row) answer
 CallLeaves v w s (call.Update key patch) answer = WriteLeaves v w s key 0 (Set patch) answer
 CallLeaves v w s (call.Delete key) answer = WriteLeaves v w s key 0 Del answer
@@ -80,8 +83,15 @@ CallLeaves v w s (call.Find column number) answer = ⊥
 CallLeaves v w s call.Commit answer = CommitLeaves v w s answer
 CallLeaves v w s call.Abort answer = AbortLeaves v w s answer
 
--- by the line; it has no merges either
+-- a merge, by what the merger found and made
+abbrev pub MergeLeaves : View → View → ℕ → ℕ → Reply → Type 0
+MergeLeaves v w range column (Merged tps) = Merges v w range column (merges.Merged tps)
+MergeLeaves v w range column (NothingNew tps) = Merges v w range column (merges.Idle tps)
+MergeLeaves v w range column (NoFrame s) = Merges v w range column (merges.NoFrame s)
+MergeLeaves v w range column answer = ⊥
+
+-- by the line
 abbrev pub LineLeaves : View → View → Line → Reply → Type 0
 LineLeaves v w line.Phase answer = (answer ≡ Silent) × (w ≡ v)
-LineLeaves v w (line.Merge range column) answer = ⊥
+LineLeaves v w (line.Merge range column) answer = MergeLeaves v w range column answer
 LineLeaves v w (line.Call s call) answer = CallLeaves v w s call answer

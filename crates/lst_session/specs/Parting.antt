@@ -12,6 +12,7 @@ use Rattle.lst_rule.specs.Rule.{knows, hosts}
 use Rattle.lst_rule.specs.Seats.{Sitting}
 use Rattle.lst_rule.specs.Stores.{IsSeatOf}
 use Rattle.lst_rule.specs.Surveys.{HostsAll}
+use Rattle.lst_retire.specs.Frames.{AreSpares}
 use Rattle.lst_seat.specs.Seats.{IsPartOf, HasSeenAll}
 use Rattle.lst_session.specs.Crews.{store_told}
 use Rattle.lst_session.specs.declared.passes.Merger.{Merger}
@@ -27,10 +28,11 @@ pub record IsPass (store : Store) (session : Session) : Type 0 where
   pub host : hosts session.seat.view session.number ≡ true
   pub own : session.number < session.seat.view.limits.sessions
 
--- the merger's seat is one of the store and hosts it. The merger has the number of the sessions
+-- the merger's seat is one of the store and hosts it, and the spare frames are the merger's. The merger has the number of the sessions
 pub record IsMergerOf (store : Store) (merger : Merger) : Type 0 where
   pub seat_of : IsSeatOf store merger.seat
   pub host : hosts merger.seat.view merger.seat.view.limits.sessions ≡ true
+  pub spares : AreSpares merger.seat.view merger.spares.items
 
 -- ---- parting
 

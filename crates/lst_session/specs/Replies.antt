@@ -2,13 +2,13 @@
 use Rattle.std.specs.Prelude.{ℕ, List, Option, Result, Ok, Err}
 use Rattle.lst_model.specs.Cells.{Cell}
 use Rattle.lst_model.specs.declared.replies.Reply.{Reply}
-use Rattle.lst_model.specs.declared.replies.Reply.TheVariants.{Begun, Done, Committed, Ended, Aborted, Refused}
+use Rattle.lst_model.specs.declared.replies.Reply.TheVariants.{Begun, Done, Committed, Ended, Aborted, Refused, Merged, NothingNew, NoFrame}
 use Rattle.lst_model.specs.declared.replies.Cause.{Cause}
 use Rattle.lst_model.specs.declared.replies.Cause.TheVariants as cause
 use Rattle.lst_model.specs.declared.lines.Call.{Call}
 use Rattle.lst_model.specs.declared.lines.Call.TheVariants.{Begin, AsOf, Get, Insert, Update, Delete, Sum, Count, Scan, Find, Commit as CommitCall, Abort}
 use Rattle.lst_model.specs.declared.lines.Line.{Line}
-use Rattle.lst_model.specs.declared.lines.Line.TheVariants.{Phase, Merge, Call as CallLine}
+use Rattle.lst_model.specs.declared.lines.Line.TheVariants.{Phase, Merge as MergeLine, Call as CallLine}
 use Rattle.lst_txn.specs.declared.begins.BeginFault.{BeginFault}
 use Rattle.lst_txn.specs.declared.begins.BeginFault.TheVariants as begins
 use Rattle.lst_txn.specs.declared.ends.Idle.{Idle}
@@ -16,6 +16,8 @@ use Rattle.lst_calls.specs.declared.kinds.WriteRefusal.{WriteRefusal}
 use Rattle.lst_calls.specs.declared.kinds.WriteRefusal.TheVariants as writes
 use Rattle.lst_calls.specs.declared.kinds.Outcome.{Outcome}
 use Rattle.lst_calls.specs.declared.kinds.Outcome.TheVariants as outcome
+use Rattle.lst_merge.specs.declared.answers.Merge.{Merge}
+use Rattle.lst_merge.specs.declared.answers.Merge.TheVariants as merges
 use Rattle.lst_machine.specs.Calls.{row_reply}
 
 abbrev pub begin_cause : BeginFault → Cause
@@ -55,7 +57,12 @@ abbrev pub abort_reply : Result (Unit {0}) Idle → Reply
 abort_reply (Ok done) = Aborted
 abort_reply (Err none) = Refused cause.Idle
 
--- the lines that the crew takes: no scans and no merges yet
+abbrev pub merge_reply : Merge → Reply
+merge_reply (merges.Merged tps) = Merged tps
+merge_reply (merges.Idle tps) = NothingNew tps
+merge_reply (merges.NoFrame session) = NoFrame session
+
+-- the lines that the crew takes: all but scans
 abbrev pub IsCrewCall : Call → Type 0
 IsCrewCall Begin = Unit {0}
 IsCrewCall (AsOf time) = Unit {0}
@@ -72,5 +79,5 @@ IsCrewCall Abort = Unit {0}
 
 abbrev pub IsCrewLine : Line → Type 0
 IsCrewLine Phase = Unit {0}
-IsCrewLine (Merge range column) = ⊥
+IsCrewLine (MergeLine range column) = Unit {0}
 IsCrewLine (CallLine session call) = IsCrewCall call

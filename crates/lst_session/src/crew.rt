@@ -6,21 +6,25 @@ ghost use Rattle.lst_model.specs.declared.lines.Call.TheVariants as call;
 ghost use Rattle.lst_machine.specs.State.{opening};
 ghost use Rattle.lst_rule.specs.Rule.{knows, crew};
 ghost use Rattle.lst_session.specs.Calls.{Begins, IsAhead, Gets, Accepts, Refuses, Cause, Commits, Ends};
-ghost use Rattle.lst_session.specs.Crews.{IsCrewOf, TellsState, Answers, state_told};
+ghost use Rattle.lst_session.specs.Crews.{IsCrewOf, TellsState, Answers, SavesTails, state_told};
 ghost use Rattle.lst_session.specs.Replies.{begin_reply, get_reply, write_reply, commit_reply, abort_reply};
 
-use lst_calls::{CommitRefusal, Outcome, WriteRefusal, change, end, insert, read};
+use lst_calls::{
+    CommitRefusal, Outcome, WriteRefusal, abort, as_of, begin, change, end, insert, read,
+};
 use lst_layout::Layout;
 use lst_model::{Act, Key, OutOfMemory, Patch, Row, Time};
+use lst_retire::{Spares, opening_spares};
 use lst_rule::{Seat, Store};
 use lst_seat::open_store;
-use lst_txn::{BeginFault as BeginRefusal, Idle as NotBegun, as_of, begin, close};
+use lst_txn::{BeginFault as BeginRefusal, Idle as NotBegun};
 use std::alloc::Global;
 
-/// All sessions of a store, at one seat.
+/// All sessions of a store and its merger, at one seat, with the spare frames.
 #[derive(Drop)]
 pub struct Crew {
     pub seat: Seat,
+    pub spares: Spares,
 }
 
 /// Opens a store, with the crew that hosts all its sessions. All memory of the store is taken here.
@@ -33,12 +37,13 @@ pub fn open_crew(alloc: Global, layout: &Layout) -> Result<(Store, Crew), OutOfM
     ensures opening { IfOk result (λ both. state_told both.1.seat.view ≡ opening) }
 {
     let (store, seat) = open_store(alloc, layout)?;
-    Ok((store, Crew { seat }))
+    let spares = opening_spares(&layout.limits);
+    Ok((store, Crew { seat, spares }))
 }
 
 impl Crew {
-    /// Begins a session's next transaction, and answers its begin, which is the clock, loaded in this call. Active comes exactly where one is
-    /// open; Spent exactly where none is and the session has begun as many as it may; Future never.
+    /// Begins a session's next transaction, and answers its begin, which is the clock, loaded in this call; the session is pinned before. Active
+    /// comes exactly where one is open; Spent exactly where none is and the session has begun as many as it may; Future never.
     pub fn begin(&mut self, store: &Store, s: u32) -> Result<Time, BeginRefusal>
         requires crew { IsCrewOf store.now self.old }
         requires session { s < self.old.seat.view.limits.sessions }
@@ -72,13 +77,16 @@ impl Crew {
         as_of(store, &mut self.seat, s, time)
     }
 
-    /// The row of a key that a session's open transaction sees. It is refused exactly where none is open.
+    /// The row of a key that a session's open transaction sees. It is refused exactly where none is open. Where the crew tells a state of the
+    /// machine in which the pages of all columns have folded every accepted write on the key, each ended by the transaction's begin, no word of a tail
+    /// record is loaded.
     pub fn get(&mut self, store: &Store, s: u32, key: Key) -> Result<Option<Row>, NotBegun>
         requires crew { IsCrewOf store.now self.old }
         requires session { s < self.old.seat.view.limits.sessions }
         ensures crew { IsCrewOf store.now self.new }
         ensures machine { TellsState self.old.seat.view → TellsState self.new.seat.view × Answers self.old.seat.view self.new.seat.view s (call.Get key) (get_reply result) }
         ensures ok { IfOk result (λ row. ((knows self.old.seat.view s).is_open ≡ true) × Gets self.old.seat.view self.new.seat.view s key row) }
+        ensures saves { SavesTails self.old.seat.view self.new.seat.view s key }
         ensures err { OnErr result (((knows self.old.seat.view s).is_open ≡ false) × (self.new.seat.view ≡ self.old.seat.view)) }
     {
         self.seat.consider();
@@ -171,6 +179,6 @@ impl Crew {
         ensures err { OnErr result (((knows self.old.seat.view s).is_open ≡ false) × (self.new.seat.view ≡ self.old.seat.view)) }
     {
         self.seat.consider();
-        close(store, &mut self.seat, s)
+        abort(store, &mut self.seat, s)
     }
 }

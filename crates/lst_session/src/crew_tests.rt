@@ -124,6 +124,30 @@ fn answers(
     Ok(())
 }
 
+/// A merge, and its reply compared.
+fn merges(
+    rt: &impl Abort,
+    pair: &mut Pair,
+    range: u32,
+    column: u32,
+    wanted: Reply,
+) -> Result<(), Fail> {
+    let limits = pair.crew.seat.limits();
+    assert!(rt; range < limits.ranges && column < limits.columns);
+    let reply = pair.crew.line(&pair.store, &Line::Merge { range, column })?;
+    assert_eq!(rt; reply, wanted);
+    Ok(())
+}
+
+/// A new store in which session 0 has committed a row.
+fn with_a_row(rt: &impl Abort, alloc: Global) -> Result<Pair, Fail> {
+    let mut pair = opened(alloc, SMALL)?;
+    answers(rt, &mut pair, 0, Call::Begin, begun(0))?;
+    answers(rt, &mut pair, 0, insert(7, 10, 20), Reply::Done)?;
+    answers(rt, &mut pair, 0, Call::Commit, committed(1))?;
+    Ok(pair)
+}
+
 fn history(alloc: Global, pair: &mut Pair) -> Result<History, OutOfMemory> {
     pair.crew.history(alloc, &pair.store)
 }
@@ -348,4 +372,56 @@ fn a_history_has_the_one_commit(rt: HostRuntime) -> Result<(), Fail> {
     assert_eq!(rt; write.key, 7);
     assert_eq!(rt; &write.act, &Act::Put(row(10, 20)));
     Ok(())
+}
+
+#[test]
+fn a_merge_takes_in_the_settled_writes_of_a_range(rt: HostRuntime) -> Result<(), Fail> {
+    let mut pair = with_a_row(&rt, rt.alloc())?;
+    merges(&rt, &mut pair, 0, 1, Reply::Merged { tps: 1 })?;
+    merges(&rt, &mut pair, 0, 1, Reply::NothingNew { tps: 1 })?;
+    answers(&rt, &mut pair, 1, Call::Begin, begun(1))?;
+    answers(&rt, &mut pair, 1, update(7, Some(11), None), Reply::Done)?;
+    // The write of an open transaction ends the run.
+    merges(&rt, &mut pair, 0, 0, Reply::Merged { tps: 1 })?;
+    merges(&rt, &mut pair, 0, 0, Reply::NothingNew { tps: 1 })?;
+    answers(&rt, &mut pair, 1, get(7), found(11, 20))?;
+    answers(&rt, &mut pair, 1, Call::Commit, committed(2))?;
+    merges(&rt, &mut pair, 0, 0, Reply::Merged { tps: 2 })?;
+    merges(&rt, &mut pair, 0, 1, Reply::Merged { tps: 2 })?;
+    answers(&rt, &mut pair, 2, Call::Begin, begun(2))?;
+    answers(&rt, &mut pair, 2, get(7), found(11, 20))
+}
+
+#[test]
+fn merged_rows_are_read(rt: HostRuntime) -> Result<(), Fail> {
+    let mut pair = with_a_row(&rt, rt.alloc())?;
+    answers(&rt, &mut pair, 1, Call::Begin, begun(1))?;
+    answers(&rt, &mut pair, 1, update(7, None, Some(21)), Reply::Done)?;
+    answers(&rt, &mut pair, 1, insert(8, 30, 40), Reply::Done)?;
+    answers(&rt, &mut pair, 1, Call::Commit, committed(2))?;
+    answers(&rt, &mut pair, 2, Call::Begin, begun(2))?;
+    answers(&rt, &mut pair, 2, Call::Delete { key: 8 }, Reply::Done)?;
+    answers(&rt, &mut pair, 2, Call::Commit, committed(3))?;
+    merges(&rt, &mut pair, 0, 0, Reply::Merged { tps: 4 })?;
+    merges(&rt, &mut pair, 0, 1, Reply::Merged { tps: 4 })?;
+    answers(&rt, &mut pair, 0, Call::Begin, begun(3))?;
+    answers(&rt, &mut pair, 0, get(7), found(10, 21))?;
+    answers(&rt, &mut pair, 0, get(8), Reply::Absent)?;
+    // A begin below an entry's time is answered along the chain.
+    answers(&rt, &mut pair, 1, Call::AsOf { time: 2 }, begun(2))?;
+    answers(&rt, &mut pair, 1, get(7), found(10, 21))?;
+    answers(&rt, &mut pair, 1, get(8), found(30, 40))?;
+    answers(&rt, &mut pair, 2, Call::AsOf { time: 1 }, begun(1))?;
+    answers(&rt, &mut pair, 2, get(7), found(10, 20))?;
+    answers(&rt, &mut pair, 2, get(8), Reply::Absent)
+}
+
+#[test]
+fn an_open_transaction_holds_the_one_spare_frame(rt: HostRuntime) -> Result<(), Fail> {
+    let mut pair = with_a_row(&rt, rt.alloc())?;
+    answers(&rt, &mut pair, 1, Call::Begin, begun(1))?;
+    merges(&rt, &mut pair, 0, 0, Reply::Merged { tps: 1 })?;
+    merges(&rt, &mut pair, 0, 1, Reply::NoFrame { session: 1 })?;
+    answers(&rt, &mut pair, 1, Call::Commit, ended(1))?;
+    merges(&rt, &mut pair, 0, 1, Reply::Merged { tps: 1 })
 }

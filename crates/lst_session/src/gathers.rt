@@ -1,6 +1,7 @@
 //! Sessions and the merger are gathered into a crew.
 ghost use Rattle.std.specs.Prelude.{◌≡◌, [], ◌≤◌, All, IfOk, IfErr, MatchOption, length, map, vec_len, vec_capacity};
 ghost use Rattle.lst_rule.specs.Stores.{IsSeatOf};
+ghost use Rattle.lst_retire.specs.Frames.{AreSpares};
 ghost use Rattle.lst_session.specs.Crews.{IsCrewOf};
 ghost use Rattle.lst_session.specs.Parting.{IsPass, IsMergerOf, has_number, AreAllThere, IsMissing, IsGathered};
 ghost use Rattle.lst_session.specs.Passes.{IsReady};
@@ -69,6 +70,7 @@ pub fn gather(
     requires sessions { All (IsPass store.now) sessions }
     requires merger { IsMergerOf store.now merger }
     ensures seat { IfOk result (λ crew. IsSeatOf store.now crew.seat) }
+    ensures spares { IfOk result (λ crew. AreSpares crew.seat.view crew.spares.items) }
     ensures gathered { IfOk result (λ crew. IsGathered sessions merger.seat.view crew.seat.view) }
     ensures crew { IfOk result (λ crew. All (IsReady store.now) sessions → IsCrewOf store.now crew) }
     ensures all { IfOk result (λ _. AreAllThere sessions merger.seat.view.limits.sessions) }
@@ -94,8 +96,9 @@ pub fn gather(
             });
         }
     };
-    match lst_seat::gather(store, seats_of(sessions, seats), merger.seat) {
-        Ok(seat) => Ok(Crew { seat }),
+    let Merger { seat, spares } = merger;
+    match lst_seat::gather(store, seats_of(sessions, seats), seat) {
+        Ok(seat) => Ok(Crew { seat, spares }),
         Err(_) => unreachable!(),
     }
 }

@@ -7,7 +7,7 @@ use std::alloc::Global;
 
 impl Crew {
     ghost use Rattle.std.specs.Prelude.{◌≡◌, true, IfOk};
-    ghost use Rattle.lst_session.specs.Crews.{IsCrewOf, TellsState, TakesStock, IsHistoryOfAll, store_told};
+    ghost use Rattle.lst_session.specs.Crews.{IsCrewOf, TellsState, TakesStock, IsHistoryOfAll, store_told, state_told};
 
     /// The history of the store: each commit at its time, with its writes by key. The seat first takes stock of all words, and knows each
     /// afterwards. The history is read off their log and tail records by session 0, which only looks. Where the seat knew each word before,
@@ -19,7 +19,7 @@ impl Crew {
         ensures ok { IfOk result (λ all. all ≡ (store_told self.new.seat.view).history) }
         ensures all { IfOk result (λ all. IsHistoryOfAll self.old.seat.view all) }
         ensures session { TakesStock self.old.seat.view self.new.seat.view 0 }
-        ensures told { self.old.seat.view.whole ≡ true → store_told self.new.seat.view ≡ store_told self.old.seat.view }
+        ensures told { self.old.seat.view.whole ≡ true → state_told self.new.seat.view ≡ state_told self.old.seat.view }
         ensures tells { TellsState self.old.seat.view → TellsState self.new.seat.view }
     {
         self.seat.consider();

@@ -11,6 +11,7 @@ mod gathers;
 mod histories;
 mod laws;
 mod lines;
+mod merges;
 #[cfg(test)]
 mod part_tests;
 mod parts;
@@ -26,6 +27,7 @@ pub use crew::{Crew, open_crew};
 pub use gathers::gather;
 pub use laws::seen_is_sound;
 pub use lst_calls::{CommitRefusal, Outcome, WriteRefusal};
+pub use lst_merge::Merge;
 pub use lst_seat::Note;
 pub use lst_txn::{BeginFault as BeginRefusal, Idle as NotBegun};
 pub use passes::{GatherCause, GatherRefusal, Merger, Sessions};

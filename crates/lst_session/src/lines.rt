@@ -1,6 +1,6 @@
 //! The lines of a script.
 use crate::crew::Crew;
-use crate::replies::{abort_reply, begin_reply, commit_reply, get_reply, write_reply};
+use crate::replies::{abort_reply, begin_reply, commit_reply, get_reply, merge_reply, write_reply};
 use lst_model::{Call, Line, OutOfMemory, Reply};
 use lst_rule::Store;
 
@@ -11,8 +11,8 @@ impl Crew {
     ghost use Rattle.lst_session.specs.Lines.{CallLeaves, LineLeaves};
     ghost use Rattle.lst_session.specs.Replies.{IsCrewLine, IsCrewCall};
 
-    /// The answer to a line. It promises of the session that calls what the call itself promises; and where the crew tells a state of the machine,
-    /// the answer is the machine's, and the crew then tells the next one. It takes no scans and no merges.
+    /// The answer to a line. It promises of the session that calls what the call itself promises, and of the merger what a merge does; and where the crew tells a state of the machine,
+    /// the answer is the machine's, and the crew then tells the next one. It takes no scans.
     #[inline(always)]
     pub fn line(&mut self, store: &Store, line: &Line) -> Result<Reply, OutOfMemory>
         requires crew { IsCrewOf store.now self.old }
@@ -26,7 +26,7 @@ impl Crew {
         match line {
             Line::Phase => Ok(Reply::Silent),
             Line::Call { session, call } => Ok(self.call(store, *session, call)),
-            Line::Merge { .. } => unreachable!(),
+            Line::Merge { range, column } => { Ok(merge_reply(self.merge(store, *range, *column))) }
         }
     }
 

@@ -5,13 +5,14 @@ ghost use Rattle.lst_session.specs.Parting.{IsMergerOf};
 ghost use Rattle.lst_session.specs.Passes.{IsReady};
 
 use crate::{
-    Crew, GatherCause, Merger, Outcome, Session, Sessions, WriteRefusal, gather, next_phase,
-    open_crew,
+    CommitRefusal, Crew, GatherCause, Merge, Merger, Outcome, Session, Sessions, WriteRefusal,
+    gather, next_phase, open_crew,
 };
 use arrayvec::ArrayVec;
 use lst_layout::Limits;
 use lst_model::{Key, Row};
 use lst_rule::Store;
+use lst_txn::take_turn;
 use std::alloc::Global;
 use std::process::Abort;
 use std::test::Fail;
@@ -164,6 +165,26 @@ fn insert(
     session.insert(store, key, &row)
 }
 
+/// Merges a page that is there, in the merger's call.
+fn merged(rt: &impl Abort, store: &Store, merger: &mut Merger, column: u32) -> Merge
+    requires { IsMergerOf store.now merger.old }
+    ensures { IsMergerOf store.now merger.new }
+{
+    assert!(rt; merger.seat.limits().ranges == 1);
+    assert!(rt; column < merger.seat.limits().columns);
+    merger.merge(store, 0, column)
+}
+
+/// The same in a crew's call.
+fn crew_merged(rt: &impl Abort, store: &Store, crew: &mut Crew, column: u32) -> Merge
+    requires { IsCrewOf store.now crew.old }
+    ensures { IsCrewOf store.now crew.new }
+{
+    assert!(rt; crew.seat.limits().ranges == 1);
+    assert!(rt; column < crew.seat.limits().columns);
+    crew.merge(store, 0, column)
+}
+
 /// Commits a row in a transaction of its own, which is the one at a time.
 fn commit(
     rt: &impl Abort,
@@ -181,6 +202,50 @@ fn commit(
     Ok(())
 }
 
+/// The second session's commit and its pin then, while the first one has the turn, which it gives back.
+fn committed_meanwhile(
+    store: &Store,
+    first: &mut Session,
+    second: &mut Session,
+) -> Result<(Result<Outcome, CommitRefusal>, Option<u64>), Fail>
+    requires first { IsReady store.now first.old }
+    requires second { IsReady store.now second.old }
+    ensures { IsReady store.now second.new }
+{
+    let s = first.number;
+    if !first.seat.has_writes(s) {
+        return Err(Fail::from("the first session has writes"));
+    }
+    let Ok(turn) = take_turn(store, &mut first.seat, s) else {
+        return Err(Fail::from("nobody has the turn"));
+    };
+    let answer = second.try_commit(store);
+    let pinned = second.seat.pinned(second.number);
+    turn.give_back(store, &mut first.seat);
+    Ok((answer, pinned))
+}
+
+#[test]
+fn a_session_stays_pinned_while_another_one_has_the_turn(rt: HostRuntime) -> Result<(), Fail> {
+    let alloc = rt.alloc();
+    let (store, crew) = opened(alloc)?;
+    let (mut first, mut second, _, _) = parted(alloc, &store, crew)?;
+    assert_eq!(rt; first.begin(&store), Ok(0));
+    assert_eq!(rt; insert(&rt, &store, &mut first, 7, (10, 20)), Ok(()));
+    assert_eq!(rt; second.begin(&store), Ok(0));
+    assert_eq!(rt; insert(&rt, &store, &mut second, 8, (30, 40)), Ok(()));
+    assert_eq!(rt;
+        committed_meanwhile(&store, &mut first, &mut second)?,
+        (Err(CommitRefusal::Busy), Some(0))
+    );
+    assert_eq!(rt;
+        second.try_commit(&store),
+        Ok(Outcome::Committed { time: 1 })
+    );
+    assert_eq!(rt; second.seat.pinned(second.number), None);
+    Ok(())
+}
+
 #[test]
 fn an_open_transaction_goes_on_after_it_was_parted_and_gathered(
     rt: HostRuntime,
@@ -192,6 +257,8 @@ fn an_open_transaction_goes_on_after_it_was_parted_and_gathered(
     assert_eq!(rt; put(&rt, &store, &mut crew, 0, 7, (10, 20)), Ok(()));
     let (mut first, mut second, third, merger) = parted(alloc, &store, crew)?;
     assert_eq!(rt; (first.number, second.number, third.number), (0, 1, 2));
+    assert_eq!(rt; first.seat.pinned(first.number), Some(0));
+    assert_eq!(rt; second.seat.pinned(second.number), None);
     assert_eq!(rt; first.get(&store, 7), Ok(Some(row(10, 20))));
     assert_eq!(rt; insert(&rt, &store, &mut first, 8, (30, 40)), Ok(()));
     assert_eq!(rt; second.begin(&store), Ok(0));
@@ -200,8 +267,10 @@ fn an_open_transaction_goes_on_after_it_was_parted_and_gathered(
     let sessions = listed(alloc, &store, third, first, second)?;
     let mut crew = gathered(alloc, &store, sessions, merger)?;
     assert!(rt; crew.seat.limits().sessions == 3);
+    assert_eq!(rt; crew.seat.pinned(0), Some(0));
     assert_eq!(rt; crew.get(&store, 0, 7), Ok(Some(row(10, 20))));
     assert_eq!(rt; crew.commit(&store, 0), Ok(Outcome::Committed { time: 1 }));
+    assert_eq!(rt; crew.seat.pinned(0), None);
     assert_eq!(rt; crew.get(&store, 1, 7), Ok(None));
     assert_eq!(rt; crew.commit(&store, 1), Ok(Outcome::Ended { time: 0 }));
     assert_eq!(rt; crew.begin(&store, 2), Ok(1));
@@ -317,5 +386,35 @@ fn a_gathered_history_has_the_commits_of_all(rt: HostRuntime) -> Result<(), Fail
         return Err(Fail::from("the last commit has one write"));
     };
     assert_eq!(rt; write.key, 9);
+    Ok(())
+}
+
+#[test]
+fn a_merger_merges_while_sessions_go_on(rt: HostRuntime) -> Result<(), Fail> {
+    let alloc = rt.alloc();
+    let (store, crew) = opened(alloc)?;
+    let (mut first, mut second, third, mut merger) = parted(alloc, &store, crew)?;
+    assert_eq!(rt; second.begin(&store), Ok(0));
+    commit(&rt, &store, &mut first, 7, 1)?;
+    assert_eq!(rt;
+        merged(&rt, &store, &mut merger, 0),
+        Merge::Merged { tps: 1 }
+    );
+    assert_eq!(rt;
+        merged(&rt, &store, &mut merger, 1),
+        Merge::NoFrame { session: 1 }
+    );
+    assert_eq!(rt; second.get(&store, 7), Ok(None));
+    assert_eq!(rt; second.try_commit(&store), Ok(Outcome::Ended { time: 0 }));
+    let sessions = listed(alloc, &store, first, second, third)?;
+    let mut crew = gathered(alloc, &store, sessions, merger)?;
+    assert_eq!(rt;
+        crew_merged(&rt, &store, &mut crew, 0),
+        Merge::Idle { tps: 1 }
+    );
+    assert_eq!(rt;
+        crew_merged(&rt, &store, &mut crew, 1),
+        Merge::Merged { tps: 1 }
+    );
     Ok(())
 }

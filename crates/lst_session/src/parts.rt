@@ -2,6 +2,7 @@
 ghost use Rattle.std.specs.Prelude.{◌≡◌, [], ◌<◌, ◌≤◌, ◌^◌, All, IfOk, IfErr, length, vec_len, vec_capacity};
 ghost use Rattle.lst_rule.specs.Stores.{IsSeatOf};
 ghost use Rattle.lst_rule.specs.Surveys.{HostsAll};
+ghost use Rattle.lst_retire.specs.Frames.{AreSpares};
 ghost use Rattle.lst_session.specs.Crews.{IsCrewOf};
 ghost use Rattle.lst_session.specs.Parting.{IsParted, IsMergerOf, are_numbered};
 ghost use Rattle.lst_session.specs.Passes.{IsReady};
@@ -33,7 +34,7 @@ fn numbered(seats: SeatList, mut passes: Vec<Session>) -> Sessions
 impl Crew {
     /// Parts the crew: its sessions, in order, each at a seat of its own that may go to a thread of its own, and the merger. Each knows what it
     /// knew: its number, its open transaction with its begin, its kind and its own writes, its pin, what it drew, latched and wrote, and what
-    /// it found. All memory is taken first; where it is refused, the crew is handed back as it was.
+    /// it found; the merger gets the spare frames. All memory is taken first; where it is refused, the crew is handed back as it was.
     pub fn part(
         self,
         alloc: Global,
@@ -41,6 +42,7 @@ impl Crew {
     ) -> Result<(Sessions, Merger), (Crew, OutOfMemory)>
         requires seat { IsSeatOf store.now self.seat }
         requires all { HostsAll self.seat.view }
+        requires spares { AreSpares self.seat.view self.spares.items }
         ensures parted { IfOk result (λ both. IsParted store.now self.seat.view both.0 both.1) }
         ensures merger { IfOk result (λ both. IsMergerOf store.now both.1) }
         ensures ready { IfOk result (λ both. IsCrewOf store.now self → All (IsReady store.now) both.0) }
@@ -50,9 +52,10 @@ impl Crew {
             Ok(passes) => passes,
             Err(_) => return Err((self, OutOfMemory)),
         };
-        match part(alloc, store, self.seat) {
-            Ok((seats, seat)) => Ok((numbered(seats, passes), Merger { seat })),
-            Err((seat, OutOfMemory)) => Err((Crew { seat }, OutOfMemory)),
+        let Crew { seat, spares } = self;
+        match part(alloc, store, seat) {
+            Ok((seats, seat)) => Ok((numbered(seats, passes), Merger { seat, spares })),
+            Err((seat, OutOfMemory)) => Err((Crew { seat, spares }, OutOfMemory)),
         }
     }
 }

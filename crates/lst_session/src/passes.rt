@@ -2,6 +2,7 @@
 ghost use Rattle.std.specs.Prelude.{◌≡◌};
 
 use crate::session::Session;
+use lst_retire::Spares;
 use lst_rule::Seat;
 use std::marker::Model;
 
@@ -36,10 +37,11 @@ impl Sessions {
     }
 }
 
-/// The one merge pass of a store, at a seat that hosts it.
+/// The one merge pass of a store, at a seat that hosts it, with the spare frames.
 #[derive(Drop)]
 pub struct Merger {
     pub seat: Seat,
+    pub spares: Spares,
 }
 
 /// Why sessions were not gathered.

@@ -3,6 +3,7 @@ ghost use Rattle.std.specs.Prelude.{◌≡◌};
 ghost use Rattle.lst_session.specs.Replies as replies;
 
 use lst_calls::{Outcome, WriteRefusal};
+use lst_merge::Merge;
 use lst_model::{Cause, Reply, Row, Time};
 use lst_txn::{BeginFault as BeginRefusal, Idle as NotBegun};
 
@@ -69,6 +70,17 @@ pub(crate) fn commit_reply(answer: Result<Outcome, NotBegun>) -> Reply
         Ok(Outcome::Committed { time }) => Reply::Committed { time },
         Ok(Outcome::Ended { time }) => Reply::Ended { time },
         Err(NotBegun) => refused(Cause::Idle),
+    }
+}
+
+/// The reply to a merge.
+pub(crate) fn merge_reply(answer: Merge) -> Reply
+    ensures { result ≡ replies.merge_reply answer }
+{
+    match answer {
+        Merge::Merged { tps } => Reply::Merged { tps },
+        Merge::Idle { tps } => Reply::NothingNew { tps },
+        Merge::NoFrame { session } => Reply::NoFrame { session },
     }
 }
 

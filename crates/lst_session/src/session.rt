@@ -6,10 +6,12 @@ ghost use Rattle.lst_rule.specs.Rule.{knows, hosts};
 ghost use Rattle.lst_session.specs.Calls.{Begins, IsAhead, Gets, Accepts, Refuses, Cause, Commits, Ends, FindsHeld};
 ghost use Rattle.lst_session.specs.Passes.{IsReady};
 
-use lst_calls::{CommitRefusal, Outcome, WriteRefusal, change, end, insert, read};
+use lst_calls::{
+    CommitRefusal, Outcome, WriteRefusal, abort, as_of, begin, change, end, insert, read,
+};
 use lst_model::{Act, Key, Patch, Row, Time};
 use lst_rule::{Seat, Store};
-use lst_txn::{BeginFault as BeginRefusal, Idle as NotBegun, as_of, begin, close};
+use lst_txn::{BeginFault as BeginRefusal, Idle as NotBegun};
 
 /// A session at a seat that hosts it, by its number. It may go to another thread.
 ///
@@ -22,8 +24,9 @@ pub struct Session {
 }
 
 impl Session {
-    /// Begins the next transaction, and answers its begin: a clock that is loaded in this call. Active comes exactly where a transaction is
-    /// open; Spent exactly where none is and the session has begun as many as it may; Future never.
+    /// Begins the next transaction, and answers its begin: a clock that is loaded in this call. Before that the session is pinned, at an epoch
+    /// that is loaded in this call. Active comes exactly where a transaction is open; Spent exactly where none is and the session has begun as
+    /// many as it may; Future never. Where it is refused no pin is set.
     pub fn begin(&mut self, store: &Store) -> Result<Time, BeginRefusal>
         requires ready { IsReady store.now self.old }
         ensures ready { IsReady store.now self.new }
@@ -37,8 +40,8 @@ impl Session {
         begin(store, &mut self.seat, self.number)
     }
 
-    /// Opens a read-only transaction as of a time, which is its begin. Active and Spent come as of `begin`; Future comes exactly where the clock
-    /// that is loaded in this call is below the time.
+    /// Opens a read-only transaction as of a time, which is its begin, with the session pinned. Active and Spent come as of `begin`; Future
+    /// comes exactly where the clock that is loaded in this call is below the time. Where it is refused no pin is set.
     pub fn as_of(&mut self, store: &Store, time: Time) -> Result<Time, BeginRefusal>
         requires ready { IsReady store.now self.old }
         ensures ready { IsReady store.now self.new }
@@ -111,8 +114,9 @@ impl Session {
         change(store, &mut self.seat, self.number, key, &Act::Del)
     }
 
-    /// Commits the transaction, and answers its time; a transaction without writes only ends, and its begin is answered. Idle comes exactly
-    /// where none is open. Busy comes only where the commit word was found held, and never without writes; the transaction stays open then.
+    /// Commits the transaction, and answers its time; a transaction without writes only ends, and its begin is answered. The session's pin is
+    /// taken away. Idle comes exactly where none is open. Busy comes only where the commit word was found held, and never without writes; the
+    /// transaction stays open then, and its session pinned.
     pub fn try_commit(&mut self, store: &Store) -> Result<Outcome, CommitRefusal>
         requires ready { IsReady store.now self.old }
         ensures ready { IsReady store.now self.new }
@@ -129,7 +133,7 @@ impl Session {
         end(store, &mut self.seat, self.number)
     }
 
-    /// Ends the transaction without a commit. It is refused exactly where none is open.
+    /// Ends the transaction without a commit, and takes the session's pin away. It is refused exactly where none is open.
     pub fn abort(&mut self, store: &Store) -> Result<(), NotBegun>
         requires ready { IsReady store.now self.old }
         ensures ready { IsReady store.now self.new }
@@ -137,7 +141,7 @@ impl Session {
         ensures ok { OnOk result (((knows self.old.seat.view self.old.number).is_open ≡ true) × Ends self.old.seat.view self.new.seat.view self.old.number) }
         ensures err { OnErr result (((knows self.old.seat.view self.old.number).is_open ≡ false) × (self.new.seat.view ≡ self.old.seat.view)) }
     {
-        close(store, &mut self.seat, self.number)
+        abort(store, &mut self.seat, self.number)
     }
 
     /// How many commits the session has seen, which is also the time of the last one.

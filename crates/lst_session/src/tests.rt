@@ -102,6 +102,11 @@ fn is_spent(on: &Opened) -> bool {
     on.session.is_spent()
 }
 
+/// The epoch that the session has pinned.
+fn pinned(on: &Opened) -> Option<u64> {
+    on.session.seat.pinned(on.session.number)
+}
+
 #[test]
 fn a_session_reads_what_it_has_written_and_committed(rt: HostRuntime) -> Result<(), Fail> {
     let mut on = open_one(rt.alloc(), 16, 8)?;
@@ -175,5 +180,33 @@ fn full_tables_and_ranges_are_told(rt: HostRuntime) -> Result<(), Fail> {
     assert_eq!(rt; update(&mut on, 255, 11), Err(WriteRefusal::TailFull));
     assert_eq!(rt; get(&mut on, 255), Ok(Some(row(10, 20))));
     assert_eq!(rt; try_commit(&mut on), Ok(Outcome::Committed { time: 1 }));
+    Ok(())
+}
+
+#[test]
+fn a_session_is_pinned_while_its_transaction_is_open(rt: HostRuntime) -> Result<(), Fail> {
+    let mut on = open_one(rt.alloc(), 16, 3)?;
+    assert_eq!(rt; pinned(&on), None);
+    assert_eq!(rt; begin(&mut on), Ok(0));
+    assert_eq!(rt; pinned(&on), Some(0));
+    assert_eq!(rt; begin(&mut on), Err(BeginRefusal::Active));
+    assert_eq!(rt; insert(&mut on, 7, 10, 20), Ok(()));
+    assert_eq!(rt; get(&mut on, 7), Ok(Some(row(10, 20))));
+    assert_eq!(rt; insert(&mut on, 7, 10, 20), Err(WriteRefusal::Exists));
+    assert_eq!(rt; pinned(&on), Some(0));
+    assert_eq!(rt; try_commit(&mut on), Ok(Outcome::Committed { time: 1 }));
+    assert_eq!(rt; pinned(&on), None);
+    assert_eq!(rt; as_of(&mut on, 9), Err(BeginRefusal::Future { clock: 1 }));
+    assert_eq!(rt; pinned(&on), None);
+    assert_eq!(rt; as_of(&mut on, 1), Ok(1));
+    assert_eq!(rt; pinned(&on), Some(0));
+    assert_eq!(rt; abort(&mut on), Ok(()));
+    assert_eq!(rt; pinned(&on), None);
+    assert_eq!(rt; begin(&mut on), Ok(1));
+    assert_eq!(rt; pinned(&on), Some(0));
+    assert_eq!(rt; try_commit(&mut on), Ok(Outcome::Ended { time: 1 }));
+    assert_eq!(rt; pinned(&on), None);
+    assert_eq!(rt; begin(&mut on), Err(BeginRefusal::Spent));
+    assert_eq!(rt; pinned(&on), None);
     Ok(())
 }

@@ -5,6 +5,10 @@ use Rattle.lst_session.specs.Crews.{TellsState}
 use Rattle.lst_session.proofs.Crewed.{crew_view, told_by}
 use Rattle.lst_session.proofs.CrewAnswering.{ChangeIs, change_is}
 use Rattle.lst_session.proofs.Keeping.{crew_on, write_called, never_latched}
+use Rattle.lst_model.specs.declared.lines.Call.TheVariants as lines
+use Rattle.lst_session.specs.Replies.{write_reply}
+use Rattle.lst_session.proofs.Paged.{write_paged}
+use Rattle.lst_session.proofs.Pinned.{write_pinned}
 use Rattle.lst_session.proofs.Promising.{changed, not_changed, changed_idle}
 use Rattle.lst_session.proofs.crew.Crew.delete.Goals as goal
 
@@ -18,12 +22,15 @@ answered : (c : goal.After-change) → TellsState c.args.self.now.seat.view → 
 answered c tells = change_is c.args.self.now.seat.view (crew_view c.args.store.now c.args.self.now c.requires.crew tells) c.args.s c.args.key c.requires.session Del c.consider.ensures c.change.new.seat.view (λ l store s t key. refl) c.change.result c.change.ensures.changes
 
 pub returns-clause-crew : goal.returns-clause-crew
-returns-clause-crew c = crew_on c.args.store.now c.args.self.now c.change.new.seat c.args.s c.requires.crew c.change.ensures.seat
+returns-clause-crew c = crew_on c.args.store.now c.args.self.now c.change.new.seat c.args.s c.requires.crew c.change.ensures.seat c.requires.session
     (write_called c.args.self.now.seat.view c.change.new.seat.view c.args.s c.args.key 0 Del c.change.result (done c) (refused c))
     (changed_idle c.args.self.now.seat.view c.change.new.seat.view c.args.s c.args.key (c.requires.crew.hosted c.args.s c.requires.session) c.consider.ensures c.requires.session Del c.change.result c.change.ensures.changes (c.requires.crew.idle c.args.s c.requires.session))
+    (write_pinned c.args.self.now.seat.view c.change.new.seat.view c.args.s (c.requires.crew.pinned c.args.s c.requires.session) c.args.key 0 Del c.change.result (done c) (refused c))
 
 pub returns-clause-machine : goal.returns-clause-machine
-returns-clause-machine c tells = let is = answered c tells in told_by c.change.new.seat.view (is.crew, record { reply = is.reply; next = is.next; limits = is.limits })
+returns-clause-machine c tells = let is = answered c tells in told_by c.change.new.seat.view
+    (write_paged c.args.self.now.seat.view c.change.new.seat.view c.args.s c.requires.session c.args.key 0 Del (lines.Delete c.args.key) refl (write_reply c.change.result) c.change.result (done c) (refused c))
+    (is.crew, record { reply = is.reply; next = is.next; limits = is.limits })
 
 pub returns-clause-ok : goal.returns-clause-ok
 returns-clause-ok c = done c

@@ -33,7 +33,7 @@ pub returns-clause-session : goal.returns-clause-session
 returns-clause-session c = takes_stock c.args.self.now.seat.view c.history.new.seat.view 0 c.history.ensures.looks
 
 pub returns-clause-told : goal.returns-clause-told
-returns-clause-told c = recount_told c.args.self.now.seat.view c.history.new.seat.view 0 c.history.ensures.looks
+returns-clause-told c = recount_told c.args.self.now.seat.view c.history.new.seat.view 0 c.history.ensures.looks (let some = c.consider.ensures.allowed.sound.sized.sessions.0 in omega arith)
 
 pub returns-clause-tells : goal.returns-clause-tells
 returns-clause-tells c = recount_tells c.args.self.now.seat.view c.history.new.seat.view 0 c.history.ensures.looks
