@@ -3,3 +3,4 @@ mod Matched
 mod LinesFit
 mod Answers
 mod Leaving
+mod Others

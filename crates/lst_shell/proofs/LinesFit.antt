@@ -1,6 +1,6 @@
 -- The lines of a script are lines that the store can take.
-use Rattle.std.proofs.Common.{◌≡◌, ℕ, zero, suc, Bool, true, false, cond, List, [], ◌∷◌, length, Some, ◌⊎◌, inl, inr, sym, ap, subst, arith}
-use Rattle.std.specs.Prelude.{All, find, is_some, bytes_eq}
+use Rattle.std.proofs.Common.{ℕ, zero, suc, List, [], ◌∷◌, length, inl, inr, sym, ap, subst, arith}
+use Rattle.std.specs.Prelude.{All, is_some}
 use Rattle.std.proofs.lemmas.List.Folds.{Any-from_list_any}
 use Rattle.lst_layout.specs.declared.limits.Limits.{Limits}
 use Rattle.lst_model.specs.declared.lines.Line.{Line}
@@ -8,31 +8,12 @@ use Rattle.lst_model.specs.declared.lines.Line.TheVariants as lines
 use Rattle.lst_model.specs.declared.lines.Call.{Call}
 use Rattle.lst_model.specs.declared.lines.Call.TheVariants.{Begin, AsOf, Get, Insert, Update, Delete, Sum, Count, Scan, Find, Commit, Abort}
 use Rattle.lst_model.specs.Lines.{CallFits}
-use Rattle.lst_script.specs.Table.{Form, merge, first_forms, form_named, name_of}
 use Rattle.lst_script.specs.Grammar.{AreArguments, IsLine}
 use Rattle.lst_script.specs.Scripts.{AreScript, IsScript}
 use Rattle.lst_script.specs.Texts.{text_lines, line_words}
 use Rattle.lst_script.proofs.Scanning.{first_cases}
 use Rattle.lst_shell.specs.Answers.{store_limits}
 use Rattle.lst_shell.specs.Runs.{IsTaken}
-
--- a form is in a list
-abbrev Among : Form → List Form → Type 0
-Among form [] = ⊥
-Among form (first ∷ forms) = (first ≡ form) ⊎ Among form forms
-
--- what a word names is in the list
-named : (word : List ℕ) (forms : List Form) (form : Form) → form_named forms word ≡ Some form → Among form forms
-named word [] form same = cc
-named word (first ∷ forms) form same = step (named word forms form) (bytes_eq word (name_of first)) same
-  where
-    step : (find (λ other. bytes_eq word (name_of other)) forms ≡ Some form → Among form forms) → (b : Bool) → cond b (Some first) (find (λ other. bytes_eq word (name_of other)) forms) ≡ Some form → (first ≡ form) ⊎ Among form forms
-    step later true found = inl cc
-    step later false found = inr (later found)
-
-no_merge : ¬ Among merge first_forms
-no_merge (inl same) = cc
-no_merge (inr none) = none
 
 -- a call has the cells and columns of the table
 call_fits : (limits : Limits) (call : Call) (words : List (List ℕ)) → AreArguments limits call words → CallFits limits.columns call
@@ -50,9 +31,9 @@ call_fits limits Commit words are = tt
 call_fits limits Abort words are = tt
 
 line_taken : (words : List (List ℕ)) (line : Line) → IsLine store_limits words line → IsTaken line
-line_taken words lines.Phase is = (tt, tt)
-line_taken words (lines.Merge range column) is = absurd (no_merge (named is.0 first_forms merge is.4))
-line_taken words (lines.Call session call) is = ((is.4, call_fits store_limits call is.5.arguments is.5.are_arguments), tt)
+line_taken words lines.Phase is = tt
+line_taken words (lines.Merge range column) is = (is.6, is.8)
+line_taken words (lines.Call session call) is = (is.4, call_fits store_limits call is.5.arguments is.5.are_arguments)
 
 all_cons : (line : Line) (script : List Line) → IsTaken line → All IsTaken script → All IsTaken (line ∷ script)
 all_cons line script first rest zero d within = first

@@ -2,3 +2,4 @@ pub mod Statuses
 pub mod Answers
 pub mod Runs
 pub mod Lefts
+pub mod Merges

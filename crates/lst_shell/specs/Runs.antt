@@ -9,12 +9,11 @@ use Rattle.lst_rule.specs.declared.view.View.{View}
 use Rattle.lst_rule.specs.declared.store.Store.{Store}
 use Rattle.lst_session.specs.declared.crew.Crew.{Crew}
 use Rattle.lst_session.specs.Crews.{IsCrewOf, TellsState, state_told}
-use Rattle.lst_scan.specs.Lines.{IsNoMerge}
 use Rattle.lst_shell.specs.Answers.{store_limits}
 
 -- a line that the store takes
 abbrev pub IsTaken : Line → Type 0
-IsTaken line = LineFits store_limits.sessions store_limits.ranges store_limits.columns line × IsNoMerge line
+IsTaken line = LineFits store_limits.sessions store_limits.ranges store_limits.columns line
 
 -- the view tells a state from which the answers to the rest make the whole text, and in the end this state
 pub record HasRun (v : View) (text : List ℕ) (rest : List Line) (whole : List ℕ) (last : State) : Type 0 where

@@ -2,9 +2,17 @@
 ghost use Rattle.std.specs.Prelude.{◌≡◌, ℕ, List};
 ghost use Rattle.lst_model.specs.declared.lines.Line.{Line};
 ghost use Rattle.lst_script.specs.Scripts.{IsScript};
-ghost use Rattle.lst_shell.specs.Answers.{store_limits};
+ghost use Rattle.lst_machine.specs.Others.{without_merges};
+ghost use Rattle.lst_shell.specs.Answers.{store_limits, run_text};
+ghost use Rattle.lst_shell.specs.Merges.{other_text};
 
 /// An input is one script at most, so a run has one output alone. The contract is a law; the body does nothing.
 pub fn input_is_one_script()
     ensures { (input : List ℕ) (script other : List Line) → IsScript store_limits input script → IsScript store_limits input other → script ≡ other }
+{}
+
+/// With the merge lines taken out of a script, the output of its run loses exactly the texts of their replies. The contract is a law; the
+/// body does nothing.
+pub fn merges_change_no_other_text()
+    ensures { (script : List Line) → run_text (without_merges script) ≡ other_text script }
 {}

@@ -11,7 +11,7 @@ mod status;
 #[cfg(test)]
 mod tests;
 
-pub use laws::input_is_one_script;
+pub use laws::{input_is_one_script, merges_change_no_other_text};
 use lst_io::{StdSink, StdSource};
 use lst_model::OutOfMemory;
 use messages::report;

@@ -150,6 +150,12 @@ const REPORT: &str =
 const REPORT_REPLIES: &str =
     "0 begun 0\n0 ok\n0 ok\n0 ok\n0 committed 1\n3 begun 1\n3 count 3\n3 sum 750\n1 begun 1\n1 ok\n1 ok\n1 sum 1700\n1 ok\n1 committed 2\n3 sum 750\n3 rows 1:250,2 2:400,1 3:100,5\n3 ended 1\n2 begun 2\n2 count 3\n2 sum 1300\n2 rows 1:300,2 3:100,5 4:900,3\n2 refused noindex\n2 ended 2\n2 refused idle\n";
 
+const LINEAGE: &str =
+    "# Two rows, committed at time 1, and a report that stays at that time.\n0 begin\n0 insert 7 10 1\n0 insert 9 30 1\n0 commit\n1 asof 1\n# A commit at time 2, a write that is given up, and one that stays open.\n0 begin\n0 update 7 11 _\n0 commit\n3 begin\n3 insert 4 50 1\n3 abort\n2 begin\n2 update 9 35 _\n# The merge takes the tail records 1 to 4. The fifth is unfinished.\nmerge 0 0\nmerge 0 0\n# The report still reads its own time; who begins now reads the newest.\n1 get 7\n0 begin\n0 get 7\n# Once the open write is committed there is something to merge again.\n2 commit\nmerge 0 0\n";
+
+const LINEAGE_REPLIES: &str =
+    "0 begun 0\n0 ok\n0 ok\n0 committed 1\n1 begun 1\n0 begun 1\n0 ok\n0 committed 2\n3 begun 2\n3 ok\n3 aborted\n2 begun 2\n2 ok\nmerged 4\nidle 4\n1 row 10 1\n0 begun 2\n0 row 11 1\n2 committed 3\nmerged 5\n";
+
 #[test]
 fn each_line_is_answered(rt: HostRuntime) -> Result<(), Fail> {
     let alloc = rt.alloc();
@@ -232,6 +238,35 @@ fn scans_are_answered(rt: HostRuntime) -> Result<(), Fail> {
 }
 
 #[test]
+fn merges_change_no_other_answer(rt: HostRuntime) -> Result<(), Fail> {
+    let alloc = rt.alloc();
+    answers_after_a_row(
+        &rt,
+        alloc,
+        "merge 0 1\nmerge 0 1\n1 begin\n1 get 7\n",
+        "merged 1\nidle 1\n1 begun 1\n1 row 10 20\n",
+    )?;
+    answers(
+        &rt,
+        alloc,
+        "0 begin\n1 begin\n2 begin\n0 insert 1 1 1\n1 insert 2 2 2\n2 insert 3 3 3\n0 commit\n2 commit\nmerge 0 0\n1 abort\nmerge 0 0\n",
+        "0 begun 0\n1 begun 0\n2 begun 0\n0 ok\n1 ok\n2 ok\n0 committed 1\n2 committed 2\nmerged 1\n1 aborted\nmerged 3\n",
+    )?;
+    answers_after_a_row(
+        &rt,
+        alloc,
+        "1 begin\n0 begin\n0 update 7 11 21\n0 commit\nmerge 0 0\n1 get 7\n0 begin\n0 get 7\n",
+        "1 begun 1\n0 begun 1\n0 ok\n0 committed 2\nmerged 2\n1 row 10 20\n0 begun 2\n0 row 11 21\n",
+    )?;
+    answers(
+        &rt,
+        alloc,
+        "0 begin\n0 insert 1001 40 250\n0 insert 1002 15 900\n0 insert 1003 8 1200\n0 commit\n2 begin\n2 sum 0\n1 begin\n1 update 1002 14 _\n1 update 1003 6 _\n1 commit\nmerge 0 0\nmerge 0 1\n2 sum 0\n2 commit\n2 begin\n2 sum 0\n2 scan\n2 commit\n",
+        "0 begun 0\n0 ok\n0 ok\n0 ok\n0 committed 1\n2 begun 1\n2 sum 63\n1 begun 1\n1 ok\n1 ok\n1 committed 2\nmerged 5\nmerged 5\n2 sum 63\n2 ended 1\n2 begun 2\n2 sum 60\n2 rows 1001:40,250 1002:14,900 1003:6,1200\n2 ended 2\n",
+    )
+}
+
+#[test]
 fn the_first_faulty_line_is_named(rt: HostRuntime) -> Result<(), Fail> {
     let alloc = rt.alloc();
     stops(
@@ -277,10 +312,10 @@ fn the_first_faulty_line_is_named(rt: HostRuntime) -> Result<(), Fail> {
     stops(
         &rt,
         alloc,
-        "merge 0 0\n",
+        "merge 4 0\n",
         1,
-        FaultKind::UnknownWord,
-        "lstore: line 1: unknown word\n",
+        FaultKind::BadRange,
+        "lstore: line 1: no such range\n",
     )?;
     let long = vec![in alloc; b'a'; 1_025]?;
     let status = Status::BadScript {
@@ -349,6 +384,11 @@ fn accounts_are_answered_as_the_guide_says(rt: HostRuntime) -> Result<(), Fail> 
 #[test]
 fn a_report_is_answered_as_the_guide_says(rt: HostRuntime) -> Result<(), Fail> {
     answers(&rt, rt.alloc(), REPORT, REPORT_REPLIES)
+}
+
+#[test]
+fn merges_are_answered_as_the_guide_says(rt: HostRuntime) -> Result<(), Fail> {
+    answers(&rt, rt.alloc(), LINEAGE, LINEAGE_REPLIES)
 }
 
 #[test]
