@@ -9,6 +9,8 @@
 #![tactic(auto)]
 
 mod calls;
+#[cfg(test)]
+mod drawn_tests;
 mod engine;
 mod holder;
 mod lineage;
