@@ -9,5 +9,3 @@ pub mod Transactions
 pub mod Changes
 pub mod Scans
 pub mod Listings
-pub mod Parts
-pub mod Machines

@@ -9,8 +9,6 @@
 #![tactic(auto)]
 
 mod calls;
-#[cfg(test)]
-mod drawn_tests;
 mod engine;
 mod holder;
 mod lineage;

@@ -12,7 +12,7 @@ use std::alloc::Global;
 use std::process::Abort;
 use std::test::Fail;
 
-pub(crate) fn row(first: u64, second: u64) -> Row {
+fn row(first: u64, second: u64) -> Row {
     let mut cells = ArrayVec::new();
     cells.push(first);
     cells.push(second);
@@ -101,7 +101,7 @@ fn keys(alloc: Global, found: &[Key]) -> Result<Reply, Fail> {
 }
 
 /// Whether a call is of one of the sessions, and of the columns.
-pub(crate) fn fits(limits: &Limits, session: u32, call: &Call) -> bool
+fn fits(limits: &Limits, session: u32, call: &Call) -> bool
     ensures { IsTrue result → (session < limits.now.sessions) × CallFits limits.now.columns call.now }
 {
     if session >= limits.sessions {
