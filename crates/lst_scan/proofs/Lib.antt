@@ -9,4 +9,5 @@ pub mod Putting
 pub mod Leaving
 pub mod Replying
 pub mod Indexes
+pub mod Naming
 pub mod Lining
