@@ -9,5 +9,4 @@ pub mod Putting
 pub mod Leaving
 pub mod Replying
 pub mod Indexes
-pub mod Naming
 pub mod Lining

@@ -1,6 +1,6 @@
 //! The keys of the rows that have a number in a column.
-ghost use Rattle.std.specs.Prelude.{◌≡◌, ◌<◌, true, false, IfOk, IfErr, map};
-ghost use Rattle.std.specs.List.{All};
+ghost use Rattle.std.specs.Prelude.{◌≡◌, ◌<◌, ℕ, true, IfOk, IfErr, map};
+ghost use Rattle.std.specs.List.{All, Contains};
 ghost use Rattle.lst_model.specs.Tables.{find_of};
 ghost use Rattle.lst_machine.specs.Calls.{is_indexed};
 ghost use Rattle.lst_core_state.specs.Cells.{record_count};
@@ -13,7 +13,6 @@ ghost use Rattle.lst_scan.specs.Finds.{IsRefused};
 use crate::records::entry_with;
 use lst_model::{Key, KeyList, OutOfMemory, Row};
 use lst_rule::{RecordId, Seat, Store};
-use lst_second::{CandidateFault, RecordList, candidates};
 use std::alloc::Global;
 use std::collections::BTreeMap;
 
@@ -24,8 +23,8 @@ pub enum FindRefusal {
     OutOfMemory,
 }
 
-/// The keys, rising, of the rows that the open transaction sees with this number in the column, by its index: of each record that the index
-/// names the row is looked at.
+/// The keys, rising, of the rows that the open transaction sees with this number in the column, by its index. For now each record of the
+/// store is looked at.
 pub(crate) fn find(
     alloc: Global,
     store: &Store,
@@ -36,45 +35,59 @@ pub(crate) fn find(
 ) -> Result<KeyList, FindRefusal>
     requires reader { IsReader store.now seat.old s }
     requires free { (knows seat.old.view s).placing.hand ≡ 0 }
-    requires no_tail { (knows seat.old.view s).hold.is_whole ≡ false }
     requires column { column < store.now.layout.limits.columns }
     ensures reader { IsReader store.now seat.new s }
     ensures watched { Watched seat.old.view seat.new.view s }
     ensures keys { IfOk result (λ keys. (is_indexed store.now.layout.limits column ≡ true) × (keys ≡ find_of (table_seen (knows seat.old.view s)) column number)) }
     ensures refusal { IfErr result (λ refusal. IsRefused store.now.layout.limits seat.old seat.new column refusal) }
 {
-    let records = candidates_by_index(alloc, store, seat, s, column, number)?;
-    match find_among(alloc, store, seat, s, column, number, records.as_slice()) {
+    if !has_index(store, column) {
+        return Err(FindRefusal::NotIndexed);
+    }
+    match find_in_all(alloc, store, seat, s, column, number) {
         Ok(keys) => Ok(keys),
         Err(OutOfMemory) => Err(FindRefusal::OutOfMemory),
     }
 }
 
-/// The records that the column's index names for the number.
-fn candidates_by_index(
+/// Whether the layout names an index on the column.
+fn has_index(store: &Store, column: u32) -> bool
+    requires { column < store.now.layout.limits.columns }
+    ensures { result ≡ is_indexed store.now.layout.limits column }
+{
+    store.layout().limits.is_indexed(column)
+}
+
+/// The same keys, among all records.
+fn find_in_all(
     alloc: Global,
     store: &Store,
     seat: &mut Seat,
     s: u32,
     column: u32,
     number: u64,
-) -> Result<RecordList, FindRefusal>
+) -> Result<KeyList, OutOfMemory>
     requires reader { IsReader store.now seat.old s }
-    requires no_tail { (knows seat.old.view s).hold.is_whole ≡ false }
-    requires column { column < store.now.layout.limits.columns }
+    requires free { (knows seat.old.view s).placing.hand ≡ 0 }
     ensures reader { IsReader store.now seat.new s }
     ensures watched { Watched seat.old.view seat.new.view s }
-    ensures same { table_seen (knows seat.new.view s) ≡ table_seen (knows seat.old.view s) }
-    ensures indexed { IfOk result (λ records. is_indexed store.now.layout.limits column ≡ true) }
-    ensures low { IfOk result (λ records. All (λ rec. rec.number < record_count store.now.layout.limits) records) }
-    ensures candidates { IfOk result (λ records. AreCandidates (knows seat.new.view s) column number records) }
-    ensures refusal { IfErr result (λ refusal. IsRefused store.now.layout.limits seat.old seat.new column refusal) }
+    ensures keys { IfOk result (λ keys. keys ≡ find_of (table_seen (knows seat.old.view s)) column number) }
 {
-    match candidates(alloc, store, seat, s, column, number) {
-        Ok(records) => Ok(records),
-        Err(CandidateFault::NotIndexed) => Err(FindRefusal::NotIndexed),
-        Err(CandidateFault::OutOfMemory) => Err(FindRefusal::OutOfMemory),
+    let records = all_records(alloc, store)?;
+    seat.consider();
+    find_among(alloc, store, seat, s, column, number, &records)
+}
+
+/// All records of the store.
+fn all_records(alloc: Global, store: &Store) -> Result<Vec<RecordId>, OutOfMemory>
+    ensures low { IfOk result (λ list. All (λ rec. rec.number < record_count store.now.layout.limits) list.items) }
+    ensures all { IfOk result (λ list. (rec : ℕ) → rec < record_count store.now.layout.limits → Contains list.items record { number = rec }) }
+{
+    let mut records = Vec::new(alloc);
+    for number in 0..256 * store.layout().limits.ranges {
+        records.push(RecordId { number })?;
     }
+    Ok(records)
 }
 
 /// The keys, rising, of the rows that the open transaction sees with this number in the column, where the records of all these are among

@@ -1,5 +1,4 @@
-//! Scans: sums, counts and lists over all rows that a session's open transaction sees, record by record; and finds, on the records that a
-//! column's index names.
+//! Scans: sums, counts and lists over all rows that a session's open transaction sees, record by record.
 //!
 //! A record has at most one key, and a key at most one record. So the rows of a range of records are a part of the table, and the answers over
 //! parts add up to that over the whole.

@@ -1,6 +1,6 @@
 //! The scans as they are called: by a reader, at the seat that it was lent. Whatever other sessions do meanwhile, an answer is that of the
 //! table which the open transaction sees. A scan leaves of what the session knows what a read leaves.
-ghost use Rattle.std.specs.Prelude.{◌≡◌, ℕ, ◌*◌, ◌<◌, ◌≤◌, true, false, IfOk, IfErr};
+ghost use Rattle.std.specs.Prelude.{◌≡◌, ℕ, ◌*◌, ◌<◌, ◌≤◌, true, IfOk, IfErr};
 ghost use Rattle.std.specs.List.{All};
 ghost use Rattle.lst_model.specs.Tables.{sum_of, count_of, scan_of, find_of};
 ghost use Rattle.lst_machine.specs.Calls.{is_indexed};
@@ -96,8 +96,8 @@ pub fn find_among(
 }
 
 /// The keys, rising, of the rows with this number in the column. NotIndexed comes exactly where the layout names no index on the column, and
-/// then nothing is looked at; for want of memory only looks were made. The find looks at those records alone that the index names, at each
-/// once. The session has neither a record nor a whole tail in hand; between its calls it never has.
+/// then nothing is looked at; for want of memory only looks were made. For now the find looks at each record of the store, and not at those
+/// alone that the index names. The session has no record in hand.
 pub fn find(
     alloc: Global,
     store: &Store,
@@ -107,7 +107,6 @@ pub fn find(
 ) -> Result<KeyList, FindRefusal>
     requires reader { IsReader store.now reader.old.seat.now reader.old.s }
     requires free { (knows reader.old.seat.now.view reader.old.s).placing.hand ≡ 0 }
-    requires no_tail { (knows reader.old.seat.now.view reader.old.s).hold.is_whole ≡ false }
     requires column { column < store.now.layout.limits.columns }
     ensures reader { IsReader store.now reader.new.seat.now reader.new.s }
     ensures session { reader.new.s ≡ reader.old.s }

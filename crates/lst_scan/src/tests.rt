@@ -5,7 +5,7 @@ ghost use Rattle.lst_model.specs.Lines.{CallFits, IsPatch};
 ghost use Rattle.lst_session.specs.Passes.{IsReady};
 ghost use Rattle.lst_session.specs.Crews.{IsCrewOf};
 
-use crate::{FindRefusal, count, crew_line, find, find_among, rows, sum, sum_part};
+use crate::{count, crew_line, find_among, rows, sum, sum_part};
 use arrayvec::ArrayVec;
 use lst_layout::Limits;
 use lst_model::{Call, Cause, Key, KeyList, Line, OutOfMemory, Patch, Reply, Row, RowList, Time};
@@ -26,7 +26,7 @@ struct Opened {
     ghost own: { IsReady store session × (store.layout.limits.columns ≡ 2) × (store.layout.limits.ranges ≡ 2) },
 }
 
-/// The store has room for so many writes to each range, and its second column has an index.
+/// The store has room for so many writes to each range.
 fn open_one(alloc: Global, tails: u32) -> Result<Opened, Fail> {
     let limits = Limits {
         columns: 2,
@@ -35,7 +35,7 @@ fn open_one(alloc: Global, tails: u32) -> Result<Opened, Fail> {
         sessions: 2,
         txns: 8,
         spare: 1,
-        indexed: 2,
+        indexed: 0,
     };
     let Ok(layout) = limits.check() else {
         return Err(Fail::from("the limits are in range"));
@@ -180,23 +180,6 @@ fn found(
     Ok(Some(find_among(alloc, &on.store, &mut reader, 0, number, &records)))
 }
 
-/// The keys of the rows that have this number in the second column, by its index.
-fn found_by_index(
-    alloc: Global,
-    on: &mut Opened,
-    number: u64,
-) -> Option<Result<KeyList, FindRefusal>> {
-    if on.session.is_idle() {
-        return None;
-    }
-    let s = on.session.number;
-    let mut reader = Reader {
-        seat: &mut on.session.seat,
-        s,
-    };
-    Some(find(alloc, &on.store, &mut reader, 1, number))
-}
-
 #[test]
 fn own_writes_nulls_and_deletes_are_scanned(rt: HostRuntime) -> Result<(), Fail> {
     let mut on = open_one(rt.alloc(), 16)?;
@@ -245,34 +228,6 @@ fn rows_with_a_number_are_found(rt: HostRuntime) -> Result<(), Fail> {
         found(rt.alloc(), &mut on, 31)?,
         Some(Ok(KeyList::new(rt.alloc())))
     );
-    Ok(())
-}
-
-#[test]
-fn rows_of_the_past_are_found_by_the_index(rt: HostRuntime) -> Result<(), Fail> {
-    let alloc = rt.alloc();
-    let mut on = open_one(alloc, 16)?;
-    assert_eq!(rt; begin(&mut on), Ok(0));
-    assert_eq!(rt; put(&mut on, 9, Some(30), Some(20)), Ok(()));
-    assert_eq!(rt; put(&mut on, 7, Some(20), Some(0)), Ok(()));
-    assert_eq!(rt; put(&mut on, 5, None, Some(20)), Ok(()));
-    let both = KeyList::from_items(vec![in alloc; 5, 9]?);
-    assert_eq!(rt; found_by_index(alloc, &mut on, 20), Some(Ok(both)));
-    assert_eq!(rt; try_commit(&mut on), Ok(Outcome::Committed { time: 1 }));
-    assert_eq!(rt; begin(&mut on), Ok(1));
-    assert_eq!(rt; empty(&mut on, 9), Ok(()));
-    assert_eq!(rt; delete(&mut on, 5), Ok(()));
-    assert_eq!(rt;
-        found_by_index(alloc, &mut on, 20),
-        Some(Ok(KeyList::new(alloc)))
-    );
-    // The number 0 is found, and the row with a null in its place isn't.
-    let zero = KeyList::from_items(vec![in alloc; 7]?);
-    assert_eq!(rt; found_by_index(alloc, &mut on, 0), Some(Ok(zero)));
-    assert_eq!(rt; try_commit(&mut on), Ok(Outcome::Committed { time: 2 }));
-    assert_eq!(rt; as_of(&mut on, 1), Ok(1));
-    let both = KeyList::from_items(vec![in alloc; 5, 9]?);
-    assert_eq!(rt; found_by_index(alloc, &mut on, 20), Some(Ok(both)));
     Ok(())
 }
 
@@ -348,8 +303,8 @@ struct Crewed {
     ghost own: { IsCrewOf store crew × (store.layout.limits.columns ≡ 2) × (store.layout.limits.sessions ≡ 2) },
 }
 
-/// Bit c of the mask says whether column c has an index.
-fn open_both(alloc: Global, indexed: u8) -> Result<Crewed, Fail> {
+/// The first column has an index, or none has.
+fn open_both(alloc: Global, is_indexed: bool) -> Result<Crewed, Fail> {
     let limits = Limits {
         columns: 2,
         ranges: 1,
@@ -357,7 +312,7 @@ fn open_both(alloc: Global, indexed: u8) -> Result<Crewed, Fail> {
         sessions: 2,
         txns: 8,
         spare: 1,
-        indexed,
+        indexed: u8::from(is_indexed),
     };
     let Ok(layout) = limits.check() else {
         return Err(Fail::from("the limits are in range"));
@@ -406,7 +361,7 @@ fn total_of(on: &mut Crewed, s: u32) -> Option<u128>
 
 #[test]
 fn sessions_scan_what_each_sees(rt: HostRuntime) -> Result<(), Fail> {
-    let mut on = open_both(rt.alloc(), 0)?;
+    let mut on = open_both(rt.alloc(), false)?;
     assert_eq!(rt; begin_of(&mut on, 0), Ok(0));
     assert_eq!(rt; begin_of(&mut on, 1), Ok(0));
     assert_eq!(rt; put_by(&mut on, 0, 7, 20), Ok(()));
@@ -455,7 +410,7 @@ fn put_two(rt: &(impl Abort + AllocGlobal), on: &mut Crewed) -> Result<(), Fail>
 #[test]
 fn lines_are_answered(rt: HostRuntime) -> Result<(), Fail> {
     let alloc = rt.alloc();
-    let mut on = open_both(alloc, 1)?;
+    let mut on = open_both(alloc, true)?;
     // Whether a transaction is open is asked before the index.
     let find = Call::Find {
         column: 1,
@@ -520,84 +475,5 @@ fn lines_are_answered(rt: HostRuntime) -> Result<(), Fail> {
     };
     let list = KeyList::new(alloc);
     assert_eq!(rt; answer(alloc, &mut on, 1, find), Ok(Reply::Keys { list }));
-    Ok(())
-}
-
-/// The keys that a session's transaction finds with this number in the column.
-fn find_by(
-    alloc: Global,
-    on: &mut Crewed,
-    session: u32,
-    column: u32,
-    value: u64,
-) -> Result<Reply, OutOfMemory>
-    requires session { session < 2 }
-    requires column { column < 2 }
-{
-    answer(alloc, on, session, Call::Find { column, value })
-}
-
-#[test]
-fn two_rows_are_found_by_the_index(rt: HostRuntime) -> Result<(), Fail> {
-    let alloc = rt.alloc();
-    let mut on = open_both(alloc, 2)?;
-    assert_eq!(rt; begin_of(&mut on, 0), Ok(0));
-    assert_eq!(rt; put_by(&mut on, 0, 9, 20), Ok(()));
-    assert_eq!(rt; put_by(&mut on, 0, 7, 20), Ok(()));
-    let list = KeyList::from_items(vec![in alloc; 7, 9]?);
-    assert_eq!(rt; find_by(alloc, &mut on, 0, 1, 20), Ok(Reply::Keys { list }));
-    assert_eq!(rt;
-        find_by(alloc, &mut on, 0, 0, 10),
-        refused(Cause::NotIndexed)
-    );
-    Ok(())
-}
-
-/// Makes the second column this number.
-fn new_second(number: u64) -> Patch
-    ensures { IsPatch 2 result }
-{
-    let mut patch = Patch::of_numbers(ArrayVec::new());
-    patch.push(None);
-    patch.push(Some(Some(number)));
-    patch
-}
-
-#[test]
-fn an_older_snapshot_finds_the_old_number(rt: HostRuntime) -> Result<(), Fail> {
-    let alloc = rt.alloc();
-    let mut on = open_both(alloc, 2)?;
-    assert_eq!(rt; begin_of(&mut on, 0), Ok(0));
-    assert_eq!(rt; put_by(&mut on, 0, 7, 20), Ok(()));
-    assert_eq!(rt; commit_of(&mut on, 0), Ok(Outcome::Committed { time: 1 }));
-    assert_eq!(rt; begin_of(&mut on, 1), Ok(1));
-    assert_eq!(rt; begin_of(&mut on, 0), Ok(1));
-    let update = Call::Update {
-        key: 7,
-        patch: new_second(21),
-    };
-    assert_eq!(rt; answer(alloc, &mut on, 0, update), Ok(Reply::Done));
-    assert_eq!(rt; commit_of(&mut on, 0), Ok(Outcome::Committed { time: 2 }));
-    assert_eq!(rt; begin_of(&mut on, 0), Ok(2));
-    let old = KeyList::from_items(vec![in alloc; 7]?);
-    assert_eq!(rt;
-        find_by(alloc, &mut on, 1, 1, 20),
-        Ok(Reply::Keys { list: old })
-    );
-    let none = KeyList::new(alloc);
-    assert_eq!(rt;
-        find_by(alloc, &mut on, 1, 1, 21),
-        Ok(Reply::Keys { list: none })
-    );
-    let none = KeyList::new(alloc);
-    assert_eq!(rt;
-        find_by(alloc, &mut on, 0, 1, 20),
-        Ok(Reply::Keys { list: none })
-    );
-    let new = KeyList::from_items(vec![in alloc; 7]?);
-    assert_eq!(rt;
-        find_by(alloc, &mut on, 0, 1, 21),
-        Ok(Reply::Keys { list: new })
-    );
     Ok(())
 }

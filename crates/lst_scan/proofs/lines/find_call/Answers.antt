@@ -1,13 +1,9 @@
 use Rattle.std.proofs.Common.{sym, subst, ap, ◌∙◌}
 use Rattle.lst_layout.specs.declared.limits.Limits.{Limits}
 use Rattle.lst_machine.specs.Calls.{is_indexed}
-use Rattle.lst_core_state.specs.declared.known.Hold.{Hold}
 use Rattle.lst_scan.specs.Finds.{IsRefused}
 use Rattle.lst_scan.proofs.Lining.{crew_still, has_scanned, state_still, find_told}
 use Rattle.lst_scan.proofs.lines.find_call.Goals as goal
-
-pub find-requires-clause-no_tail : goal.find-requires-clause-no_tail
-find-requires-clause-no_tail c = ap (λ (h : Hold). h.is_whole) (c.requires.crew.idle c.args.s c.requires.session).hold
 
 pub returns-in-Ok-clause-crew : goal.returns-in-Ok-clause-crew
 returns-in-Ok-clause-crew c = crew_still c.args.store.now c.args.crew.now c.find.new.seat c.args.s c.requires.crew c.find.ensures.reader.seat_of c.requires.session (sym c.is_open.ensures ∙ c.if-not-is_open.false) c.find.ensures.watched
