@@ -10,3 +10,4 @@ pub mod Leaving
 pub mod Replying
 pub mod Indexes
 pub mod Lining
+pub mod Sessioning

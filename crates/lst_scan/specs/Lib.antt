@@ -4,3 +4,4 @@ pub mod Leavings
 pub mod Replies
 pub mod Finds
 pub mod Lines
+pub mod Sessions

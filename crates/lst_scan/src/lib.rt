@@ -10,6 +10,7 @@ mod lines;
 mod lists;
 mod readers;
 mod records;
+mod sessions;
 mod sums;
 #[cfg(test)]
 mod tests;
@@ -20,3 +21,4 @@ pub use laws::{
 };
 pub use lines::crew_line;
 pub use readers::{count, find, find_among, rows, sum, sum_part};
+pub use sessions::session_line;

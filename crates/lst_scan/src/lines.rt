@@ -46,7 +46,8 @@ pub fn crew_line(
     }
 }
 
-fn idle() -> Reply
+/// The reply to a call while no transaction is open.
+pub(crate) fn idle() -> Reply
     ensures { result ≡ Reply.Refused Cause.Idle }
 {
     Reply::Refused { cause: Cause::Idle }

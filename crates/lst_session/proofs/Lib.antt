@@ -31,3 +31,4 @@ pub mod Recounting
 pub mod Parting
 pub mod Gathering
 pub mod Telling
+pub mod Waiting
