@@ -10,4 +10,3 @@ pub mod Leaving
 pub mod Replying
 pub mod Indexes
 pub mod Lining
-pub mod Sessioning

@@ -4,4 +4,3 @@ pub mod Leavings
 pub mod Replies
 pub mod Finds
 pub mod Lines
-pub mod Sessions

@@ -10,7 +10,6 @@ mod lines;
 mod lists;
 mod readers;
 mod records;
-mod sessions;
 mod sums;
 #[cfg(test)]
 mod tests;
@@ -21,4 +20,3 @@ pub use laws::{
 };
 pub use lines::crew_line;
 pub use readers::{count, find, find_among, rows, sum, sum_part};
-pub use sessions::session_line;

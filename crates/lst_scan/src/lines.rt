@@ -46,8 +46,7 @@ pub fn crew_line(
     }
 }
 
-/// The reply to a call while no transaction is open.
-pub(crate) fn idle() -> Reply
+fn idle() -> Reply
     ensures { result ≡ Reply.Refused Cause.Idle }
 {
     Reply::Refused { cause: Cause::Idle }

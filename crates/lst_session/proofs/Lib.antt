@@ -31,4 +31,3 @@ pub mod Recounting
 pub mod Parting
 pub mod Gathering
 pub mod Telling
-pub mod Waiting

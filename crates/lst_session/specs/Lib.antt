@@ -6,4 +6,3 @@ pub mod Parting
 pub mod Replies
 pub mod Lines
 pub mod Lending
-pub mod Waits

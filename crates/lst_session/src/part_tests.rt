@@ -5,8 +5,8 @@ ghost use Rattle.lst_session.specs.Parting.{IsMergerOf};
 ghost use Rattle.lst_session.specs.Passes.{IsReady};
 
 use crate::{
-    CommitLock, CommitRefusal, Crew, GatherCause, Merge, Merger, NotBegun, Outcome, Session,
-    Sessions, WriteRefusal, gather, next_phase, open_crew,
+    CommitRefusal, Crew, GatherCause, Merge, Merger, Outcome, Session, Sessions, WriteRefusal,
+    gather, next_phase, open_crew,
 };
 use arrayvec::ArrayVec;
 use lst_layout::Limits;
@@ -15,9 +15,7 @@ use lst_rule::Store;
 use lst_txn::take_turn;
 use std::alloc::Global;
 use std::process::Abort;
-use std::sync::Wait;
 use std::test::Fail;
-use std::thread::{Threads, join_mut};
 
 /// One range, with 300 tails, and three sessions.
 const SMALL: Limits = Limits {
@@ -418,115 +416,5 @@ fn a_merger_merges_while_sessions_go_on(rt: HostRuntime) -> Result<(), Fail> {
         crew_merged(&rt, &store, &mut crew, 1),
         Merge::Merged { tps: 1 }
     );
-    Ok(())
-}
-
-/// Whether a row is put and committed in a transaction of its own.
-fn commits<R: Wait>(
-    rt: &R,
-    store: &Store,
-    session: &mut Session,
-    lock: &CommitLock,
-    key: Key,
-) -> bool
-    requires { IsReady store.now session.old }
-    ensures { IsReady store.now session.new }
-{
-    if session.begin(store).is_err() {
-        return false;
-    }
-    let row = row(key, key);
-    if row.len() != session.seat.limits().columns as usize {
-        return false;
-    }
-    if session.insert(store, key, &row).is_err() {
-        return false;
-    }
-    matches!(
-        session.commit(rt, store, lock),
-        Ok(Outcome::Committed { time: _ })
-    )
-}
-
-/// Whether four rows are, one after another.
-fn commits_four<R: Wait>(
-    rt: &R,
-    store: &Store,
-    session: &mut Session,
-    lock: &CommitLock,
-    keys: [Key; 4],
-) -> bool
-    requires { IsReady store.now session.old }
-    ensures { IsReady store.now session.new }
-{
-    let [one, two, three, four] = keys;
-    if !commits(rt, store, session, lock, one) {
-        return false;
-    }
-    if !commits(rt, store, session, lock, two) {
-        return false;
-    }
-    if !commits(rt, store, session, lock, three) {
-        return false;
-    }
-    commits(rt, store, session, lock, four)
-}
-
-/// Two sessions commit beside each other, in two threads, by one lock. Whether each committed all that it put.
-fn commit_beside<R: Threads + Wait + Sync>(
-    rt: &R,
-    store: &Store,
-    first: &mut Session,
-    second: &mut Session,
-    one: &mut bool,
-    other: &mut bool,
-)
-    requires first { IsReady store.now first.old }
-    requires second { IsReady store.now second.old }
-    ensures first { IsReady store.now first.new }
-    ensures second { IsReady store.now second.new }
-{
-    let lock = &CommitLock::new();
-    join_mut(
-        rt,
-        &mut || {
-            *one = commits_four(rt, store, first, lock, [1, 2, 3, 4]);
-        },
-        &mut || {
-            *other = commits_four(rt, store, second, lock, [5, 6, 7, 8]);
-        },
-    );
-}
-
-#[test]
-fn two_passes_commit_by_one_lock(rt: HostRuntime) -> Result<(), Fail> {
-    let alloc = rt.alloc();
-    let (store, crew) = opened(alloc)?;
-    let (mut first, mut second, third, _) = parted(alloc, &store, crew)?;
-    let mut one = false;
-    let mut other = false;
-    commit_beside(&rt, &store, &mut first, &mut second, &mut one, &mut other);
-    assert!(rt; one && other);
-    // Each commit has a time of its own.
-    let mut sessions = listed(alloc, &store, first, second, third)?;
-    next_phase(&store, &mut sessions);
-    let (first, second, third) = three(&store, sessions)?;
-    assert_eq!(rt; (first.seen(), second.seen(), third.seen()), (8, 8, 8));
-    Ok(())
-}
-
-#[test]
-fn a_commit_that_may_wait_ends_what_has_no_writes(rt: HostRuntime) -> Result<(), Fail> {
-    let alloc = rt.alloc();
-    let (store, crew) = opened(alloc)?;
-    let (mut first, _, _, _) = parted(alloc, &store, crew)?;
-    let lock = CommitLock::new();
-    assert_eq!(rt; first.commit(&rt, &store, &lock), Err(NotBegun));
-    assert_eq!(rt; first.begin(&store), Ok(0));
-    assert_eq!(rt;
-        first.commit(&rt, &store, &lock),
-        Ok(Outcome::Ended { time: 0 })
-    );
-    assert_eq!(rt; first.commit(&rt, &store, &lock), Err(NotBegun));
     Ok(())
 }

@@ -63,7 +63,7 @@ pub(crate) fn write_reply(answer: Result<(), WriteRefusal>) -> Reply
 }
 
 /// The reply to a commit.
-pub fn commit_reply(answer: Result<Outcome, NotBegun>) -> Reply
+pub(crate) fn commit_reply(answer: Result<Outcome, NotBegun>) -> Reply
     ensures { result ≡ replies.commit_reply answer }
 {
     match answer {
