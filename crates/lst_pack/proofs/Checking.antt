@@ -1,5 +1,5 @@
 -- The first word names the form, and words in a form stand for a list of values.
-use Rattle.std.proofs.Common.{◌≡◌, ℕ, zero, suc, ◌+◌, ◌*◌, ◌/◌, ◌%◌, ◌<◌, ◌≤◌, List, [], ◌∷◌, length, slice_index, refl, ap, arith, subst, sym, ◌∙◌}
+use Rattle.std.proofs.Common.{◌≡◌, ℕ, zero, suc, ◌+◌, ◌/◌, ◌%◌, ◌<◌, ◌≤◌, List, [], ◌∷◌, length, slice_index, refl, ap, arith, subst, sym, ◌∙◌}
 use Rattle.lst_pack.specs.declared.forms.Form.{Form}
 use Rattle.lst_pack.specs.declared.forms.Form.TheVariants.{Constant, Dictionary, Runs, Reference, Plain}
 use Rattle.lst_pack.specs.Forms.{form_word, form_words, run_value, run_end, AreRuns, HasForm, StandsAt, PacksAs, IsPacked}

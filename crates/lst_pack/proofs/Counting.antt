@@ -1,8 +1,8 @@
 -- How the counts grow from one place to the next.
-use Rattle.std.proofs.Common.{◌≡◌, ◌≢◌, ℕ, zero, suc, ◌+◌, ◌-◌, ◌<◌, ◌≤◌, ◌⊎◌, ⊎_elim, List, slice_index, refl, ap, arith, subst, sym, ◌∙◌, add-one, eq-eqb, ne_eqb, cond, nat_eq, true, false}
+use Rattle.std.proofs.Common.{◌≡◌, ◌≢◌, ℕ, zero, suc, ◌+◌, ◌-◌, ◌<◌, ◌≤◌, ◌⊎◌, ⊎_elim, List, slice_index, refl, ap, arith, subst, sym, ◌∙◌, add-one, eq-eqb, ne_eqb, cond, nat_eq, true, false, length, slice_set, get_or-set_same, get_or-set_other}
 use mathlib.Core.Logic.{dite}
 use native.Mathlib.Decide.{dec_lt, ℕ_discrete}
-use Rattle.lst_pack.specs.Counts.{begins, runs_below, IsKnown, IsNew, StandsBelow, Rises, AreKnown, IsLeast, IsGreatest}
+use Rattle.lst_pack.specs.Counts.{begins, runs_below, IsKnown, IsNew, StandsBelow, Rises, AreKnown, AreRecent, IsLeast, IsGreatest}
 
 pub runs_next : (values : List ℕ) (place : ℕ) → runs_below values (place + 1) ≡ runs_below values place + begins values place
 unfolding runs_below
@@ -56,6 +56,24 @@ known_learnt values place known later count more are few within rises new kept o
   all = λ _ before low. dite (dec_lt before place) (λ (h : before < place). kept _ (are.all few before h))
       (λ past. let e : place ≡ before = omega (arith, past) in subst (λ (n : ℕ). IsKnown later more (slice_index values n)) e new);
 }
+
+-- the recent values are known at first, and stay known as one more is learnt, which takes a spot
+pub recent_first : (values : List ℕ) (known : List ℕ) → (recent : List ℕ) → slice_index known 0 ≡ slice_index values 0 → ((spot : ℕ) → spot < 128 → slice_index recent spot ≡ slice_index values 0) → AreRecent known 1 recent
+recent_first values known recent is same spot low = (0, omega arith, is ∙ sym (same spot low))
+
+pub recent_learnt : (known later recent : List ℕ) (count more spot value : ℕ) → spot < length recent → AreRecent known count recent → IsKnown later more value → ((other : ℕ) → IsKnown known count other → IsKnown later more other) → AreRecent later more (slice_set recent spot value)
+recent_learnt known later recent count more spot value low are here kept other short = dite (ℕ_discrete other spot)
+    (λ e. subst (λ (n : ℕ). IsKnown later more n) (sym (ap (slice_index (slice_set recent spot value)) e ∙ get_or-set_same recent spot value 0 low)) here)
+    (λ ne. subst (λ (n : ℕ). IsKnown later more n) (sym (get_or-set_other recent spot other value 0 ne)) (kept _ (are other short)))
+
+-- a value that is at a place among rising ones stands above those before it
+pub near_below : (known : List ℕ) (count near value : ℕ) → Rises known count → near < count → slice_index known near ≡ value → (code : ℕ) → code < near → slice_index known code < value
+near_below known count near value rises low is code before = let r = rises code near before low in omega arith
+
+pub near_from : (known : List ℕ) (count near value : ℕ) → Rises known count → near < count → slice_index known near ≡ value → (code : ℕ) → near ≤ code → code < count → value ≤ slice_index known code
+near_from known count near value rises low is code from short = dite (ℕ_discrete near code)
+    (λ e. let same : slice_index known near ≡ slice_index known code = ap (slice_index known) e in omega arith)
+    (λ ne. let r = rises near code (omega arith) short in omega arith)
 
 pub least_on : (values : List ℕ) (place least smaller : ℕ) → IsLeast values place least → smaller ≤ least → smaller ≤ slice_index values place
     → ((smaller ≡ least) ⊎ (smaller ≡ slice_index values place)) → IsLeast values (place + 1) smaller

@@ -30,6 +30,10 @@ pub record AreKnown (values : List ℕ) (place : ℕ) (known : List ℕ) (count 
   pub standing : (code : ℕ) → code < count → StandsBelow values place (slice_index known code)
   pub all : count ≤ 16 → (before : ℕ) → before < place → IsKnown known count (slice_index values before)
 
+-- each value at a spot is among the first `count` known ones
+abbrev pub AreRecent : List ℕ → ℕ → List ℕ → Type 0
+AreRecent known count recent = (spot : ℕ) → spot < 128 → IsKnown known count (slice_index recent spot)
+
 -- the value is within those that stand below the place: one of them is as small, or as great, and none is beyond
 pub record IsLeast (values : List ℕ) (place least : ℕ) : Type 0 where
   pub stands : StandsBelow values place least

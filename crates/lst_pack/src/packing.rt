@@ -6,7 +6,7 @@ ghost use Rattle.lst_pack.specs.Counts.{runs_below, AreKnown, IsLeast, AddsRun};
 ghost use Rattle.lst_pack.specs.declared.forms.Form.TheVariants.{Constant, Dictionary, Runs, Reference, Plain};
 
 use crate::forms::Form;
-use crate::survey::{choose, place_of, survey_of, width_of};
+use crate::survey::{SPOTS, choose, place_near, spot_of, survey_of, width_of};
 
 /// Packs 256 values, and answers how many words from the front of `out` they take. The others may hold anything.
 ///
@@ -63,14 +63,32 @@ fn write_dictionary(
     for code in 0..size {
         out[1 + code] = known[code];
     }
+    let spots = spots_of(known, size);
     for turn in 0..16 {
-        out[1 + size + turn] = word_of_codes(values, known, size, turn);
+        out[1 + size + turn] = word_of_codes(values, known, size, turn, &spots);
     }
     17 + size
 }
 
-// The codes of the 16 values from place 16 * `turn` on.
-fn word_of_codes(values: &[u64; 256], known: &[u64; 17], size: usize, turn: usize) -> u64
+// The code at the spot of each known value. Where two have one spot the later one stands there.
+fn spots_of(known: &[u64; 17], size: usize) -> [u8; SPOTS]
+    requires { size ≤ 16 }
+{
+    let mut spots = [0; SPOTS];
+    for code in 0..size {
+        spots[spot_of(known[code])] = code as u8;
+    }
+    spots
+}
+
+// The codes of the 16 values from place 16 * `turn` on. Each is looked for at its spot first.
+fn word_of_codes(
+    values: &[u64; 256],
+    known: &[u64; 17],
+    size: usize,
+    turn: usize,
+    spots: &[u8; SPOTS],
+) -> u64
     requires few { size ≤ 16 }
     requires turn { turn < 16 }
     requires known { AreKnown values.now 256 known.now size }
@@ -78,7 +96,8 @@ fn word_of_codes(values: &[u64; 256], known: &[u64; 17], size: usize, turn: usiz
 {
     let mut word: u64 = 0;
     for k in (0..16).rev() {
-        let code = place_of(known, size, values[turn * 16 + k]);
+        let value = values[turn * 16 + k];
+        let code = place_near(known, size, value, spots[spot_of(value)] as usize);
         word = word * 16 + code as u64;
     }
     word

@@ -1,9 +1,13 @@
 //! What the values of a page have in common, and the form that follows from it.
 ghost use Rattle.std.specs.Prelude.{◌≡◌, ℕ, ◌+◌, ◌-◌, ◌<◌, ◌≤◌, ◌^◌, length, slice_index};
-ghost use Rattle.lst_pack.specs.Counts.{begins, runs_below, IsKnown, IsNew, Rises, AreKnown, IsLeast, IsGreatest};
+ghost use Rattle.lst_pack.specs.Counts.{runs_below, IsKnown, IsNew, Rises, AreKnown, AreRecent, IsLeast, IsGreatest};
+ghost use Rattle.lst_pack.specs.Surveys.{IsSurvey};
 ghost use Rattle.lst_pack.specs.Choices.{IsLeastWidth, IsChoice};
 
 use crate::forms::Form;
+
+// How many spots there are for values that were seen: more than there are distinct values in a dictionary.
+pub(crate) const SPOTS: usize = 128;
 
 // What was found of 256 values.
 #[derive(Drop)]
@@ -24,52 +28,84 @@ pub(crate) fn survey_of(values: &[u64; 256]) -> Survey
     ensures greatest { IsGreatest values.now 256 result.greatest }
 {
     let first = values[0];
-    let mut runs = 1;
-    let mut known = [first; 17];
-    let mut distinct = 1;
-    let mut least = first;
-    let mut greatest = first;
+    let mut recent = [first; SPOTS];
+    let mut found = Survey {
+        runs: 1,
+        known: [first; 17],
+        distinct: 1,
+        least: first,
+        greatest: first,
+    };
     for place in 1..256 {
-        let value = values[place];
-        runs += begins_at(values, place);
-        distinct = note(values, place, &mut known, distinct);
-        least = least.min(value);
-        greatest = greatest.max(value);
+        look(values, place, &mut found, &mut recent);
     }
-    Survey {
-        runs,
-        known,
-        distinct,
-        least,
-        greatest,
-    }
+    found
 }
 
-// 1 where another value stands before this place, which isn't the first, and else 0.
-fn begins_at(values: &[u64; 256], place: usize) -> u32
+// Looks at the value at a place, which isn't the first. One that goes on with a run changes nothing. One that was seen a short while ago is
+// mostly found at its spot among the recent ones, and then it is only counted as a run.
+fn look(values: &[u64; 256], place: usize, found: &mut Survey, recent: &mut [u64; SPOTS])
     requires place { place < 256 }
     requires later { 0 < place }
-    ensures { result ≡ begins values.now place }
+    requires found { IsSurvey values.now place found.old recent.old }
+    ensures { IsSurvey values.now (place + 1) found.new recent.new }
 {
-    if values[place] == values[place - 1] {
-        0
-    } else {
-        1
+    let value = values[place];
+    if value == values[place - 1] {
+        return;
     }
+    found.runs += 1;
+    if found.distinct <= 16 && recent[spot_of(value)] == value {
+        return;
+    }
+    found.distinct = note(values, place, &mut found.known, found.distinct, recent);
+    found.least = found.least.min(value);
+    found.greatest = found.greatest.max(value);
 }
 
 // Learns the value at `place`, which isn't the first, unless it stands before it too or more than 16 values are known.
-fn note(values: &[u64; 256], place: usize, known: &mut [u64; 17], count: usize) -> usize
+fn note(
+    values: &[u64; 256],
+    place: usize,
+    known: &mut [u64; 17],
+    count: usize,
+    recent: &mut [u64; SPOTS],
+) -> usize
     requires place { place < 256 }
     requires later { 0 < place }
     requires known { AreKnown values.now place known.old count }
-    ensures { AreKnown values.now (place + 1) known.new result }
+    requires recent { AreRecent known.old count recent.old }
+    ensures known { AreKnown values.now (place + 1) known.new result }
+    ensures recent { AreRecent known.new result recent.new }
 {
     let value = values[place];
-    if value == values[place - 1] || count > 16 {
+    if count > 16 {
         return count;
     }
+    recent[spot_of(value)] = value;
     learn(known, count, value)
+}
+
+// The spot of a value, by multiplicative hashing (Knuth, The Art of Computer Programming, volume 3, 6.4): the upper bits of its product with
+// 2^64 divided by the golden ratio.
+pub(crate) fn spot_of(value: u64) -> usize
+    ensures { result < 128 }
+{
+    (value.wrapping_mul(0x9E37_79B9_7F4A_7C15) >> 57) as usize
+}
+
+// The same as `place_of`, where the value is likely to stand at the place `near`.
+pub(crate) fn place_near(known: &[u64; 17], count: usize, value: u64, near: usize) -> usize
+    requires few { count ≤ 17 }
+    requires rising { Rises known.now count }
+    ensures within { result ≤ count }
+    ensures below { (code : ℕ) → code < result → slice_index known.now code < value }
+    ensures from { (code : ℕ) → result ≤ code → code < count → value ≤ slice_index known.now code }
+{
+    if near < count && known[near] == value {
+        return near;
+    }
+    place_of(known, count, value)
 }
 
 // How many of the first `count` known values are below this one.

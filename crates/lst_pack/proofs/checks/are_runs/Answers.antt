@@ -1,4 +1,4 @@
-use Rattle.std.proofs.Common.{◌≡◌, ◌+◌, ◌-◌, ◌*◌, arith, sym, ◌∙◌, slice_index, eqb-true, eq-eqb, true≢false}
+use Rattle.std.proofs.Common.{◌≡◌, ◌-◌, ◌*◌, arith, sym, ◌∙◌, slice_index, eqb-true, eq-eqb, true≢false}
 use Rattle.lst_pack.proofs.Runs.{run_before}
 use Rattle.lst_pack.proofs.Checking.{end_low}
 use Rattle.lst_pack.proofs.checks.are_runs.Goals as goal

@@ -1,4 +1,4 @@
-use Rattle.std.proofs.Common.{◌≡◌, ◌<◌, ℕ, ◌+◌, ◌*◌, slice_index}
+use Rattle.std.proofs.Common.{◌≡◌, ◌<◌, ℕ, ◌+◌}
 use Rattle.lst_pack.specs.Forms.{run_end}
 use Rattle.lst_pack.proofs.checks.are_runs.Given as goal
 

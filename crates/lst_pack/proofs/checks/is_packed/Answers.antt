@@ -1,4 +1,4 @@
-use Rattle.std.proofs.Common.{◌≡◌, ◌+◌, ◌*◌, ◌/◌, ◌%◌, arith, slice_index, eqb-true, eq-eqb}
+use Rattle.std.proofs.Common.{◌/◌, arith, slice_index, eqb-true, eq-eqb}
 use Rattle.lst_pack.specs.declared.forms.Form.TheVariants.{Constant, Dictionary, Runs, Reference, Plain}
 use Rattle.lst_pack.proofs.Checking.{form_named, no_number, packed_as}
 use Rattle.lst_pack.proofs.checks.is_packed.Goals as goal

@@ -12,17 +12,17 @@ overflow_mul-word c = let h = fits c.loop-k.word 0 c.loop-k.k (omega arith) (ome
 pub overflow_add-word : goal.overflow_add-word
 overflow_add-word c =
     let place : c.args.turn * 16 + (c.loop-k.k - 1) < 256 = omega arith in
-    let f = found c.args.known.now c.args.size _ c.place_of-code.result c.requires.known.rising (c.requires.known.all c.requires.few _ place) c.place_of-code.ensures.below c.place_of-code.ensures.from in
-    let h = fits c.loop-k.word c.place_of-code.result c.loop-k.k (omega arith) (omega arith) c.loop-k.invariant.low (omega arith) in record { fits = omega arith }
+    let f = found c.args.known.now c.args.size _ c.place_near-code.result c.requires.known.rising (c.requires.known.all c.requires.few _ place) c.place_near-code.ensures.below c.place_near-code.ensures.from in
+    let h = fits c.loop-k.word c.place_near-code.result c.loop-k.k (omega arith) (omega arith) c.loop-k.invariant.low (omega arith) in record { fits = omega arith }
 
 pub loop-k-preserved : goal.loop-k-preserved
 loop-k-preserved c =
     let place : c.args.turn * 16 + (c.loop-k.k - 1) < 256 = omega arith in
-    let f = found c.args.known.now c.args.size _ c.place_of-code.result c.requires.known.rising (c.requires.known.all c.requires.few _ place) c.place_of-code.ensures.below c.place_of-code.ensures.from in
+    let f = found c.args.known.now c.args.size _ c.place_near-code.result c.requires.known.rising (c.requires.known.all c.requires.few _ place) c.place_near-code.ensures.below c.place_near-code.ensures.from in
     record {
       few = omega arith;
-      low = pushed_within c.loop-k.word c.place_of-code.result 4 16 16 c.loop-k.k refl (omega arith) (omega arith) c.loop-k.invariant.low (omega arith);
-      codes = λ j low. pushed_each c.loop-k.word c.place_of-code.result 4 16 (16 - (c.loop-k.k - 1))
+      low = pushed_within c.loop-k.word c.place_near-code.result 4 16 16 c.loop-k.k refl (omega arith) (omega arith) c.loop-k.invariant.low (omega arith);
+      codes = λ j low. pushed_each c.loop-k.word c.place_near-code.result 4 16 (16 - (c.loop-k.k - 1))
           (λ j n. (n < c.args.size) × (slice_index c.args.known.now n ≡ slice_index c.args.values.now (c.args.turn * 16 + (c.loop-k.k - 1 + j)))) refl (omega arith)
           (f.0, f.1 ∙ ap (λ n. slice_index c.args.values.now (c.args.turn * 16 + n)) (omega arith))
           (λ i h. let e : c.loop-k.k + i ≡ c.loop-k.k - 1 + (i + 1) = omega arith in

@@ -1,12 +1,9 @@
-use Rattle.std.proofs.Common.{◌≡◌, ◌≤◌}
-use Rattle.lst_pack.specs.Counts.{runs_below, AreKnown, IsLeast, IsGreatest}
+use Rattle.std.proofs.Common.{◌≡◌, length}
+use Rattle.lst_pack.specs.Surveys.{IsSurvey}
 use Rattle.lst_pack.proofs.survey.survey_of.Given as goal
 
 abbrev pub invariant-loop-place : goal.invariant-loop-place
 invariant-loop-place l = record {
-  runs : l.runs ≡ runs_below l.values l.place;
-  few : l.runs ≤ l.place;
-  known : AreKnown l.values l.place l.known l.distinct;
-  least : IsLeast l.values l.place l.least;
-  greatest : IsGreatest l.values l.place l.greatest;
+  long : length l.recent ≡ 128;
+  found : IsSurvey l.values l.place l.found l.recent;
 }
