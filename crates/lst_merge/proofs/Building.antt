@@ -25,7 +25,7 @@ use Rattle.lst_pages.proofs.Pages.{right_same, build_right, entries-told}
 use Rattle.lst_page_state.specs.Lists.{HasFirst}
 use Rattle.lst_page_state.specs.Step.{IsClear}
 use Rattle.lst_page_state.specs.Laws.{AreNumbered}
-use Rattle.lst_page_state.specs.Runs.{frame_known, page_known}
+use Rattle.lst_page_state.specs.Runs.{frame_known, page_known, tps_known}
 use Rattle.lst_page_state.specs.Settled.{tail_in, is_settled, settled_tails}
 use Rattle.lst_page_state.specs.Sound.{IsPage}
 use Rattle.lst_page_state.proofs.Numbering.{settled_are_numbered}
@@ -40,7 +40,7 @@ use Rattle.lst_rule.specs.Stores.{Looked}
 use Rattle.lst_rule.proofs.Learning.{kept_on}
 use Rattle.lst_rule.proofs.Paging.{stock_is, directory_is, pages_known, pages_safe}
 use Rattle.lst_merge.specs.Inspections.{merger_of, Inspects}
-use Rattle.lst_merge.specs.Runs.{tps_known, KnowsSettled, AreSettled}
+use Rattle.lst_merge.specs.Runs.{KnowsSettled, AreSettled}
 use Rattle.lst_merge.specs.Pages.{AreEntriesIn, AreAbsentZero, AreKnown, FoldsRun}
 use Rattle.lst_merge.specs.Builds.{IsFree, frames_stored, StoresFrame, MayReplace, Builds}
 use Rattle.lst_merge.proofs.Ending.{inspects_join, inspects_host, stock_inspected}

@@ -17,7 +17,7 @@ use Rattle.lst_core_state.specs.declared.facts.Find.TheVariants.{CountedTails}
 use Rattle.lst_core_state.specs.declared.known.Known.{Known}
 use Rattle.lst_core_state.specs.Cells.{tail_count, range_of}
 use Rattle.lst_core_state.specs.State.{record_in}
-use Rattle.lst_page_state.specs.Runs.{frame_known, page_known}
+use Rattle.lst_page_state.specs.Runs.{frame_known, page_known, tps_known}
 use Rattle.lst_page_state.specs.Settled.{is_settled, settled_tails}
 use Rattle.lst_page_state.specs.Sound.{IsPage}
 use Rattle.lst_page_state.specs.Laws.{AreNumbered}
@@ -36,7 +36,7 @@ use Rattle.lst_rule.proofs.Asking.{looked_words}
 use Rattle.lst_rule.proofs.Knowing.{whole_words}
 use Rattle.lst_rule.proofs.Paging.{directory_is, pages_known, stock_is, pages_safe}
 use Rattle.lst_merge.specs.Inspections.{merger_of, Inspects}
-use Rattle.lst_merge.specs.Runs.{tps_known, KnowsSettled, HasSettled, SettledAt, AreSettled, Unsettled, IsUnsettledIn, FoundUnsettled, IsRun}
+use Rattle.lst_merge.specs.Runs.{KnowsSettled, HasSettled, SettledAt, AreSettled, Unsettled, IsUnsettledIn, FoundUnsettled, IsRun}
 use Rattle.lst_merge.proofs.Inspecting.{inspects_on, inspects_still, inspects_counter, counter_found, facts_stay}
 use Rattle.lst_merge.proofs.Settling.{settles_as, settled_stays, seen_stays, has_stays}
 

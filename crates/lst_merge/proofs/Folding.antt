@@ -1,5 +1,5 @@
 -- Tails folded into entries, one after another.
-use Rattle.std.proofs.Common.{◌≡◌, ℕ, zero, suc, ◌+◌, ◌*◌, ◌<◌, ◌≤◌, ◌^◌, List, [], ◌∷◌, ◌++◌, Bool, true, false, cond, refl, sym, subst, ap, ◌∙◌, arith, length, take, drop, Contains, nat_lt, ◌&&◌, lt-ltb, eqb, slice_index, length-append}
+use Rattle.std.proofs.Common.{◌≡◌, ℕ, zero, suc, ◌+◌, ◌*◌, ◌<◌, ◌≤◌, List, [], ◌∷◌, ◌++◌, Bool, true, false, cond, refl, sym, subst, ap, ◌∙◌, arith, length, take, drop, Contains, nat_lt, ◌&&◌, lt-ltb, eqb, slice_index, length-append}
 use Rattle.lst_layout.specs.declared.limits.Limits.{Limits}
 use Rattle.lst_bits.specs.declared.encodings.Encoding.{Encoding}
 use Rattle.lst_bits.specs.Encodings.{encoding_of}

@@ -17,6 +17,7 @@ use Rattle.lst_page_state.specs.Settled.{settled_tails}
 use Rattle.lst_page_state.specs.Sound.{IsPage}
 use Rattle.lst_page_state.specs.State.{oldest_epoch}
 use Rattle.lst_page_state.specs.Step.{lets_go}
+use Rattle.lst_page_state.specs.Runs.{tps_known}
 use Rattle.lst_retire.specs.Frames.{FindsFree, FindsHeld, let_go_by}
 use Rattle.lst_retire.proofs.Looking.{stock_now}
 use Rattle.lst_rule.specs.declared.view.View.{View}
@@ -27,7 +28,7 @@ use Rattle.lst_rule.proofs.Learning.{kept_on}
 use Rattle.lst_merge.specs.declared.answers.Merge.TheVariants.{Merged, Idle, NoFrame}
 use Rattle.lst_merge.specs.declared.runs.Run.{Run}
 use Rattle.lst_merge.specs.Inspections.{merger_of, Inspects}
-use Rattle.lst_merge.specs.Runs.{tps_known, AreSettled, StopsAt, IsRun}
+use Rattle.lst_merge.specs.Runs.{AreSettled, StopsAt, IsRun}
 use Rattle.lst_merge.specs.Builds.{frames_stored, words_stored, Builds}
 use Rattle.lst_merge.specs.Swaps.{latest_epoch, Swaps}
 use Rattle.lst_merge.specs.Merges.{MergerLearns, settled_count, LetsGo, MergesTo, Merges}

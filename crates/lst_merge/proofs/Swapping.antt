@@ -20,7 +20,7 @@ use Rattle.lst_core_state.specs.Step.{known_of}
 use Rattle.lst_page_state.specs.declared.events.PageEvent.TheVariants.{Swap, Raise}
 use Rattle.lst_page_state.specs.Known.{PagesSound}
 use Rattle.lst_page_state.specs.Lists.{rest, word_in}
-use Rattle.lst_page_state.specs.Runs.{frame_known, page_known, IsSwapKnown}
+use Rattle.lst_page_state.specs.Runs.{frame_known, page_known, IsSwapKnown, tps_known}
 use Rattle.lst_page_state.specs.Settled.{settled_tails}
 use Rattle.lst_page_state.specs.Sound.{IsPage, Rise}
 use Rattle.lst_page_state.specs.State.{retired_at, frame_in}
@@ -39,7 +39,6 @@ use Rattle.lst_rule.specs.PageSteps.{swapped, raised, StockIs, stock_of, Swapped
 use Rattle.lst_rule.specs.Stores.{Looked}
 use Rattle.lst_rule.proofs.Paging.{stock_is, epoch_is, directory_is, frame_is, pages_safe, swap_stands}
 use Rattle.lst_merge.specs.Builds.{MayReplace}
-use Rattle.lst_merge.specs.Runs.{tps_known}
 use Rattle.lst_merge.specs.Swaps.{latest_epoch, IsListedAs, Swaps}
 
 -- ---- the spares

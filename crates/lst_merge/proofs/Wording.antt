@@ -15,9 +15,8 @@ use Rattle.lst_core_state.proofs.PostingsKept.{has_bit-same, has_bit-other}
 use Rattle.lst_pack.specs.Forms.{Packs}
 use Rattle.lst_pack.proofs.Reading.{stands_for_one}
 use Rattle.lst_pages.specs.declared.entries.Entry.{Entry}
-use Rattle.lst_pages.specs.Frames.{tps_in, packed_in, stamp_in, entry_in, IsEntry, HasEntries}
-use Rattle.lst_pages.specs.Lists.{listed}
-use Rattle.lst_pages.proofs.Lists.{get-listed, length-listed, listed-same}
+use Rattle.lst_pages.specs.Frames.{packed_in, stamp_in, IsEntry, HasEntries}
+use Rattle.lst_pages.proofs.Lists.{get-listed, length-listed}
 use Rattle.lst_merge.specs.Pages.{entry_of, AreValuesIn, AreNumbers, AreEntriesIn, AreAbsentZero, IsWith}
 
 -- ---- an entry by its time word, null bit and value

@@ -12,7 +12,7 @@ use Rattle.lst_pages.specs.Frames.{tps_in}
 use Rattle.lst_pages.specs.Pages.{IsRightPage}
 use Rattle.lst_page_state.specs.declared.events.PageEvent.TheVariants.{StoreFrame}
 use Rattle.lst_page_state.specs.Lists.{HasFirst}
-use Rattle.lst_page_state.specs.Runs.{frame_known, IsSwapKnown}
+use Rattle.lst_page_state.specs.Runs.{frame_known, IsSwapKnown, tps_known}
 use Rattle.lst_page_state.specs.Settled.{settled_tails}
 use Rattle.lst_page_state.specs.Sound.{IsPage}
 use Rattle.lst_page_state.specs.Step.{IsClear}
@@ -22,7 +22,6 @@ use Rattle.lst_rule.specs.Rule.{Allowed}
 use Rattle.lst_rule.specs.Learned.{PageMade}
 use Rattle.lst_rule.specs.PageSteps.{StockIs, stock_of, frame_stored}
 use Rattle.lst_merge.specs.Inspections.{Inspects}
-use Rattle.lst_merge.specs.Runs.{tps_known}
 use Rattle.lst_merge.specs.Pages.{AreAbsentZero}
 
 -- the frame is the oldest retired one, and each session's pin was found not to hold it: words may be stored into it

@@ -11,6 +11,7 @@ use Rattle.lst_page_state.specs.Settled.{settled_tails}
 use Rattle.lst_page_state.specs.Sound.{IsPage}
 use Rattle.lst_page_state.specs.State.{oldest_epoch}
 use Rattle.lst_page_state.specs.Step.{lets_go}
+use Rattle.lst_page_state.specs.Runs.{tps_known}
 use Rattle.lst_retire.specs.Frames.{FindsFree, FindsHeld}
 use Rattle.lst_rule.specs.declared.view.View.{View}
 use Rattle.lst_rule.specs.Rule.{knows, hosts}
@@ -20,7 +21,7 @@ use Rattle.lst_merge.specs.declared.answers.Merge.{Merge}
 use Rattle.lst_merge.specs.declared.answers.Merge.TheVariants.{Merged, Idle, NoFrame}
 use Rattle.lst_merge.specs.declared.runs.Run.{Run}
 use Rattle.lst_merge.specs.Inspections.{merger_of, inspected, Inspects}
-use Rattle.lst_merge.specs.Runs.{tps_known, StopsAt, IsRun}
+use Rattle.lst_merge.specs.Runs.{StopsAt, IsRun}
 use Rattle.lst_merge.specs.Builds.{Builds}
 use Rattle.lst_merge.specs.Swaps.{IsListedAs, OneMore, Swaps}
 

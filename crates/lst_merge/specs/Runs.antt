@@ -9,20 +9,14 @@ use Rattle.lst_core_state.specs.declared.facts.Fact.{Fact}
 use Rattle.lst_core_state.specs.declared.facts.Fact.TheVariants.{StateAt, CellIs, CommitAt}
 use Rattle.lst_core_state.specs.declared.facts.Find.TheVariants.{UnfinishedVersion, CountedTails, EmptyStart}
 use Rattle.lst_core_state.specs.declared.known.Known.{Known}
-use Rattle.lst_core_state.specs.declared.pages.MergerFrames.{MergerFrames}
 use Rattle.lst_pages.specs.declared.tails.PageTail.{PageTail}
-use Rattle.lst_pages.specs.Frames.{tps_in}
-use Rattle.lst_page_state.specs.Runs.{frame_known, page_known}
+use Rattle.lst_page_state.specs.Runs.{tps_known}
 use Rattle.lst_page_state.specs.Settled.{tail_by, is_settled, settled_tails}
 use Rattle.lst_rule.specs.declared.view.View.{View}
 use Rattle.lst_rule.specs.PageSteps.{stock_of}
 use Rattle.lst_rule.specs.Statuses.{FoundSince}
 use Rattle.lst_merge.specs.declared.runs.Run.{Run}
 use Rattle.lst_merge.specs.Inspections.{merger_of}
-
--- the TPS of the page of range r and column c, as the merger knows it
-abbrev pub tps_known : MergerFrames → ℕ → ℕ → ℕ
-tps_known m r c = tps_in (frame_known m (page_known m r c))
 
 -- ---- tails that are known to be settled
 

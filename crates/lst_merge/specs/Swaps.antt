@@ -9,7 +9,7 @@ use Rattle.lst_core_state.specs.declared.pages.Retired.{Retired}
 use Rattle.lst_pages.specs.Frames.{tps_in}
 use Rattle.lst_pages.specs.Pages.{IsRightPage}
 use Rattle.lst_page_state.specs.declared.events.PageEvent.TheVariants.{Raise}
-use Rattle.lst_page_state.specs.Runs.{frame_known, page_known}
+use Rattle.lst_page_state.specs.Runs.{frame_known, page_known, tps_known}
 use Rattle.lst_page_state.specs.Settled.{settled_tails}
 use Rattle.lst_page_state.specs.Sound.{IsPage}
 use Rattle.lst_rule.specs.declared.view.View.{View}
@@ -17,7 +17,6 @@ use Rattle.lst_rule.specs.Rule.{Allowed}
 use Rattle.lst_rule.specs.Learned.{PageMade}
 use Rattle.lst_rule.specs.PageSteps.{swapped, raised, StockIs, stock_of, Swapped}
 use Rattle.lst_rule.specs.Stores.{Looked}
-use Rattle.lst_merge.specs.Runs.{tps_known}
 
 -- the epoch at which the last of these frames was retired, or 0 where there is none
 abbrev pub latest_epoch : List Retired → ℕ

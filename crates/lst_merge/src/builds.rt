@@ -1,13 +1,13 @@
 //! The build of a page.
 ghost use Rattle.std.specs.Prelude.{◌≡◌, ◌<◌, ◌≤◌, true, slice_index};
-ghost use Rattle.lst_page_state.specs.Runs.{frame_known, page_known};
+ghost use Rattle.lst_page_state.specs.Runs.{frame_known, page_known, tps_known};
 ghost use Rattle.lst_page_state.specs.Sound.{IsPage};
 ghost use Rattle.lst_rule.specs.Rule.{hosts};
 ghost use Rattle.lst_rule.specs.Learned.{Kept, Possible};
 ghost use Rattle.lst_rule.specs.PageSteps.{stock_of, StockIs};
 ghost use Rattle.lst_rule.specs.Stores.{IsSeatOf};
 ghost use Rattle.lst_merge.specs.Inspections.{merger_of};
-ghost use Rattle.lst_merge.specs.Runs.{tps_known, AreSettled};
+ghost use Rattle.lst_merge.specs.Runs.{AreSettled};
 ghost use Rattle.lst_merge.specs.Pages.{entry_of, AreEntriesIn, AreNumbers};
 ghost use Rattle.lst_merge.specs.Builds.{IsFree, Builds, MayReplace};
 

@@ -12,7 +12,7 @@ ghost use Rattle.lst_layout.specs.declared.place.Place.TheVariants.{DirectoryWor
 ghost use Rattle.lst_merge.specs.Builds.{IsFree, StoresFrame};
 
 use lst_layout::FRAME_WORDS;
-use lst_rule::{Seat, Store, load_directory, load_frame, step_store_frame};
+use lst_rule::{Seat, Store, load_directory, load_frame_words, store_frame_words};
 
 const WORDS: usize = FRAME_WORDS as usize;
 
@@ -30,7 +30,7 @@ pub(crate) fn page_frame(store: &Store, seat: &mut Seat, range: u32, column: u32
     load_directory(store, seat, merger, range, column) as u32
 }
 
-/// Loads the words of a frame, two a turn. They are those that the merger knows.
+/// Loads the words of a frame. They are those that the merger knows.
 pub(crate) fn load_words(store: &Store, seat: &mut Seat, frame: u32, words: &mut [u64; WORDS])
     requires seat { IsSeatOf store.now seat.old }
     requires host { hosts seat.old.view seat.old.view.limits.sessions ≡ true }
@@ -41,15 +41,10 @@ pub(crate) fn load_words(store: &Store, seat: &mut Seat, frame: u32, words: &mut
     ensures words { (place : ℕ) → place < FRAME_WORDS → slice_index words.new place ≡ frame_known (stock_of seat.old.view) frame place }
 {
     let merger = store.layout().limits.sessions;
-    let mut place = 0;
-    while place < FRAME_WORDS {
-        words[place as usize] = load_frame(store, seat, merger, frame, place);
-        words[place as usize + 1] = load_frame(store, seat, merger, frame, place + 1);
-        place += 2;
-    }
+    load_frame_words(store, seat, merger, frame, words);
 }
 
-/// Stores words into a free frame, one after another, two a turn.
+/// Stores words into a free frame, one after another.
 pub(crate) fn store_words(store: &Store, seat: &mut Seat, frame: u32, words: &[u64; WORDS])
     requires seat { IsSeatOf store.now seat.old }
     requires host { hosts seat.old.view seat.old.view.limits.sessions ≡ true }
@@ -58,10 +53,5 @@ pub(crate) fn store_words(store: &Store, seat: &mut Seat, frame: u32, words: &[u
     ensures seat { IsSeatOf store.now seat.new }
     ensures stores { StoresFrame seat.old.view seat.new.view frame FRAME_WORDS (slice_index words.now) }
 {
-    let mut place = 0;
-    while place < FRAME_WORDS {
-        step_store_frame(store, seat, frame, place, words[place as usize]);
-        step_store_frame(store, seat, frame, place + 1, words[place as usize + 1]);
-        place += 2;
-    }
+    store_frame_words(store, seat, frame, words);
 }

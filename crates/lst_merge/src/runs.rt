@@ -1,11 +1,12 @@
 //! The run of a merge.
 ghost use Rattle.std.specs.Prelude.{◌≡◌, ◌⊎◌, ◌+◌, ◌*◌, ◌<◌, ◌≤◌, true, false};
 ghost use Rattle.lst_page_state.specs.Sound.{IsPage};
+ghost use Rattle.lst_page_state.specs.Runs.{tps_known};
 ghost use Rattle.lst_rule.specs.Rule.{hosts};
 ghost use Rattle.lst_rule.specs.PageSteps.{stock_of};
 ghost use Rattle.lst_rule.specs.Stores.{IsSeatOf};
 ghost use Rattle.lst_merge.specs.Inspections.{merger_of, Inspects};
-ghost use Rattle.lst_merge.specs.Runs.{tps_known, HasSettled, Unsettled, IsRun};
+ghost use Rattle.lst_merge.specs.Runs.{HasSettled, Unsettled, IsRun};
 
 use crate::frames::page_frame;
 use crate::tails::time_of;

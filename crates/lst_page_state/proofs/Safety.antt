@@ -46,7 +46,7 @@ lets_not pin e is = dite (ℕ_discrete pin 0)
     (λ nz. dite (dec_lt e pin) (λ low. absurd (true≢false (sym (ap (λ (b : Bool). b || nat_lt e pin) (ne_eqb pin 0 nz) ∙ lt-ltb e pin low) ∙ is))) (λ high. (omega arith, omega arith)))
 
 -- and one that does
-does_not : (pin e : ℕ) → 0 < pin → pin ≤ e → lets_go pin e ≡ false
+pub does_not : (pin e : ℕ) → 0 < pin → pin ≤ e → lets_go pin e ≡ false
 does_not pin e some low = ap (λ (b : Bool). b || nat_lt e pin) (ne_eqb pin 0 (λ none. omega arith)) ∙ le-ltb e pin low
 
 total-constant : (b n : ℕ) → total (λ _. b) n ≡ n * b

@@ -111,6 +111,10 @@ frame_known m f = word_in m.frames f
 abbrev pub page_known : MergerFrames → ℕ → ℕ → ℕ
 page_known m r c = word_in m.directory r c
 
+-- its TPS: the number of the last tail that it has
+abbrev pub tps_known : MergerFrames → ℕ → ℕ → ℕ
+tps_known m r c = tps_in (frame_known m (page_known m r c))
+
 -- by what it knows, the frame f may take the place of the page of range r and column c over the settled tails ts
 pub record IsSwapKnown (l : Limits) (m : MergerFrames) (ts : List PageTail) (r c f : ℕ) : Type 0 where
   pub built : m.built ≡ Some f

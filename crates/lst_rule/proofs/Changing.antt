@@ -1,5 +1,5 @@
 -- Lists that a loop changes from the front on.
-use Rattle.std.proofs.Common.{◌≡◌, ℕ, zero, suc, ◌+◌, ◌<◌, ◌≤◌, List, [], ◌∷◌, Bool, true, false, cond, ◌⊎◌, ⊎_elim, inl, inr, map, length, get_or, set, refl, sym, subst, ap, ◌∙◌, arith}
+use Rattle.std.proofs.Common.{◌≡◌, ℕ, zero, suc, ◌+◌, ◌<◌, ◌≤◌, List, [], ◌∷◌, Bool, false, cond, ◌⊎◌, ⊎_elim, inl, inr, map, length, get_or, set, refl, subst, ap, ◌∙◌, arith}
 use Rattle.lst_rule.specs.Joins.{united_lists}
 
 module _ {A : Type 0} (f : A → A) where

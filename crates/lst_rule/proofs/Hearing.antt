@@ -1,18 +1,17 @@
 -- All that a seat hosts hear its note, and the rule is kept.
-use Rattle.std.proofs.Common.{◌≡◌, ◌≢◌, ℕ, zero, suc, ◌+◌, ◌<◌, ◌≤◌, List, [], ◌∷◌, ◌++◌, Bool, true, false, cond, ◌&&◌, ◌||◌, nat_lt, eqb, map, take, drop, length, get_or, set, replicate, refl, sym, subst, ap, ◌∙◌, arith, true≢false, ◌⊎◌, ⊎_elim, inl, inr, length-set, get_or-set_other, get_or-set_same, lt-ltb, le-ltb, ltb-true, append-nil, eq-eqb, ne_eqb, Contains}
+use Rattle.std.proofs.Common.{◌≡◌, ◌≢◌, ℕ, zero, suc, ◌<◌, ◌≤◌, List, [], ◌++◌, Bool, true, false, cond, nat_lt, take, drop, length, set, refl, sym, subst, ap, ◌∙◌, arith, true≢false, ⊎_elim, lt-ltb, le-ltb, ltb-true, append-nil}
 use mathlib.Core.Logic.{dite}
 use mathlib.Core.Option.{some}
 use native.Mathlib.Decide.{ℕ_discrete, dec_lt}
-use lib.ListN.{get_elem?, length-replicate}
+use lib.ListN.{get_elem?}
 use Rattle.std.proofs.lemmas.Bool.{cases_Bool}
 use Rattle.std.proofs.lemmas.List.{length-map, take-append-drop, take-append-le, get_or-map, set-get_or}
 use Rattle.std.proofs.Math.Seq.{take-append_seam}
 use Rattle.std.proofs.lemmas.List.Elements.{Contains-append_right}
 use Rattle.atomic_table.specs.Table.{State, keeps, Allows}
-use Rattle.atomic_table.proofs.Lists.{at_set, set_else}
+use Rattle.atomic_table.proofs.Lists.{at_set}
 use Rattle.lst_layout.specs.declared.limits.Limits.{Limits}
 use Rattle.lst_layout.specs.Functions.{put}
-use Rattle.lst_layout.specs.Words.{shown}
 use Rattle.lst_model.specs.declared.commits.Commit.{Commit}
 use Rattle.lst_model.specs.Histories.{Extends}
 use Rattle.lst_core_state.specs.declared.facts.Fact.{Fact}
@@ -20,10 +19,8 @@ use Rattle.lst_core_state.specs.declared.known.Known.{Known}
 use Rattle.lst_core_state.specs.State.{Core, newcomer, history_of, state_over}
 use Rattle.lst_core_state.specs.Step.{known_of}
 use Rattle.lst_core_state.specs.Sound.{Sound, FactsOf, SeenIsRecorded}
-use Rattle.lst_core_state.specs.Laws.{heard, with_heard, MayHear}
+use Rattle.lst_core_state.specs.Laws.{MayHear}
 use Rattle.lst_core_state.proofs.Functions.{put_here, put_else, either}
-use Rattle.lst_core_state.proofs.Histories.{starts_length}
-use Rattle.lst_core_state.proofs.FactsPart.{more_facts}
 use Rattle.lst_core_state.proofs.RecordedPart.{grows_by, seen_on}
 use Rattle.lst_core_state.proofs.Statements.{seen_may_grow, merger_may_grow}
 use Rattle.lst_page_state.specs.Known.{PagesSound}

@@ -1,36 +1,20 @@
 -- Two views are joined, and the rule is kept.
-use Rattle.std.proofs.Common.{◌≡◌, ◌≢◌, ℕ, zero, suc, ◌+◌, ◌<◌, ◌≤◌, List, [], ◌∷◌, ◌++◌, Bool, true, false, cond, ◌&&◌, ◌||◌, nat_lt, eqb, map, take, drop, length, get_or, set, replicate, refl, sym, subst, ap, ◌∙◌, arith, true≢false, ◌⊎◌, ⊎_elim, inl, inr, length-set, get_or-set_other, get_or-set_same, lt-ltb, le-ltb, ltb-true, append-nil, eq-eqb, ne_eqb, Contains}
+use Rattle.std.proofs.Common.{◌≡◌, ◌≢◌, ℕ, zero, suc, ◌+◌, ◌<◌, ◌≤◌, List, [], ◌∷◌, Bool, true, false, cond, ◌&&◌, ◌||◌, length, get_or, set, refl, sym, subst, ap, ◌∙◌, arith, true≢false, ◌⊎◌, ⊎_elim, inl, inr}
 use mathlib.Core.Logic.{dite}
 use mathlib.Core.Option.{some}
-use native.Mathlib.Decide.{ℕ_discrete, dec_lt}
+use native.Mathlib.Decide.{dec_lt}
 use lib.ListN.{get_elem?, length-replicate}
 use Rattle.std.proofs.lemmas.Bool.{cases_Bool}
-use Rattle.std.proofs.lemmas.List.{get_or_past, take-append-drop, take-append-le, get_or-map}
-use Rattle.std.proofs.Math.Seq.{take-append_seam}
-use Rattle.std.proofs.lemmas.List.Elements.{Contains-append_right}
+use Rattle.std.proofs.lemmas.List.{get_or_past}
 use Rattle.atomic_table.specs.Table.{Joins}
 use Rattle.atomic_table.proofs.Lists.{at_set, set_else}
 use Rattle.lst_layout.specs.declared.limits.Limits.{Limits}
-use Rattle.lst_layout.specs.Functions.{put}
-use Rattle.lst_layout.specs.Words.{shown}
-use Rattle.lst_model.specs.declared.commits.Commit.{Commit}
-use Rattle.lst_model.specs.Histories.{Extends}
-use Rattle.lst_core_state.specs.declared.facts.Fact.{Fact}
 use Rattle.lst_core_state.specs.declared.known.Known.{Known}
 use Rattle.lst_core_state.specs.State.{Core, newcomer, history_of, state_over}
 use Rattle.lst_core_state.specs.Step.{known_of}
-use Rattle.lst_core_state.specs.Sound.{Sound, FactsOf, SeenIsRecorded}
-use Rattle.lst_core_state.specs.Laws.{heard, with_heard, MayHear}
-use Rattle.lst_core_state.proofs.Functions.{put_here, put_else, either}
-use Rattle.lst_core_state.proofs.Histories.{starts_length}
-use Rattle.lst_core_state.proofs.FactsPart.{more_facts}
-use Rattle.lst_core_state.proofs.RecordedPart.{grows_by, seen_on}
-use Rattle.lst_core_state.proofs.Statements.{seen_may_grow, merger_may_grow}
 use Rattle.lst_rule.specs.declared.view.View.{View}
-use Rattle.lst_rule.specs.Rule.{knows, hosts, Fits, Ruled, Allowed}
-use Rattle.lst_rule.specs.Joins.{longer, hears, hearing, spent, overlap, united_lists, united}
-use Rattle.lst_rule.proofs.Afters.{known_own, known_merger}
-use Rattle.lst_rule.proofs.Parting.{Tellable}
+use Rattle.lst_rule.specs.Rule.{knows, hosts, Fits, Ruled}
+use Rattle.lst_rule.specs.Joins.{spent, overlap, united_lists, united}
 
 -- ---- the lists of two seats that are united
 

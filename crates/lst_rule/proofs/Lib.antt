@@ -23,3 +23,4 @@ pub mod Changing
 pub mod Seating
 pub mod Paging
 pub mod Running
+pub mod Wholes

@@ -14,12 +14,11 @@ use Rattle.lst_layout.specs.Words.{shown}
 use Rattle.lst_model.specs.Histories.{Extends}
 use Rattle.lst_core_state.specs.declared.known.Known.{Known}
 use Rattle.lst_core_state.specs.State.{Core, newcomer, history_of, state_over}
-use Rattle.lst_core_state.specs.Step.{known_of}
 use Rattle.lst_core_state.specs.Sound.{Sound, FactsOf, SeenIsRecorded}
 use Rattle.lst_page_state.specs.Known.{PagesSound}
 use Rattle.lst_rule.specs.declared.view.View.{View}
 use Rattle.lst_rule.specs.Rule.{knows, hosts, Fits, Ruled, Allowed}
-use Rattle.lst_rule.specs.Joins.{without, only, alone, noted}
+use Rattle.lst_rule.specs.Joins.{without, alone, noted}
 use Rattle.lst_rule.proofs.Knowing.{knows_own, knows_merger, low_own, is_fact, is_seen}
 use Rattle.lst_rule.proofs.Opening.{same_at}
 use Rattle.lst_rule.proofs.Allowing.{allowed}

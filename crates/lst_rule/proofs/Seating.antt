@@ -1,15 +1,12 @@
 -- The numbers and the seats after a split and a join.
-use Rattle.std.proofs.Common.{◌≡◌, ◌≢◌, ℕ, ◌+◌, ◌<◌, ◌≤◌, List, [], Bool, true, false, cond, nat_lt, map, length, get_or, set, refl, sym, subst, ap, ◌∙◌, arith, true≢false, ⊎_elim, length-set, lt-ltb, le-ltb}
+use Rattle.std.proofs.Common.{◌≡◌, ℕ, ◌+◌, ◌<◌, ◌≤◌, List, [], Bool, true, false, cond, map, length, get_or, refl, sym, subst, ap, ◌∙◌, arith, true≢false, ⊎_elim}
 use mathlib.Core.Logic.{dite}
-use mathlib.Core.Option.{some}
 use native.Mathlib.Decide.{ℕ_discrete}
-use lib.ListN.{get_elem?}
 use Rattle.std.proofs.lemmas.Bool.{cases_Bool}
-use Rattle.std.proofs.lemmas.List.{length-map, set-get_or, get_or-map, get_or_default}
-use Rattle.atomic_table.specs.Table.{State, keeps, Allows}
+use Rattle.std.proofs.lemmas.List.{length-map, set-get_or, get_or-map}
+use Rattle.atomic_table.specs.Table.{keeps, Allows}
 use Rattle.atomic_table.proofs.Lists.{set_again}
 use Rattle.lst_layout.specs.declared.limits.Limits.{Limits}
-use Rattle.lst_layout.specs.Limits.{IsValid}
 use Rattle.lst_layout.specs.Areas.{words_of}
 use Rattle.lst_layout.proofs.Lows.{some_words}
 use Rattle.lst_core_state.specs.declared.known.Known.{Known}
@@ -26,11 +23,11 @@ use Rattle.lst_rule.specs.Rule.{knows, hosts, Fits, Ruled, Sat}
 use Rattle.lst_rule.specs.Learned.{Possible}
 use Rattle.lst_rule.specs.Seats.{Sitting, Tells, told}
 use Rattle.lst_rule.specs.Stores.{IsSeatOf}
-use Rattle.lst_rule.specs.Joins.{without, only, alone, noted, longer, hears, hearing, overlap, united_lists, united, hears_numbers}
+use Rattle.lst_rule.specs.Joins.{alone, noted, hears, hearing, overlap, united_lists, united, hears_numbers}
 use Rattle.lst_rule.proofs.Allowing.{allowed}
 use Rattle.lst_rule.proofs.Hearing.{length-longer, knows_hearing}
-use Rattle.lst_rule.proofs.Joining.{overlap_apart, length-united, united_theirs, united_else, united_from, knows_theirs, knows_ours}
-use Rattle.lst_rule.proofs.Parting.{IsPart, part_allowed, hosted_low, only_here, without_part, alone_part, noted_part}
+use Rattle.lst_rule.proofs.Joining.{length-united, united_theirs, united_else, united_from, knows_theirs, knows_ours}
+use Rattle.lst_rule.proofs.Parting.{IsPart, part_allowed, only_here, alone_part, noted_part}
 
 -- ---- a load that changes no view
 

@@ -1,5 +1,5 @@
 -- How the view of a seat is split, and how the views of two seats are joined.
-use Rattle.std.specs.Prelude.{◌≡◌, ℕ, ◌+◌, ◌<◌, List, [], ◌∷◌, ◌++◌, Bool, true, false, cond, nat_lt, ◌&&◌, ◌||◌, length, map, replicate, slice_index_or, slice_set}
+use Rattle.std.specs.Prelude.{◌≡◌, ℕ, ◌+◌, ◌<◌, List, [], ◌∷◌, Bool, true, false, cond, nat_lt, ◌&&◌, ◌||◌, length, map, replicate, slice_index_or, slice_set}
 use Rattle.atomic_table.specs.Table.{Step}
 use Rattle.lst_layout.specs.declared.limits.Limits.{Limits}
 use Rattle.lst_model.specs.declared.commits.Commit.{Commit}
@@ -10,7 +10,7 @@ use Rattle.lst_core_state.specs.Laws.{heard}
 use Rattle.lst_core_state.specs.State.{newcomer}
 use Rattle.lst_rule.specs.declared.view.View.{View}
 use Rattle.lst_rule.specs.declared.splits.Room.{Room}
-use Rattle.lst_rule.specs.Rule.{knows, hosts, Sat}
+use Rattle.lst_rule.specs.Rule.{knows, Sat}
 use Rattle.lst_rule.specs.Learned.{Possible}
 use Rattle.lst_rule.specs.Seats.{told}
 

@@ -9,3 +9,4 @@ pub mod Statuses
 pub mod Joins
 pub mod PageSteps
 pub mod Runs
+pub mod Frames

@@ -8,6 +8,7 @@
 mod actions;
 mod acts;
 mod any;
+mod frames;
 mod joins;
 mod loads;
 mod moves;
@@ -31,6 +32,7 @@ mod writes;
 
 pub use actions::Action;
 pub use any::load;
+pub use frames::{load_frame_words, store_frame_words};
 pub use joins::{hear_note, join_seat};
 pub use loads::{
     load_cell, load_clock, load_head, load_index, load_key, load_record_counter, load_state,

@@ -1,4 +1,4 @@
-use Rattle.std.proofs.Common.{◌≡◌, ℕ, ◌^◌, sym, ap, ◌∙◌, subst, Bool, cond, eqb, bit_or, bit_xor}
+use Rattle.std.proofs.Common.{◌≡◌, ℕ, sym, ap, ◌∙◌, subst, Bool, cond, eqb, bit_or, bit_xor}
 use Rattle.lst_model.specs.Cells.{has_bit}
 use Rattle.lst_merge.proofs.Wording.{bit_shifted, bit_set_there, bit_cleared_there}
 use Rattle.lst_merge.proofs.entries.with_bit.Goals as goal

@@ -1,4 +1,4 @@
-use Rattle.std.proofs.Common.{slice_index, arith}
+use Rattle.std.proofs.Common.{arith}
 use Rattle.lst_merge.proofs.Wording.{written_first, written_next, page_entries, page_absent}
 use Rattle.lst_merge.proofs.words.write_page.Goals as goal
 

@@ -1,7 +1,7 @@
 use Rattle.std.proofs.Common.{◌≡◌, [], List, map, ap, sym, subst, ◌∙◌, length}
 use Rattle.lst_core_state.specs.declared.numbers.Numbers.{Numbers}
 use Rattle.lst_rule.specs.declared.view.View.{View}
-use Rattle.lst_rule.specs.Joins.{united, hearing, hears_numbers, Heard}
+use Rattle.lst_rule.specs.Joins.{united, hears_numbers, Heard}
 use Rattle.lst_rule.specs.Learned.{Possible}
 use Rattle.lst_rule.specs.Seats.{Tells}
 use Rattle.lst_rule.proofs.Seating.{has_words, possible_seat, noted_hosts, joined_tells, hearing_tells}

@@ -1,7 +1,7 @@
-use Rattle.std.proofs.Common.{◌≡◌, true, List, Bool, ap, sym, subst, ◌∙◌}
+use Rattle.std.proofs.Common.{◌≡◌, true, List, ap, sym, subst, ◌∙◌}
 use Rattle.lst_core_state.specs.declared.numbers.Numbers.{Numbers}
 use Rattle.lst_rule.specs.declared.view.View.{View}
-use Rattle.lst_rule.specs.Joins.{united, united_lists, overlap}
+use Rattle.lst_rule.specs.Joins.{united, united_lists}
 use Rattle.lst_rule.specs.Learned.{Possible}
 use Rattle.lst_rule.specs.Rule.{hosts}
 use Rattle.lst_rule.specs.Seats.{Tells}

@@ -1,4 +1,4 @@
-use Rattle.std.proofs.Common.{◌≡◌, ap, length, ◌∙◌, arith}
+use Rattle.std.proofs.Common.{ap, length, ◌∙◌, arith}
 use Rattle.lst_rule.specs.Joins.{hears_numbers}
 use Rattle.lst_rule.proofs.Changing.{mapped_step, mapped_all, length-mapped}
 use Rattle.lst_rule.proofs.joins.lengthen.Goals as goal

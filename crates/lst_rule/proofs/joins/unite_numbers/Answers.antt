@@ -1,4 +1,4 @@
-use Rattle.std.proofs.Common.{◌≡◌, cond, get_or, false, ap, length, ◌∙◌, arith, ⊎_elim, inl, inr}
+use Rattle.std.proofs.Common.{cond, get_or, false, ap, length, ◌∙◌, arith, ⊎_elim, inl, inr}
 use Rattle.std.proofs.lemmas.List.{get_or_default}
 use Rattle.lst_core_state.specs.declared.numbers.Numbers.{Numbers}
 use Rattle.lst_rule.proofs.Changing.{united_step, united_end, length-united_first}

@@ -1,7 +1,5 @@
 use Rattle.std.proofs.Common.{ℕ, ◌+◌, ◌<◌, sym, subst}
-use Rattle.lst_layout.specs.declared.place.Place.{Place}
 use Rattle.lst_rule.specs.Operations.{IsQuiet}
-use Rattle.lst_rule.specs.Stores.{Looked}
 use Rattle.lst_rule.proofs.Running.{run_quiet, run_place, run_within, run_word, run_low}
 use Rattle.lst_rule.proofs.runs.load_next.Goals as goal
 

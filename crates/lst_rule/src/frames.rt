@@ -1,0 +1,122 @@
+//! All words of a frame, loaded or stored by one call.
+ghost use Rattle.std.specs.Prelude.{◌≡◌, ℕ, ◌+◌, ◌<◌, Some, true, slice_index};
+ghost use Rattle.lst_layout.specs.declared.TheConstants.{FRAME_WORDS};
+ghost use Rattle.lst_layout.specs.declared.place.Place.TheVariants.{FrameWord};
+ghost use Rattle.lst_layout.specs.Addresses as addresses;
+ghost use Rattle.lst_layout.specs.Areas.{frame_count};
+ghost use Rattle.lst_page_state.specs.declared.events.PageEvent.TheVariants.{StoreFrame};
+ghost use Rattle.lst_page_state.specs.Known.{PageEnabled};
+ghost use Rattle.lst_rule.specs.Frames.{FrameFound, LoadsFrame, FrameStored, StoresWords};
+ghost use Rattle.lst_rule.specs.Rule.{knows, hosts};
+ghost use Rattle.lst_rule.specs.PageSteps.{stock_of, FrameLoaded};
+ghost use Rattle.lst_rule.specs.Stores.{IsSeatOf};
+
+use crate::actions::Action;
+use crate::loads::load_quietly;
+use crate::page_steps::step_store_frame;
+use crate::seat::Seat;
+use crate::store::Store;
+use crate::store_word;
+use lst_layout::{FRAME_WORDS, Place};
+use lst_page_state::PageEvent;
+
+const WORDS: usize = FRAME_WORDS as usize;
+
+/// The address of a word of a frame, whose first word has this address.
+#[inline(always)]
+fn later_word(words: u64, first: u64, place: u32) -> u64
+    requires { first + place < words }
+    ensures { result ≡ first + place }
+{
+    let _ = words;
+    first + place as u64
+}
+
+/// Loads a word of a frame, whose first word has this address.
+#[inline(always)]
+fn load_next_word(store: &Store, seat: &mut Seat, s: u32, frame: u32, first: u64, place: u32) -> u64
+    requires seat { IsSeatOf store.now seat.old }
+    requires host { hosts seat.old.view s ≡ true }
+    requires frame { frame < frame_count seat.old.view.limits }
+    requires place { place < FRAME_WORDS }
+    requires first { first ≡ addresses.address store.now.layout.limits (FrameWord frame 0) }
+    ensures seat { IsSeatOf store.now seat.new }
+    ensures loaded { FrameLoaded seat.old.view seat.new.view s frame place result }
+{
+    let address = later_word(store.layout.words, first, place);
+    load_quietly(store, seat, s, Place::FrameWord { frame, place }, address)
+}
+
+/// Loads all words of a frame into an array. Does what as many calls of `load_frame` do, in order.
+pub fn load_frame_words(store: &Store, seat: &mut Seat, s: u32, frame: u32, out: &mut [u64; WORDS])
+    requires seat { IsSeatOf store.now seat.old }
+    requires host { hosts seat.old.view s ≡ true }
+    requires frame { frame < frame_count seat.old.view.limits }
+    ensures seat { IsSeatOf store.now seat.new }
+    ensures loads { LoadsFrame seat.old.view seat.new.view s frame FRAME_WORDS (slice_index out.new) }
+    ensures found { FrameFound seat.old.view seat.new.view s frame FRAME_WORDS (slice_index out.new) }
+{
+    let first = store.layout.frames(frame, 0);
+    let mut place = 0;
+    while place < FRAME_WORDS {
+        out[place as usize] = load_next_word(store, seat, s, frame, first, place);
+        out[place as usize + 1] = load_next_word(store, seat, s, frame, first, place + 1);
+        place += 2;
+    }
+}
+
+/// Stores a word into the frame that is being built, whose first word has this address. No number of the merger changes.
+#[inline(always)]
+fn store_next_word(store: &Store, seat: &mut Seat, frame: u32, first: u64, place: u32, value: u64)
+    requires seat { IsSeatOf store.now seat.old }
+    requires host { hosts seat.old.view seat.old.view.limits.sessions ≡ true }
+    requires frame { frame < frame_count seat.old.view.limits }
+    requires place { place < FRAME_WORDS }
+    requires first { first ≡ addresses.address store.now.layout.limits (FrameWord frame 0) }
+    requires enabled { PageEnabled seat.old.view.limits (knows seat.old.view seat.old.view.limits.sessions).pages (StoreFrame frame place value) }
+    requires built { (stock_of seat.old.view).built ≡ Some frame }
+    ensures seat { IsSeatOf store.now seat.new }
+    ensures stored { FrameStored seat.old.view seat.new.view frame place value }
+{
+    let word = later_word(store.layout.words, first, place) as usize;
+    let event = PageEvent::StoreFrame {
+        frame,
+        place,
+        value,
+    };
+    store_word(
+        &store.table.shared,
+        &mut seat.place,
+        Action::Page(event),
+        word,
+        value,
+    );
+}
+
+/// Stores all words of a frame. Allowed where a word of it may be stored: for the oldest retired frame, once every session's pin was found
+/// not to hold it. The frame is being built afterwards. Does what as many calls of `step_store_frame` do, in order.
+pub fn store_frame_words(store: &Store, seat: &mut Seat, frame: u32, words: &[u64; WORDS])
+    requires seat { IsSeatOf store.now seat.old }
+    requires host { hosts seat.old.view seat.old.view.limits.sessions ≡ true }
+    requires frame { frame < frame_count seat.old.view.limits }
+    requires enabled { (place value : ℕ) → PageEnabled seat.old.view.limits (knows seat.old.view seat.old.view.limits.sessions).pages (StoreFrame frame place value) }
+    ensures seat { IsSeatOf store.now seat.new }
+    ensures stores { StoresWords seat.old.view seat.new.view frame FRAME_WORDS (slice_index words.now) }
+{
+    let first = store.layout.frames(frame, 0);
+    step_store_frame(store, seat, frame, 0, words[0]);
+    store_next_word(store, seat, frame, first, 1, words[1]);
+    let mut place = 2;
+    while place < FRAME_WORDS {
+        store_next_word(store, seat, frame, first, place, words[place as usize]);
+        store_next_word(
+            store,
+            seat,
+            frame,
+            first,
+            place + 1,
+            words[place as usize + 1],
+        );
+        place += 2;
+    }
+}
