@@ -31,8 +31,9 @@ use Rattle.lst_page_state.specs.Known.{PagesSound, pages_in}
 use Rattle.lst_page_state.proofs.Growing.{settled_says}
 use Rattle.lst_page_state.proofs.Numbering.{settled_are_numbered}
 use Rattle.lst_page_state.proofs.Safety.{sound_known}
+use Rattle.lst_page_state.specs.Runs.{tps_known}
 use Rattle.lst_crew_state.specs.Crews.{IsCrew}
-use Rattle.lst_crew_state.specs.Telling.{accepted_at, accepted_first, tps_known, told, pages_told, told_state}
+use Rattle.lst_crew_state.specs.Telling.{accepted_at, accepted_first, told, pages_told, told_state}
 use Rattle.lst_crew_state.specs.Folding.{IsEndedBy, IsFolded, NeedsNoTail}
 use Rattle.lst_crew_state.specs.Laws.{FoldedKeysNeedNoTail, FoldedTablesNeedNoTail, StampedNeedsNoTail}
 use Rattle.lst_crew_state.proofs.Counts.{length-accepted}

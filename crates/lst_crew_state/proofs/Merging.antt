@@ -13,14 +13,14 @@ use Rattle.lst_core_state.specs.declared.pages.MergerFrames.{MergerFrames}
 use Rattle.lst_core_state.specs.declared.pages.Retired.{Retired}
 use Rattle.lst_core_state.specs.State.{Core}
 use Rattle.lst_page_state.specs.State.{oldest_epoch}
-use Rattle.lst_page_state.specs.Runs.{IsSafe}
+use Rattle.lst_page_state.specs.Runs.{IsSafe, tps_known}
 use Rattle.lst_page_state.specs.Lists.{Every}
 use Rattle.lst_page_state.specs.Sound.{IsPage, late}
 use Rattle.lst_page_state.specs.Step.{lets_go}
 use Rattle.lst_page_state.specs.Known.{pages_in}
 use Rattle.lst_page_state.proofs.Safety.{sound_safe, sound_known}
 use Rattle.lst_crew_state.specs.Crews.{IsCrew, IsPinnedCrew}
-use Rattle.lst_crew_state.specs.Telling.{opened_of, tps_known, told, told_pages, pages_told}
+use Rattle.lst_crew_state.specs.Telling.{opened_of, told, told_pages, pages_told}
 use Rattle.lst_crew_state.specs.Effects.{SamePinEach, SameStock, HasSwapped}
 use Rattle.lst_crew_state.specs.Laws.{pin_lets_go, HoldersAreTold, HoldingAllIsHolding, LowestHolderIsTold, NoHolderIsTold, IsMergedTo, AreSettled, NothingNewIsTold, NoFrameIsTold, SwapsAreTold}
 use Rattle.lst_crew_state.proofs.Openings.{below_same, below_is, put_in_is}

@@ -11,8 +11,8 @@ use Rattle.lst_model.proofs.Folds.{get_snapshot}
 use Rattle.lst_core_state.specs.Lists.{Has}
 use Rattle.lst_core_state.specs.Writes.{write, writes_by}
 use Rattle.lst_core_state.proofs.Sights.{same_truth}
-use Rattle.lst_machine.specs.State.{Accepted}
 use Rattle.lst_machine.specs.Writes.{gathered, accepted_below, own_writes}
+use Rattle.lst_machine.proofs.Appending.{gathered-append}
 use Rattle.lst_core_state.specs.declared.known.Known.{Known}
 use Rattle.lst_core_state.specs.declared.known.Hold.{Hold}
 use Rattle.lst_core_state.specs.Cells.{record_count}
@@ -24,11 +24,6 @@ use Rattle.lst_core_state.proofs.Decoded as decoded
 use Rattle.lst_crew_state.specs.Crews.{IsCrew}
 use Rattle.lst_crew_state.specs.Telling.{accepted_at, accepted_first, told}
 use Rattle.lst_crew_state.specs.Laws.{OwnWritesAreTold, SightsAreTold}
-
--- what is gathered of two lists is gathered of the first and then of the second
-gathered-append : (s n : ℕ) (writes : List Write) (xs ys : List Accepted) → gathered s n writes (xs ++ ys) ≡ gathered s n (gathered s n writes xs) ys
-gathered-append s n writes [] ys = refl
-gathered-append s n writes (x ∷ xs) ys = gathered-append s n (cond (x.session == s && x.number == n) (joined writes x.write) writes) xs ys
 
 -- numbers that aren't taken add nothing
 writes_skip : (p : ℕ → Bool) (key : ℕ → ℕ) (act : ℕ → Act) (n d : ℕ) → ((t : ℕ) → n < t → t ≤ n + d → p t ≡ false) → writes_by p key act (n + d) ≡ writes_by p key act n

@@ -2,7 +2,7 @@
 use Rattle.std.proofs.Common.{◌≡◌, ◌≢◌, ℕ, zero, suc, ◌+◌, ◌-◌, ◌*◌, ◌/◌, ◌%◌, ◌<◌, ◌≤◌, Bool, true, false, cond, not, List, [], ◌∷◌, ◌++◌, refl, sym, subst, ap, ◌∙◌, arith, ⊎_elim, inl, inr, ◌⊎◌, true≢false, eqb, eq-eqb, ne_eqb, eqb-true, lt-ltb, le-ltb}
 use mathlib.Core.Logic.{dite}
 use native.Mathlib.Decide.{ℕ_discrete}
-use Rattle.std.specs.Prelude.{Option, Some, None, is_some, unwrap_or, nat_lt, ◌==◌, ◌&&◌}
+use Rattle.std.specs.Prelude.{Option, Some, None, unwrap_or, nat_lt, ◌==◌, ◌&&◌}
 use Rattle.lst_layout.specs.declared.limits.Limits.{Limits}
 use Rattle.lst_model.specs.declared.replies.Cause.{Cause}
 use Rattle.lst_model.specs.declared.replies.Cause.TheVariants.{Newer, Unfinished}
@@ -11,6 +11,7 @@ use Rattle.lst_core_state.proofs.Lists.{links_low}
 use Rattle.lst_core_state.proofs.Sights.{is_false}
 use Rattle.lst_machine.specs.State.{Accepted}
 use Rattle.lst_machine.specs.Writes.{last_where, rival_of, conflict_at, conflict_with, conflict_of}
+use Rattle.lst_machine.proofs.Appending.{last-append}
 use Rattle.lst_core_state.specs.Cells.{record_count, range_of}
 use Rattle.lst_core_state.specs.Index.{is_placed}
 use Rattle.lst_core_state.specs.State.{Words, Core, entry, writer_at, state_at, record_in, back_in, head_of, name_of, line, history_of}
@@ -22,19 +23,6 @@ use Rattle.lst_crew_state.specs.Laws.{AllClosed, Conflicts, ConflictsAreTold}
 use Rattle.lst_crew_state.proofs.Keys.{key_place}
 use Rattle.lst_crew_state.proofs.Owns.{no_hand, drawn_stored}
 use Rattle.lst_crew_state.proofs.Timed.{untimed, timed}
-
-last-append : (f : Accepted → Bool) (xs : List Accepted) (y : Accepted) → last_where f (xs ++ y ∷ []) ≡ cond (f y) (Some y) (last_where f xs)
-last-append f [] y = at_test (f y)
-  where
-    at_test : (b : Bool) → cond (is_some {T = Accepted} None) None (cond b (Some y) None) ≡ cond b (Some y) None
-    at_test b = refl
-last-append f (x ∷ xs) y =
-    ap (λ last. cond (is_some last) last (cond (f x) (Some x) None)) (last-append f xs y) ∙ at_test (f y)
-  where
-    at_test : (b : Bool) → cond (is_some (cond b (Some y) (last_where f xs))) (cond b (Some y) (last_where f xs)) (cond (f x) (Some x) None)
-        ≡ cond b (Some y) (cond (is_some (last_where f xs)) (last_where f xs) (cond (f x) (Some x) None))
-    at_test true = refl
-    at_test false = refl
 
 -- the last of a range's writes that passes a test
 module _ (l : Limits) (w : Words) (range : ℕ) (f : Accepted → Bool) where

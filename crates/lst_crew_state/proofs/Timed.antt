@@ -1,8 +1,8 @@
 -- When a transaction is committed: the time of its commit in the history is that of its state word.
-use Rattle.std.proofs.Common.{◌≡◌, ◌≢◌, ℕ, zero, suc, ◌+◌, ◌*◌, ◌/◌, ◌%◌, ◌<◌, ◌≤◌, Bool, true, false, cond, List, [], ◌∷◌, ◌++◌, length, refl, sym, ap, ◌∙◌, arith, eq-eqb, eqb-true}
+use Rattle.std.proofs.Common.{◌≡◌, ◌≢◌, ℕ, zero, suc, ◌+◌, ◌*◌, ◌/◌, ◌%◌, ◌<◌, ◌≤◌, Bool, true, false, List, length, refl, sym, ap, ◌∙◌, arith, eq-eqb, eqb-true}
 use mathlib.Core.Logic.{dite}
 use native.Mathlib.Decide.{ℕ_discrete}
-use Rattle.std.specs.Prelude.{Option, Some, None, ◌==◌, ◌&&◌}
+use Rattle.std.specs.Prelude.{Some, None, ◌==◌, ◌&&◌}
 use Rattle.lst_layout.specs.declared.limits.Limits.{Limits}
 use Rattle.lst_model.specs.declared.acts.Write.{Write}
 use Rattle.lst_model.specs.declared.commits.Commit.{Commit}
@@ -10,29 +10,9 @@ use Rattle.lst_core_state.proofs.Sights.{is_false}
 use Rattle.lst_core_state.proofs.Histories.{length-history}
 use Rattle.lst_core_state.proofs.Decoded.{both_say}
 use Rattle.lst_machine.specs.Writes.{time_of}
+use Rattle.lst_machine.proofs.Appending.{or_last, time-append}
 use Rattle.lst_core_state.specs.State.{Words, Core, entry, writer_at, state_at, writes_of, history, history_of, commit_at}
 use Rattle.lst_crew_state.specs.Crews.{IsCrew}
-
--- the time of a transaction once a commit stands last
-abbrev pub or_last : Option ℕ → Bool → ℕ → Option ℕ
-or_last (Some time) same last = Some time
-or_last None same last = cond same (Some last) None
-
-time-append : (history : List Commit) (commit : Commit) (s n : ℕ) → time_of (history ++ commit ∷ []) s n ≡ or_last (time_of history s n) (commit.session == s && commit.number == n) (length history + 1)
-time-append [] commit s n = at_test (commit.session == s && commit.number == n) refl
-  where
-    at_test : (b : Bool) → (commit.session == s && commit.number == n) ≡ b → time_of (commit ∷ []) s n ≡ or_last None b (0 + 1)
-    at_test true is = rw is refl
-    at_test false is = rw is refl
-time-append (first ∷ history) commit s n = at_test (time-append history commit s n) (first.session == s && first.number == n) refl (time_of history s n) refl (commit.session == s && commit.number == n) refl
-  where
-    at_test : time_of (history ++ commit ∷ []) s n ≡ or_last (time_of history s n) (commit.session == s && commit.number == n) (length history + 1)
-        → (b : Bool) → (first.session == s && first.number == n) ≡ b → (t : Option ℕ) → time_of history s n ≡ t → (c : Bool) → (commit.session == s && commit.number == n) ≡ c
-        → time_of (first ∷ (history ++ commit ∷ [])) s n ≡ or_last (time_of (first ∷ history) s n) (commit.session == s && commit.number == n) (length (first ∷ history) + 1)
-    at_test rest true is t at c last = rw is refl
-    at_test rest false is (Some t) at c last = rw (is, rest, at) refl
-    at_test rest false is None at true last = rw (is, rest, at, last) (ap Some (omega arith))
-    at_test rest false is None at false last = rw (is, rest, at, last) refl
 
 -- the times of a log
 module _ (log : ℕ → ℕ) (begins : ℕ → ℕ → ℕ) (ws : ℕ → List Write) (s m : ℕ) where

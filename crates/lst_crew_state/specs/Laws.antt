@@ -29,8 +29,9 @@ use Rattle.lst_page_state.specs.Settled.{settled_tails}
 use Rattle.lst_page_state.specs.Sound.{IsPage}
 use Rattle.lst_page_state.specs.Step.{lets_go}
 use Rattle.lst_page_state.specs.Known.{PagesSound}
+use Rattle.lst_page_state.specs.Runs.{tps_known}
 use Rattle.lst_crew_state.specs.Crews.{IsCrew, IsPinnedCrew}
-use Rattle.lst_crew_state.specs.Telling.{told_store, told, tps_known, told_pages, pages_told, told_state}
+use Rattle.lst_crew_state.specs.Telling.{told_store, told, told_pages, pages_told, told_state}
 use Rattle.lst_crew_state.specs.Folding.{AreFolded, AreAllFolded, NeedsNoTail}
 use Rattle.lst_crew_state.specs.Effects.{SameTransactions, SameBut, TellAlike, HasBegun, HasEnded, begun_words, closed_words, committed_words, placed_words, IsWritten, SamePinEach, SamePinBut, SameStock, HasSwapped, begins_or_ends}
 

@@ -7,8 +7,7 @@ use Rattle.lst_core_state.specs.declared.known.Known.{Known}
 use Rattle.lst_core_state.specs.declared.pages.MergerFrames.{MergerFrames}
 use Rattle.lst_core_state.specs.Cells.{listed}
 use Rattle.lst_core_state.specs.State.{Words, Core, writer_at, record_in, act_in, history_of}
-use Rattle.lst_pages.specs.Frames.{tps_in}
-use Rattle.lst_page_state.specs.Runs.{frame_known, page_known}
+use Rattle.lst_page_state.specs.Runs.{tps_known}
 
 -- the write of a tail, and its transaction
 abbrev pub accepted_at : Limits → Words → ℕ → Accepted
@@ -37,10 +36,6 @@ told_store l w known = record {
 
 abbrev pub told : Core → Store
 told c = told_store c.limits c.words c.known
-
--- the TPS of a page, as the merger knows it
-abbrev pub tps_known : MergerFrames → ℕ → ℕ → ℕ
-tps_known m r c = tps_in (frame_known m (page_known m r c))
 
 -- the TPS of each page; the epoch, which is the number of swaps; and by session the epoch that it has pinned, which is the number of swaps when
 -- its open transaction began. A pin is that epoch plus one, and 0 where there is none

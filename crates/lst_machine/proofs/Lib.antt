@@ -4,3 +4,10 @@ pub mod Listing
 pub mod Indexing
 pub mod Scanning
 pub mod Lowest
+pub mod Showing
+pub mod Appending
+pub mod Founding
+pub mod Viewing
+pub mod Answering
+pub mod Writing
+pub mod Covering

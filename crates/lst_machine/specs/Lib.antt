@@ -9,3 +9,5 @@ pub mod Transactions
 pub mod Changes
 pub mod Scans
 pub mod Listings
+pub mod Parts
+pub mod Machines

@@ -2,10 +2,18 @@
 //!
 //! The machine is stated in `specs/` with lists and maps. It has no words, version chains or page frames. `reply` and
 //! `next` give the answer to a line and the state after it, `replies` and `state_after` those of a whole script. The
-//! store part of the state decides every answer but those to merges. `src/` has what the engines that answer lines share.
+//! store part of the state decides every answer but those to merges. `Machine` runs from these definitions: it keeps the lists that they name and
+//! walks them, so it is slow; what it shares with `Plain` stands in `answers`.
 #![tactic(auto)]
 
 mod answers;
+mod calls;
+mod machine;
+mod merges;
+mod parts;
+mod sight;
+mod views;
+mod writes;
 
 ghost use Rattle.std.specs.Prelude.{◌≡◌, List};
 ghost use Rattle.lst_layout.specs.declared.limits.Limits.{Limits};
@@ -16,6 +24,7 @@ ghost use Rattle.lst_machine.specs.Others.{without_merges, other_replies};
 ghost use Rattle.lst_machine.specs.Orders.{OrderIsForgotten};
 
 pub use answers::{Transaction, answer_from_rows, lacks_index, list_row, refused, row_misfit};
+pub use machine::Machine;
 
 /// With the merge lines taken out of a script, exactly the replies to those lines are lost: two states with one store part
 /// answer all other lines alike, whatever their page parts are. The contract is a law; the body does nothing.

@@ -19,7 +19,8 @@ use Rattle.lst_plain.specs.Engines.{EngineState, session_of}
 use Rattle.lst_plain.specs.Steps.{with_write}
 use Rattle.lst_plain.specs.Telling.{own_acts, acts_by, is_by, has_write, is_live, is_apart, last_settled, accepted_on, IsReached, IsPending, KeyTells, SessionTells, StoreTells}
 use Rattle.lst_plain.proofs.Placing.{at_place, kept-at, kept-key, kept-set, keys-set}
-use Rattle.lst_plain.proofs.Acting.{acts_by-append, has_write-append, last-append, last-same, ends}
+use Rattle.lst_machine.proofs.Appending.{last-append}
+use Rattle.lst_plain.proofs.Acting.{acts_by-append, has_write-append, last-same, ends}
 use Rattle.lst_plain.proofs.Seeing.{beside}
 use Rattle.lst_plain.proofs.Opening.{at_each, put-same, put-else, apart, pending_same}
 

@@ -1,15 +1,14 @@
 -- The acts of one transaction among accepted writes, the last write that passes a test, and the times of commits.
-use Rattle.std.proofs.Common.{◌≡◌, ℕ, zero, suc, ◌+◌, ◌<◌, Bool, true, false, cond, List, [], ◌∷◌, ◌++◌, length, refl, sym, ap, ◌∙◌, append_assoc, arith, ◌≤◌, ⊎_elim}
+use Rattle.std.proofs.Common.{◌≡◌, ℕ, zero, suc, ◌<◌, Bool, true, false, cond, List, [], ◌∷◌, ◌++◌, refl, sym, ap, ◌∙◌, append_assoc, arith, ◌≤◌, ⊎_elim}
 use Rattle.std.proofs.lemmas.Bool.{cases_lt}
-use Rattle.std.specs.Prelude.{Option, Some, None, is_some, ◌==◌, ◌&&◌, ◌||◌}
+use Rattle.std.specs.Prelude.{Some, None, is_some, ◌==◌, ◌&&◌, ◌||◌}
 use Rattle.lst_model.specs.declared.acts.Act.{Act}
 use Rattle.lst_model.specs.declared.acts.Write.{Write}
-use Rattle.lst_model.specs.declared.commits.Commit.{Commit}
 use Rattle.lst_model.specs.Histories.{acts_on, joined, StandByKey}
 use Rattle.lst_model.proofs.Folds.{acts_on-append}
 use Rattle.lst_model.proofs.Joining.{joins}
 use Rattle.lst_machine.specs.State.{Accepted}
-use Rattle.lst_machine.specs.Writes.{last_where, time_of, gathered, accepted_below}
+use Rattle.lst_machine.specs.Writes.{last_where, gathered, accepted_below}
 use Rattle.lst_plain.specs.Telling.{is_by, acts_by, has_write}
 
 chosen : {A : Type 0} (b : Bool) (x : A) (xs ys : List A) → cond b (x ∷ (xs ++ ys)) (xs ++ ys) ≡ cond b (x ∷ xs) xs ++ ys
@@ -50,19 +49,6 @@ has_write-append key (x ∷ xs) y = ap (λ b. x.write.key == key || b) (has_writ
     grouped true b c = refl
     grouped false b c = refl
 
-pub last-append : (f : Accepted → Bool) (xs : List Accepted) (y : Accepted) → last_where f (xs ++ y ∷ []) ≡ cond (f y) (Some y) (last_where f xs)
-last-append f [] y = at_test (f y)
-  where
-    at_test : (b : Bool) → cond (is_some {T = Accepted} None) None (cond b (Some y) None) ≡ cond b (Some y) None
-    at_test b = refl
-last-append f (x ∷ xs) y =
-    ap (λ last. cond (is_some last) last (cond (f x) (Some x) None)) (last-append f xs y) ∙ at_test (f y)
-  where
-    at_test : (b : Bool) → cond (is_some (cond b (Some y) (last_where f xs))) (cond b (Some y) (last_where f xs)) (cond (f x) (Some x) None)
-        ≡ cond b (Some y) (cond (is_some (last_where f xs)) (last_where f xs) (cond (f x) (Some x) None))
-    at_test true = refl
-    at_test false = refl
-
 -- tests that differ at most on one transaction's writes to a key, of which there are none
 pub last-same : (s n key : ℕ) (f g : Accepted → Bool) (xs : List Accepted) → acts_by s n key xs ≡ [] → ((w : Accepted) → (is_by s n w && w.write.key == key) ≡ false → f w ≡ g w) → last_where f xs ≡ last_where g xs
 last-same s n key f g [] none same = refl
@@ -88,27 +74,6 @@ last-none key f (x ∷ xs) none fails =
     let parts = or-false (x.write.key == key) (has_write key xs) none in
     ap (λ last. cond (is_some last) last (cond (f x) (Some x) None)) (last-none key f xs parts.1 fails)
     ∙ ap (λ b. cond b (Some x) None) (fails x parts.0)
-
--- the time of a transaction once a commit stands last
-abbrev pub or_last : Option ℕ → Bool → ℕ → Option ℕ
-or_last (Some time) same last = Some time
-or_last None same last = cond same (Some last) None
-
-pub time-append : (history : List Commit) (commit : Commit) (s n : ℕ) → time_of (history ++ commit ∷ []) s n ≡ or_last (time_of history s n) (commit.session == s && commit.number == n) (length history + 1)
-time-append [] commit s n = at_test (commit.session == s && commit.number == n) refl
-  where
-    at_test : (b : Bool) → (commit.session == s && commit.number == n) ≡ b → time_of (commit ∷ []) s n ≡ or_last None b (0 + 1)
-    at_test true is = rw is refl
-    at_test false is = rw is refl
-time-append (first ∷ history) commit s n = at_test (time-append history commit s n) (first.session == s && first.number == n) refl (time_of history s n) refl (commit.session == s && commit.number == n) refl
-  where
-    at_test : time_of (history ++ commit ∷ []) s n ≡ or_last (time_of history s n) (commit.session == s && commit.number == n) (length history + 1)
-        → (b : Bool) → (first.session == s && first.number == n) ≡ b → (t : Option ℕ) → time_of history s n ≡ t → (c : Bool) → (commit.session == s && commit.number == n) ≡ c
-        → time_of (first ∷ (history ++ commit ∷ [])) s n ≡ or_last (time_of (first ∷ history) s n) (commit.session == s && commit.number == n) (length (first ∷ history) + 1)
-    at_test rest true is t at c last = rw is refl
-    at_test rest false is (Some t) at c last = rw (is, rest, at) refl
-    at_test rest false is None at true last = rw (is, rest, at, last) (ap Some (omega arith))
-    at_test rest false is None at false last = rw (is, rest, at, last) refl
 
 -- the acts on a key of the writes that are gathered of one transaction
 pub acts_on-gathered : (s n key : ℕ) (writes : List Write) (xs : List Accepted) → StandByKey writes → acts_on key (gathered s n writes xs) ≡ acts_on key writes ++ acts_by s n key xs

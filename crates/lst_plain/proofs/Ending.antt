@@ -21,7 +21,8 @@ use Rattle.lst_plain.specs.Steps.{with_end}
 use Rattle.lst_plain.specs.Telling.{own_acts, is_by, is_live, is_apart, last_settled, accepted_on, IsReached, KeyTells, SessionTells, StoreTells}
 use Rattle.lst_plain.proofs.Timed.{row-append, row-late, newest-append, rising-append}
 use Rattle.lst_plain.proofs.Placing.{settled-key, kept-map}
-use Rattle.lst_plain.proofs.Acting.{ends, last-same, last-equal, or_last, time-append}
+use Rattle.lst_machine.proofs.Appending.{or_last, time-append}
+use Rattle.lst_plain.proofs.Acting.{ends, last-same, last-equal}
 use Rattle.lst_plain.proofs.Opening.{at_each, put-same, put-else, apart, pending_same}
 use Rattle.lst_plain.proofs.Accepting.{and-left, swapped}
 

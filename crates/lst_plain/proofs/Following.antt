@@ -15,7 +15,7 @@ use Rattle.lst_plain.specs.Lineages.{HolderState, LineageState, holder_of, new_h
 use Rattle.lst_plain.specs.Pages.{is_open_by, first_where, WriteTells, SwapsTell, HolderTells, PagesTell}
 use Rattle.lst_plain.proofs.Firsts.{not_zero, all_from, all-append, first-same, first-none, first-append}
 use Rattle.lst_plain.proofs.Opening.{at_each, put-same, put-else, apart}
-use Rattle.lst_plain.proofs.Acting.{or_last, time-append}
+use Rattle.lst_machine.proofs.Appending.{or_last, time-append}
 
 -- what is kept of a session once one is changed
 holder_here : (holders : List HolderState) (s : ℕ) (new : HolderState) → s < length holders → holder_of (set holders s new) s ≡ new

@@ -308,10 +308,6 @@ module _ (engine : EngineState) (s : ℕ) (time : Option ℕ) (whole : IsWhole e
         omega (arith, counts, numbers, one, before, high);
   }
 
--- what an element that was read is, whatever stands past the end
-pub element : {A : Type 0} (items : List A) (i : ℕ) (x d : A) → i < length items → x ≡ get_or items i x → x ≡ get_or items i d
-element items i x d low is = is ∙ get_or_default items i x d low
-
 -- a session that may begin has no open transaction, and has some left
 pub free_to_begin : (engine : EngineState) (s : ℕ) → refusal_of_begin engine s ≡ None → ((session_of engine s).transaction ≡ None) × ((session_of engine s).begins < engine.limits.txns)
 free_to_begin engine s free = at (session_of engine s).transaction refl (nat_le engine.limits.txns (session_of engine s).begins) refl

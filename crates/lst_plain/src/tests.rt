@@ -1,10 +1,11 @@
-//! Worked scripts: each line with its reply.
+//! Worked scripts: each line with its reply, by the plain engine and by the machine that runs from its definition.
 ghost use Rattle.std.specs.Prelude.{◌<◌, IsTrue};
 ghost use Rattle.lst_model.specs.Lines.{CallFits};
 
 use crate::Plain;
 use arrayvec::ArrayVec;
 use lst_layout::Limits;
+use lst_machine::Machine;
 use lst_model::{
     Act, Call, Cause, Key, KeyList, Line, Patch, Reply, Row, RowList, Table, Write, apply,
 };
@@ -116,39 +117,54 @@ fn fits(limits: &Limits, session: u32, call: &Call) -> bool
     }
 }
 
-fn opened(alloc: Global, limits: Limits) -> Result<Plain, Fail> {
+/// The two engines of one thread, which are asked alike.
+#[derive(Drop)]
+struct Both {
+    plain: Plain,
+    machine: Machine,
+}
+
+fn opened(alloc: Global, limits: Limits) -> Result<Both, Fail> {
     let Ok(layout) = limits.check() else {
         return Err(Fail::from("the limits are in range"));
     };
-    Ok(Plain::new(alloc, &layout)?)
+    Ok(Both {
+        plain: Plain::new(alloc, &layout)?,
+        machine: Machine::new(alloc, &layout)?,
+    })
 }
 
 /// A session's call, and its reply compared.
 fn answers(
     rt: &impl Abort,
-    plain: &mut Plain,
+    both: &mut Both,
     session: u32,
     call: Call,
     wanted: Reply,
 ) -> Result<(), Fail> {
-    assert!(rt; fits(&plain.engine.limits, session, &call));
-    let reply = plain.line(&Line::Call { session, call })?;
-    assert_eq!(rt; reply, wanted);
+    assert!(rt; fits(&both.plain.engine.limits, session, &call));
+    assert!(rt; fits(&both.machine.limits(), session, &call));
+    let line = Line::Call { session, call };
+    assert_eq!(rt; both.plain.line(&line)?, wanted);
+    assert_eq!(rt; both.machine.line(&line)?, wanted);
     Ok(())
 }
 
 /// A merge, and its reply compared.
 fn merges(
     rt: &impl Abort,
-    plain: &mut Plain,
+    both: &mut Both,
     range: u32,
     column: u32,
     wanted: Reply,
 ) -> Result<(), Fail> {
-    let limits = plain.engine.limits;
+    let limits = both.plain.engine.limits;
     assert!(rt; range < limits.ranges && column < limits.columns);
-    let reply = plain.line(&Line::Merge { range, column })?;
-    assert_eq!(rt; reply, wanted);
+    let limits = both.machine.limits();
+    assert!(rt; range < limits.ranges && column < limits.columns);
+    let line = Line::Merge { range, column };
+    assert_eq!(rt; both.plain.line(&line)?, wanted);
+    assert_eq!(rt; both.machine.line(&line)?, wanted);
     Ok(())
 }
 
@@ -159,9 +175,9 @@ fn run<const N: usize>(
     limits: Limits,
     script: [(u32, Call, Reply); N],
 ) -> Result<(), Fail> {
-    let mut plain = opened(alloc, limits)?;
+    let mut both = opened(alloc, limits)?;
     for (session, call, wanted) in Vec::from_array(alloc, script)? {
-        answers(rt, &mut plain, session, call, wanted)?;
+        answers(rt, &mut both, session, call, wanted)?;
     }
     Ok(())
 }
@@ -393,14 +409,14 @@ fn a_table_of_one_range_has_256_keys(rt: HostRuntime) -> Result<(), Fail> {
         ranges: 1,
         ..Limits::default()
     };
-    let mut plain = opened(rt.alloc(), limits)?;
-    answers(&rt, &mut plain, 0, Call::Begin, begun(0))?;
+    let mut both = opened(rt.alloc(), limits)?;
+    answers(&rt, &mut both, 0, Call::Begin, begun(0))?;
     for key in 1..257 {
-        answers(&rt, &mut plain, 0, insert(key, 1, 1), Reply::Done)?;
+        answers(&rt, &mut both, 0, insert(key, 1, 1), Reply::Done)?;
     }
     answers(
         &rt,
-        &mut plain,
+        &mut both,
         0,
         insert(257, 1, 1),
         refused(Cause::TableFull),
@@ -413,10 +429,10 @@ fn the_rows_are_those_of_a_table_that_the_writes_were_applied_to(
 ) -> Result<(), Fail> {
     let alloc = rt.alloc();
     let mut table = Table::new(alloc);
-    let mut plain = opened(alloc, Limits::default())?;
-    answers(&rt, &mut plain, 0, Call::Begin, begun(0))?;
-    answers(&rt, &mut plain, 0, insert(7, 10, 20), Reply::Done)?;
-    answers(&rt, &mut plain, 0, Call::Commit, committed(1))?;
+    let mut both = opened(alloc, Limits::default())?;
+    answers(&rt, &mut both, 0, Call::Begin, begun(0))?;
+    answers(&rt, &mut both, 0, insert(7, 10, 20), Reply::Done)?;
+    answers(&rt, &mut both, 0, Call::Commit, committed(1))?;
     apply(
         &mut table,
         &Write {
@@ -424,9 +440,9 @@ fn the_rows_are_those_of_a_table_that_the_writes_were_applied_to(
             act: Act::Put(row(10, 20)),
         },
     )?;
-    answers(&rt, &mut plain, 0, Call::Begin, begun(1))?;
-    answers(&rt, &mut plain, 0, update(7, Some(11), None), Reply::Done)?;
-    answers(&rt, &mut plain, 0, Call::Commit, committed(2))?;
+    answers(&rt, &mut both, 0, Call::Begin, begun(1))?;
+    answers(&rt, &mut both, 0, update(7, Some(11), None), Reply::Done)?;
+    answers(&rt, &mut both, 0, Call::Commit, committed(2))?;
     apply(
         &mut table,
         &Write {
@@ -435,8 +451,8 @@ fn the_rows_are_those_of_a_table_that_the_writes_were_applied_to(
         },
     )?;
     assert_eq!(rt; table.row(7), Some(row(11, 20)));
-    answers(&rt, &mut plain, 1, Call::Begin, begun(2))?;
-    answers(&rt, &mut plain, 1, get(7), found(11, 20))
+    answers(&rt, &mut both, 1, Call::Begin, begun(2))?;
+    answers(&rt, &mut both, 1, get(7), found(11, 20))
 }
 
 #[test]
@@ -486,21 +502,21 @@ fn all_rows_are_summed_counted_scanned_and_found(rt: HostRuntime) -> Result<(), 
 
 #[test]
 fn a_merge_stops_at_an_open_write(rt: HostRuntime) -> Result<(), Fail> {
-    let mut plain = opened(rt.alloc(), Limits::default())?;
+    let mut both = opened(rt.alloc(), Limits::default())?;
     for session in 0..3 {
-        answers(&rt, &mut plain, session, Call::Begin, begun(0))?;
+        answers(&rt, &mut both, session, Call::Begin, begun(0))?;
     }
     for session in 0..3 {
         let key = u64::from(session);
-        answers(&rt, &mut plain, session, insert(key, 1, 1), Reply::Done)?;
+        answers(&rt, &mut both, session, insert(key, 1, 1), Reply::Done)?;
     }
-    answers(&rt, &mut plain, 0, Call::Commit, committed(1))?;
-    answers(&rt, &mut plain, 2, Call::Commit, committed(2))?;
-    merges(&rt, &mut plain, 0, 0, Reply::Merged { tps: 1 })?;
-    answers(&rt, &mut plain, 1, Call::Abort, Reply::Aborted)?;
-    merges(&rt, &mut plain, 0, 0, Reply::Merged { tps: 3 })?;
-    merges(&rt, &mut plain, 0, 0, Reply::NothingNew { tps: 3 })?;
-    merges(&rt, &mut plain, 1, 0, Reply::NothingNew { tps: 0 })
+    answers(&rt, &mut both, 0, Call::Commit, committed(1))?;
+    answers(&rt, &mut both, 2, Call::Commit, committed(2))?;
+    merges(&rt, &mut both, 0, 0, Reply::Merged { tps: 1 })?;
+    answers(&rt, &mut both, 1, Call::Abort, Reply::Aborted)?;
+    merges(&rt, &mut both, 0, 0, Reply::Merged { tps: 3 })?;
+    merges(&rt, &mut both, 0, 0, Reply::NothingNew { tps: 3 })?;
+    merges(&rt, &mut both, 1, 0, Reply::NothingNew { tps: 0 })
 }
 
 #[test]
@@ -509,16 +525,16 @@ fn a_merge_waits_for_the_lowest_session_that_began_before(rt: HostRuntime) -> Re
         spare: 1,
         ..Limits::default()
     };
-    let mut plain = opened(rt.alloc(), limits)?;
-    answers(&rt, &mut plain, 0, Call::Begin, begun(0))?;
-    answers(&rt, &mut plain, 0, insert(7, 10, 20), Reply::Done)?;
-    answers(&rt, &mut plain, 0, Call::Commit, committed(1))?;
-    answers(&rt, &mut plain, 1, Call::Begin, begun(1))?;
-    answers(&rt, &mut plain, 2, Call::Begin, begun(1))?;
-    merges(&rt, &mut plain, 0, 0, Reply::Merged { tps: 1 })?;
-    merges(&rt, &mut plain, 0, 1, Reply::NoFrame { session: 1 })?;
-    answers(&rt, &mut plain, 1, Call::Commit, ended(1))?;
-    merges(&rt, &mut plain, 0, 1, Reply::NoFrame { session: 2 })?;
-    answers(&rt, &mut plain, 2, Call::Abort, Reply::Aborted)?;
-    merges(&rt, &mut plain, 0, 1, Reply::Merged { tps: 1 })
+    let mut both = opened(rt.alloc(), limits)?;
+    answers(&rt, &mut both, 0, Call::Begin, begun(0))?;
+    answers(&rt, &mut both, 0, insert(7, 10, 20), Reply::Done)?;
+    answers(&rt, &mut both, 0, Call::Commit, committed(1))?;
+    answers(&rt, &mut both, 1, Call::Begin, begun(1))?;
+    answers(&rt, &mut both, 2, Call::Begin, begun(1))?;
+    merges(&rt, &mut both, 0, 0, Reply::Merged { tps: 1 })?;
+    merges(&rt, &mut both, 0, 1, Reply::NoFrame { session: 1 })?;
+    answers(&rt, &mut both, 1, Call::Commit, ended(1))?;
+    merges(&rt, &mut both, 0, 1, Reply::NoFrame { session: 2 })?;
+    answers(&rt, &mut both, 2, Call::Abort, Reply::Aborted)?;
+    merges(&rt, &mut both, 0, 1, Reply::Merged { tps: 1 })
 }

@@ -1,7 +1,7 @@
 use Rattle.std.proofs.Common.{◌≡◌, ◌+◌, ◌<◌, List, [], ◌∷◌, ◌++◌, length, take, sym, ap, ◌∙◌, subst, add-one, take-suc}
 use Rattle.std.proofs.lemmas.List.{take_all}
 use Rattle.lst_plain.specs.Lineages.{HolderState, new_holder, lesser, least_first}
-use Rattle.lst_plain.proofs.Keeping.{element}
+use Rattle.lst_machine.proofs.Viewing.{element}
 use Rattle.lst_plain.proofs.Firsts.{least-append}
 use Rattle.lst_plain.proofs.lineage.least_of.Goals as goal
 

@@ -6,7 +6,8 @@ use Rattle.lst_plain.specs.Sessions.{SessionState, new_session, noted_places}
 use Rattle.lst_plain.specs.Engines.{EngineState, session_of, IsWhole}
 use Rattle.lst_plain.specs.Steps.{kept_at, with_write}
 use Rattle.lst_plain.specs.EngineOf.{engine_of}
-use Rattle.lst_plain.proofs.Keeping.{element, dropped, free_none, whole_written}
+use Rattle.lst_machine.proofs.Viewing.{element}
+use Rattle.lst_plain.proofs.Keeping.{dropped, free_none, whole_written}
 use Rattle.lst_plain.proofs.engine.Engine.accept.Goals as goal
 
 at_ok : {T E P : Type 0} (r : Result T E) → false ≡ is_err r → OnOk r P → P

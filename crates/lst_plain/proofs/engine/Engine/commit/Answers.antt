@@ -7,7 +7,8 @@ use Rattle.lst_plain.specs.Sessions.{SessionState, new_session}
 use Rattle.lst_plain.specs.Engines.{EngineState, IsWhole}
 use Rattle.lst_plain.specs.Telling.{StoreTells}
 use Rattle.lst_plain.specs.EngineOf.{engine_of}
-use Rattle.lst_plain.proofs.Keeping.{element, few_commits}
+use Rattle.lst_machine.proofs.Viewing.{element}
+use Rattle.lst_plain.proofs.Keeping.{few_commits}
 use Rattle.lst_plain.proofs.Answering.{commit_empty, commit_some}
 use Rattle.lst_plain.proofs.engine.Engine.commit.Goals as goal
 

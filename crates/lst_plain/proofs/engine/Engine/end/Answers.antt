@@ -5,7 +5,8 @@ use Rattle.lst_plain.specs.Rows.{Kept, settled}
 use Rattle.lst_plain.specs.Sessions.{SessionState, new_session}
 use Rattle.lst_plain.specs.Engines.{session_of, IsWhole}
 use Rattle.lst_plain.specs.EngineOf.{engine_of}
-use Rattle.lst_plain.proofs.Keeping.{element, contained, whole_ended}
+use Rattle.lst_machine.proofs.Viewing.{element}
+use Rattle.lst_plain.proofs.Keeping.{contained, whole_ended}
 use Rattle.lst_plain.proofs.engine.Engine.end.Goals as goal
 
 pub settle_all-requires-clause-within : goal.settle_all-requires-clause-within

@@ -4,7 +4,8 @@ use Rattle.lst_machine.specs.declared.answers.Transaction.{Transaction}
 use Rattle.lst_plain.specs.Sessions.{SessionState, new_session}
 use Rattle.lst_plain.specs.Engines.{IsWhole}
 use Rattle.lst_plain.specs.EngineOf.{engine_of}
-use Rattle.lst_plain.proofs.Keeping.{element, whole_begun}
+use Rattle.lst_machine.proofs.Viewing.{element}
+use Rattle.lst_plain.proofs.Keeping.{whole_begun}
 use Rattle.lst_plain.proofs.engine.Engine.open.Goals as goal
 
 pub invariant_of-self : goal.invariant_of-self

@@ -1,7 +1,7 @@
 use Rattle.std.proofs.Common.{ap, ◌∙◌}
 use Rattle.lst_plain.specs.Lineages.{HolderState, new_holder, ended_holder, with_holder}
 use Rattle.lst_plain.specs.LineageOf.{lineage_of}
-use Rattle.lst_plain.proofs.Keeping.{element}
+use Rattle.lst_machine.proofs.Viewing.{element}
 use Rattle.lst_plain.proofs.lineage.Lineage.end.Goals as goal
 
 pub returns : goal.returns

@@ -3,7 +3,7 @@ use Rattle.std.specs.Prelude.{None}
 use Rattle.lst_machine.specs.Merges.{lowest_where}
 use Rattle.lst_machine.proofs.Lowest.{lowest-next, lowest-found}
 use Rattle.lst_plain.specs.Lineages.{new_holder, holder_of, is_behind}
-use Rattle.lst_plain.proofs.Keeping.{element}
+use Rattle.lst_machine.proofs.Viewing.{element}
 use Rattle.lst_plain.proofs.lineage.Lineage.holder.Goals as goal
 
 pub returns-then-is_behind : goal.returns-then-is_behind

@@ -7,7 +7,7 @@ use Rattle.lst_plain.specs.EngineOf.{engine_of}
 use Rattle.lst_plain.specs.Lineages.{LineageState, with_swap, least_first, tails_before, IsWide}
 use Rattle.lst_plain.specs.LineageOf.{lineage_of}
 use Rattle.lst_plain.specs.Plains.{StateTells}
-use Rattle.lst_plain.proofs.Keeping.{element}
+use Rattle.lst_machine.proofs.Viewing.{element}
 use Rattle.lst_plain.proofs.Joined.{wide_swapped, merge_nothing, merge_no_frame, merge_done}
 use Rattle.lst_plain.proofs.plain.Plain.merge.Goals as goal
 
