@@ -13,4 +13,6 @@ pub mod Entries
 pub mod Using
 pub mod Loading
 pub mod Paging
+pub mod Holding
 pub mod Rowing
+pub mod Straight

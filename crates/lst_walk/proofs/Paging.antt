@@ -251,10 +251,7 @@ module _ (store : Store) (v : View) (a b : Sitting) (s rec column n : ℕ) (entr
 pub page_ended : (store : Store) (v : View) (a : Sitting) (s rec column n : ℕ) (entry : Entry) → PageWalk store v a s rec column n entry → 0 < (knows v s).pages.session.pin → SavesCell v a.view s rec column
 page_ended store v a s rec column n entry walk pinned = page_saved store v a a s rec column n entry walk (watched_same a.view s) refl pinned
 
-module _ (store : Store) (v : View) (a : Sitting) (s rec column n : ℕ) (entry : Entry) (host : hosts v s ≡ true) (opened : (knows v s).is_open ≡ true) (short : column < store.layout.limits.columns) (walk : PageWalk store v a s rec column n entry) (some : 0 < n) (usable : n ≤ entry.until) where
-  abbrev serves : Serves v a.view s rec column (walk.walk.passed ++ walk.walk.versions) entry
-  serves = walk.serves (omega arith)
-
+module _ (store : Store) (v : View) (a : Sitting) (s rec column n : ℕ) (entry : Entry) (host : hosts v s ≡ true) (opened : (knows v s).is_open ≡ true) (short : column < store.layout.limits.columns) (walk : CellWalk store v a s rec column n) (serves : Serves v a.view s rec column (walk.passed ++ walk.versions) entry) (usable : n ≤ entry.until) where
   abbrev values : List ℕ
   values = serves.page.right.entries.values
 
@@ -268,36 +265,47 @@ module _ (store : Store) (v : View) (a : Sitting) (s rec column n : ℕ) (entry 
   page_low = serves.low
 
   limits_is : serves.between.limits ≡ store.layout.limits
-  limits_is = sym serves.after.learns.limits ∙ walk.walk.reader.seat_of.limits
+  limits_is = sym serves.after.learns.limits ∙ walk.reader.seat_of.limits
 
-  abbrev may : MayUse (knows v s) serves.between s rec column n walk.walk.passed walk.walk.versions serves.words
+  abbrev may : MayUse (knows v s) serves.between s rec column n walk.passed walk.versions serves.words
   may = record {
     page = serves.page;
     head = serves.head;
     copy = serves.copied;
-    leads = subst (λ (l : Limits). Leads l (range_of rec) n walk.walk.versions) (sym limits_is) walk.walk.chain.leads;
-    above_leaves = walk.walk.left;
+    leads = subst (λ (l : Limits). Leads l (range_of rec) n walk.versions) (sym limits_is) walk.chain.leads;
+    above_leaves = walk.left;
     low = let e = serves.is.until in omega arith;
     timely = serves.is.timely;
   }
 
-  sight : IsSightOf (knows v s) rec (seen_acts (knows v s) s (walk.walk.passed ++ walk.walk.versions))
-  sight = subst (λ acts. IsSightOf (knows v s) rec acts) walk.walk.whole walk.walk.sees
+  sight : IsSightOf (knows v s) rec (seen_acts (knows v s) s (walk.passed ++ walk.versions))
+  sight = subst (λ acts. IsSightOf (knows v s) rec acts) walk.whole walk.sees
 
   short_there : column < serves.between.limits.columns
   short_there = subst (λ (l : Limits). column < l.columns) (sym limits_is) short
 
-  by_presence : (b : Bool) → is_present (stamp_in serves.words (rec % 256)) ≡ b → cond b (Some (slice_index values (rec % 256))) None ≡ cell_in column (row_from None (seen_acts (knows v s) s (walk.walk.passed ++ walk.walk.versions)))
-  by_presence true is = sym (entry_number v serves.between s rec column n walk.walk.passed walk.walk.versions serves.words walk.walk.possible host opened serves.before short_there may sight is)
-  by_presence false is = sym (ap (cell_in column) (entry_absent v serves.between s rec column n walk.walk.passed walk.walk.versions serves.words walk.walk.possible host opened serves.before short_there may sight is))
+  by_presence : (b : Bool) → is_present (stamp_in serves.words (rec % 256)) ≡ b → cond b (Some (slice_index values (rec % 256))) None ≡ cell_in column (row_from None (seen_acts (knows v s) s (walk.passed ++ walk.versions)))
+  by_presence true is = sym (entry_number v serves.between s rec column n walk.passed walk.versions serves.words walk.possible host opened serves.before short_there may sight is)
+  by_presence false is = sym (ap (cell_in column) (entry_absent v serves.between s rec column n walk.passed walk.versions serves.words walk.possible host opened serves.before short_there may sight is))
+
+  -- the cell, where there is a row
+  pub page_shows : entry.is_present ≡ true → IsCellOf v s rec column (Some (slice_index serves.page.right.entries.values (rec % 256)))
+  page_shows there = (seen_acts (knows v s) s (walk.passed ++ walk.versions), sight, ap (λ (b : Bool). cond b (Some (slice_index values (rec % 256))) None) (sym there ∙ serves.is.present) ∙ by_presence (is_present (stamp_in serves.words (rec % 256))) refl)
+
+  -- and where there is none
+  pub page_absent : entry.is_present ≡ false → IsCellOf v s rec column None
+  page_absent none = (seen_acts (knows v s) s (walk.passed ++ walk.versions), sight, ap (λ (b : Bool). cond b (Some (slice_index values (rec % 256))) None) (sym none ∙ serves.is.present) ∙ by_presence (is_present (stamp_in serves.words (rec % 256))) refl)
+
+  pub page_packs : Packs (packed_words a.view s entry.frame) serves.page.right.entries.values
+  page_packs = packs
 
   pub page_used : (result : Option ℕ) → ((vs : List ℕ) → Packs (packed_words a.view s entry.frame) vs → result ≡ cond entry.is_present (Some (slice_index vs (rec % 256))) None) → IsCellOf v s rec column result
-  page_used result is = (seen_acts (knows v s) s (walk.walk.passed ++ walk.walk.versions), sight, is values packs ∙ (ap (λ (b : Bool). cond b (Some (slice_index values (rec % 256))) None) serves.is.present ∙ by_presence (is_present (stamp_in serves.words (rec % 256))) refl))
+  page_used result is = (seen_acts (knows v s) s (walk.passed ++ walk.versions), sight, is values packs ∙ (ap (λ (b : Bool). cond b (Some (slice_index values (rec % 256))) None) serves.is.present ∙ by_presence (is_present (stamp_in serves.words (rec % 256))) refl))
 
   pub page_walked : (b : View) (result : Option ℕ) → Watched a.view b s → WalksCell v b s rec column result
   page_walked b result ab = (
-    walk.walk.passed,
-    walk.walk.versions,
-    passes_later v a.view b s rec walk.walk.passed ab walk.walk.versions walk.walk.passes,
+    walk.passed,
+    walk.versions,
+    passes_later v a.view b s rec walk.passed ab walk.versions walk.passes,
     inr (inr record { between = serves.between; before = serves.before; after = watched_on serves.between a.view b s serves.after ab; number = n; words = serves.words; frame = entry.frame; in_hand = hand_stays a.view b s entry.frame serves.words ab serves.in_hand; may = may }),
   )

@@ -47,7 +47,7 @@ use Rattle.lst_walk.proofs.Lists.{set_known, column_other, column_some, row_all,
 
 -- ---- the pages of all columns are taken in hand
 
-takes_earlier : (u v w : View) (s rec column : ℕ) (entry : Entry) → Watched u v s → Takes v w s rec column entry → Takes u w s rec column entry
+unfoldable pub takes_earlier : (u v w : View) (s rec column : ℕ) (entry : Entry) → Watched u v s → Takes v w s rec column entry → Takes u w s rec column entry
 takes_earlier u v w s rec column entry first t = record {
   reads = record {
     before = t.reads.before;
@@ -76,7 +76,7 @@ takes_earlier u v w s rec column entry first t = record {
     same_begin : (knows v s).begin ≡ (knows u s).begin
     same_begin = ap (λ (k : Known). k.begin) first.watches.is
 
-takes_later : (v w x : View) (s rec column : ℕ) (entry : Entry) → Watched w x s → Takes v w s rec column entry → Takes v x s rec column entry
+unfoldable pub takes_later : (v w x : View) (s rec column : ℕ) (entry : Entry) → Watched w x s → Takes v w s rec column entry → Takes v x s rec column entry
 takes_later v w x s rec column entry more t = record {
   reads = reads_later v w x s rec column more t.reads;
   first = t.first;
@@ -126,11 +126,27 @@ takes_blank store seat s rec k reader free = record {
   none = λ same column low. blank_at (no_entry ∷ no_entry ∷ no_entry ∷ no_entry ∷ no_entry ∷ no_entry ∷ no_entry ∷ no_entry ∷ []) column (refl, (refl, (refl, (refl, (refl, (refl, (refl, (refl, tt))))))));
 }
 
+-- a page that was taken in hand serves a walk that had come to the number before
+abbrev pub serves_from : (store : Store) (v : View) (h e : Sitting) (s rec n : ℕ) (patch : List (Option Cell)) (walk : RowWalk store v h s rec n patch) (column : ℕ) (entry : Entry) → Takes h.view e.view s rec column entry → 0 < entry.until → Serves v e.view s rec column (walk.passed ++ walk.versions) entry
+serves_from store v h e s rec n patch walk column entry t some = record {
+  between = t.reads.taken;
+  before = watched_on v h.view t.reads.taken s walk.watched t.first;
+  after = t.last;
+  words = t.words;
+  page = t.page;
+  head = walk.passes.head;
+  copied = copy_later h.view h.view t.reads.taken s rec [] t.first walk.passes.head (walk.passed ++ walk.versions) walk.passes.copy;
+  is = let u = t.usable some in record { until = u.until; timely = subst (λ (n : ℕ). time_of (stamp_in t.words (rec % 256)) ≤ n) (ap (λ (k : Known). k.begin) walk.watched.watches.is) u.timely; present = u.present };
+  low = t.low;
+  in_hand = t.in_hand;
+}
+
 -- ---- the walk begins
 
-pub rows_start : (store : Store) (v : View) (h e : Sitting) (s rec head : ℕ) (entries : List Entry) (patch : List (Option Cell)) → hosts v s ≡ true → (knows v s).is_open ≡ true → RowWalk store v h s rec head patch → (word : ℕ) → Looked v h.view s (HeadWord rec) word → head ≡ word / 2
+pub rows_start : (store : Store) (v d : View) (h e : Sitting) (s rec head : ℕ) (entries : List Entry) (patch : List (Option Cell)) → hosts v s ≡ true → (knows v s).is_open ≡ true → RowWalk store v h s rec head patch → (word : ℕ) → Looked v d s (HeadWord rec) word → head ≡ word / 2 → Skims d h.view s
     → TakesAll store h.view e s rec store.layout.limits.columns entries → RowPages store v e s rec head entries patch
-rows_start store v h e s rec head entries patch host opened walk word looked head_is all = let still : RowWalk store v e s rec head patch = row_stays store v h e s rec head patch walk all.skims.watched all.reader in
+unfolding takes_earlier
+rows_start store v d h e s rec head entries patch host opened walk word looked head_is later all = let still : RowWalk store v e s rec head patch = row_stays store v h e s rec head patch walk all.skims.watched all.reader in
     let columns_is : v.limits.columns ≡ store.layout.limits.columns = ap (λ (l : Limits). l.columns) (sym walk.watched.learns.limits ∙ walk.reader.seat_of.limits) in
     let pin = (same_pins (knows v s) (knows h.view s) walk.watched.watches).pin in record {
       host = host;
@@ -139,34 +155,20 @@ rows_start store v h e s rec head entries patch host opened walk word looked hea
       wide = all.wide;
       serves = λ column low some. subst (λ (cs : List Version). Serves v e.view s rec column cs (entry_at entries column)) (row_stays_same store v h e s rec head patch walk all.skims.watched all.reader) (dite (ℕ_discrete (knows h.view s).pages.session.pin 0)
           (λ free. absurd (let z = all.none free column low in omega arith))
-          (λ pinned. serves_by column (all.takes (omega arith) column low) some));
+          (λ pinned. serves_from store v h e s rec head patch walk column (entry_at entries column) (all.takes (omega arith) column low) some));
       saves = λ pinned. record {
-        headed = h.view;
+        headed = d;
         word = word;
         head = looked;
-        page = λ column low. (all.takes (omega arith) column (omega arith)).reads;
+        page = λ column low. (takes_earlier d h.view e.view s rec column (entry_at entries column) later.watched (all.takes (omega arith) column (omega arith))).reads;
         until = λ column low early. (all.takes (omega arith) column (omega arith)).timely (subst (λ (n : ℕ). time_of (all.takes (omega arith) column (omega arith)).reads.stamp ≤ n) (sym same_begin) early);
-        past = loads_none (IsPast v rec entries) v e.view s (all.skims.finds ∙ ap (λ (k : Known). k.finds) looked.view.now);
-        quiet = inl (head_is, all.skims.finds ∙ ap (λ (k : Known). k.finds) looked.view.now);
+        past = loads_none (IsPast v rec entries) v e.view s (all.skims.finds ∙ (later.finds ∙ ap (λ (k : Known). k.finds) looked.view.now));
+        quiet = inl (head_is, all.skims.finds ∙ (later.finds ∙ ap (λ (k : Known). k.finds) looked.view.now));
       };
     }
   where
     same_begin : (knows h.view s).begin ≡ (knows v s).begin
     same_begin = ap (λ (k : Known). k.begin) walk.watched.watches.is
-
-    serves_by : (column : ℕ) → Takes h.view e.view s rec column (entry_at entries column) → 0 < (entry_at entries column).until → Serves v e.view s rec column (walk.passed ++ walk.versions) (entry_at entries column)
-    serves_by column t some = record {
-      between = t.reads.taken;
-      before = watched_on v h.view t.reads.taken s walk.watched t.first;
-      after = t.last;
-      words = t.words;
-      page = t.page;
-      head = walk.passes.head;
-      copied = copy_later h.view h.view t.reads.taken s rec [] t.first walk.passes.head (walk.passed ++ walk.versions) walk.passes.copy;
-      is = let u = t.usable some in record { until = u.until; timely = subst (λ (n : ℕ). time_of (stamp_in t.words (rec % 256)) ≤ n) same_begin u.timely; present = u.present };
-      low = t.low;
-      in_hand = t.in_hand;
-    }
 
 -- ---- it goes on
 
@@ -260,105 +262,125 @@ module _ (store : Store) (v : View) (a : Sitting) (b : View) (s rec n : ℕ) (en
 
 -- ---- one column
 
-module _ (store : Store) (v : View) (a : Sitting) (s rec n column : ℕ) (entries : List Entry) (patch : List (Option Cell)) (p : RowPages store v a s rec n entries patch) (short : column < store.layout.limits.columns) (some : 0 < n) (usable : n ≤ (entry_at entries column).until) where
-  abbrev entry : Entry
-  entry = entry_at entries column
-
+-- its page serves a walk that has come to the number n
+module _ (store : Store) (v : View) (a : Sitting) (s rec n column : ℕ) (entry : Entry) (patch : List (Option Cell)) (walk : RowWalk store v a s rec n patch) (host : hosts v s ≡ true) (opened : (knows v s).is_open ≡ true) (short : column < store.layout.limits.columns) (serves : Serves v a.view s rec column (walk.passed ++ walk.versions) entry) (usable : n ≤ entry.until) where
   abbrev copy : List Version
-  copy = p.walk.passed ++ p.walk.versions
-
-  abbrev serves : Serves v a.view s rec column (p.walk.passed ++ p.walk.versions) (entry_at entries column)
-  serves = p.serves column short (omega arith)
+  copy = walk.passed ++ walk.versions
 
   abbrev values : List ℕ
   values = serves.page.right.entries.values
 
-  packs : Packs (packed_words a.view s entry.frame) values
-  packs = subst (λ (ws : List ℕ). Packs ws values) (sym (packed_same (knows a.view s).pages.session entry.frame serves.words serves.in_hand)) serves.page.right.entries.packed
+  pub column_packs : Packs (packed_words a.view s entry.frame) serves.page.right.entries.values
+  column_packs = subst (λ (ws : List ℕ). Packs ws values) (sym (packed_same (knows a.view s).pages.session entry.frame serves.words serves.in_hand)) serves.page.right.entries.packed
 
-  pub fill_packed : IsPacked (packed_words a.view s (entry_at entries column).frame)
-  fill_packed = (values, packs)
-
-  pub fill_low : (entry_at entries column).frame < frame_count a.view.limits
-  fill_low = serves.low
-
-  limits_is : serves.between.limits ≡ store.layout.limits
-  limits_is = sym serves.after.learns.limits ∙ p.walk.reader.seat_of.limits
+  pub column_limits : serves.between.limits ≡ store.layout.limits
+  column_limits = sym serves.after.learns.limits ∙ walk.reader.seat_of.limits
 
   columns_is : v.limits.columns ≡ store.layout.limits.columns
-  columns_is = ap (λ (l : Limits). l.columns) (sym p.walk.watched.learns.limits ∙ p.walk.reader.seat_of.limits)
+  columns_is = ap (λ (l : Limits). l.columns) (sym walk.watched.learns.limits ∙ walk.reader.seat_of.limits)
 
   short_there : column < serves.between.limits.columns
-  short_there = subst (λ (l : Limits). column < l.columns) (sym limits_is) short
+  short_there = subst (λ (l : Limits). column < l.columns) (sym column_limits) short
 
   sight : IsSightOf (knows v s) rec (seen_acts (knows v s) s copy)
-  sight = subst (λ acts. IsSightOf (knows v s) rec acts) p.walk.whole p.walk.sees
+  sight = subst (λ acts. IsSightOf (knows v s) rec acts) walk.whole walk.sees
 
   module _ (unset : slice_get patch column ≡ Some None) where
-    abbrev may : MayUse (knows v s) serves.between s rec column n p.walk.passed p.walk.versions serves.words
+    abbrev may : MayUse (knows v s) serves.between s rec column n walk.passed walk.versions serves.words
     may = record {
       page = serves.page;
       head = serves.head;
       copy = serves.copied;
-      leads = subst (λ (l : Limits). Leads l (range_of rec) n p.walk.versions) (sym limits_is) p.walk.chain.leads;
-      above_leaves = p.walk.left column unset;
+      leads = subst (λ (l : Limits). Leads l (range_of rec) n walk.versions) (sym column_limits) walk.chain.leads;
+      above_leaves = walk.left column unset;
       low = let e = serves.is.until in omega arith;
       timely = serves.is.timely;
     }
 
-    abbrev uses : (b : View) → Watched a.view b s → UsesPage v b s rec column p.walk.passed p.walk.versions
+    abbrev uses : (b : View) → Watched a.view b s → UsesPage v b s rec column walk.passed walk.versions
     uses b ab = record { between = serves.between; before = serves.before; after = watched_on serves.between a.view b s serves.after ab; number = n; words = serves.words; frame = entry.frame; in_hand = hand_stays a.view b s entry.frame serves.words ab serves.in_hand; may = may }
 
-    on_page : (b : View) → Watched a.view b s → UsedPage v b s rec column p.walk.passed p.walk.versions
-    on_page b ab = record { above = p.walk.passed; below = []; parts = sym (append-nil p.walk.passed); uses = uses b ab }
+    abbrev on_page : (b : View) → Watched a.view b s → UsedPage v b s rec column walk.passed walk.versions
+    on_page b ab = record { above = walk.passed; below = []; parts = sym (append-nil walk.passed); uses = uses b ab }
 
     -- an absent entry
-    pub fill_none : (b : Sitting) → Watched a.view b.view s → ((vs : List ℕ) → Packs (packed_words a.view s (entry_at entries column).frame) vs → None ≡ cond (entry_at entries column).is_present (Some (frames.cell_in serves.words (slice_index vs (rec % 256)) (rec % 256))) None) → HasNoRow v b s rec
-    fill_none b ab is = let no_entry_there : is_present (stamp_in serves.words (rec % 256)) ≡ false = sym serves.is.present ∙ absent entry.is_present (frames.cell_in serves.words (slice_index values (rec % 256)) (rec % 256)) (is values packs) in (
-      (p.walk.acts, p.walk.sees, sym (ap (row_from None) p.walk.whole ∙ entry_absent v serves.between s rec column n p.walk.passed p.walk.versions serves.words p.walk.possible p.host p.opened serves.before short_there may sight no_entry_there)),
-      (p.walk.passed, p.walk.versions, passes_later v a.view b.view s rec p.walk.passed ab p.walk.versions p.walk.passes, inr (inr (refl, record { column = column; low = (let e = columns_is in omega arith); uses = uses b.view ab; absent = no_entry_there }))),
+    pub column_none : is_present (stamp_in serves.words (rec % 256)) ≡ false → (b : Sitting) → Watched a.view b.view s → HasNoRow v b s rec
+    column_none none b ab = (
+      (walk.acts, walk.sees, sym (ap (row_from None) walk.whole ∙ entry_absent v serves.between s rec column n walk.passed walk.versions serves.words walk.possible host opened serves.before short_there may sight none)),
+      (walk.passed, walk.versions, passes_later v a.view b.view s rec walk.passed ab walk.versions walk.passes, inr (inr (refl, record { column = column; low = (let e = columns_is in omega arith); uses = uses b.view ab; absent = none }))),
     )
+
+    -- a present one tells the cell of the row
+    pub column_told : is_present (stamp_in serves.words (rec % 256)) ≡ true → column_of column (row_from None walk.acts) ≡ Some (frames.cell_in serves.words (slice_index serves.page.right.entries.values (rec % 256)) (rec % 256))
+    column_told there = ap (λ acts. column_of column (row_from None acts)) walk.whole ∙ entry_present v serves.between s rec column n walk.passed walk.versions serves.words walk.possible host opened serves.before short_there may sight there
+
+    -- which is put into the patch
+    abbrev pub column_set : (b : Sitting) → Watched a.view b.view s → IsReader store b s → (cell : Cell) → column_of column (row_from None walk.acts) ≡ Some cell → RowWalk store v b s rec n (slice_set patch column (Some cell))
+    column_set b ab reader cell told = let low : column < length patch = (let w = walk.wide in omega arith) in record {
+      reader = reader;
+      possible = walk.possible;
+      watched = watched_on v a.view b.view s walk.watched ab;
+      wide = length-set patch column (Some cell) ∙ walk.wide;
+      passed = walk.passed;
+      versions = walk.versions;
+      passes = passes_later v a.view b.view s rec walk.passed ab walk.versions walk.passes;
+      chain = chain_stays store.layout.limits (knows a.view s).facts (knows b.view s).facts rec n walk.versions (facts_on a.view b.view s ab) walk.chain;
+      fits = walk.fits;
+      acts = walk.acts;
+      sees = walk.sees;
+      answers = walk.answers ∙ sym (set_known (row_from None (seen_acts (knows v s) s walk.versions)) patch column cell low (ap (column_of column) (sym walk.answers) ∙ told));
+      made = λ other few. dite (ℕ_discrete other column)
+          (λ e. inr (subst (λ (c : ℕ). UsedPage v b.view s rec c walk.passed walk.versions) (sym e) (on_page b.view ab)))
+          (λ ne. ⊎_elim
+          (λ (made : MakeColumn (knows v s) s other walk.passed patch). inl (λ older. made older ∙ sym (column_other older patch column other cell ne)))
+          (λ (page : UsedPage v a.view s rec other walk.passed walk.versions). inr (used_on v a.view b.view s rec other walk.passed walk.versions ab page))
+          (walk.made other few));
+      whole = walk.whole;
+      left = λ other none. walk.left other (still_unset patch column other cell low none).0;
+    }
+
+-- with the entries of all columns
+module _ (store : Store) (v : View) (a : Sitting) (s rec n column : ℕ) (entries : List Entry) (patch : List (Option Cell)) (p : RowPages store v a s rec n entries patch) (short : column < store.layout.limits.columns) (some : 0 < n) (usable : n ≤ (entry_at entries column).until) where
+  abbrev serves_it : Serves v a.view s rec column (p.walk.passed ++ p.walk.versions) (entry_at entries column)
+  serves_it = p.serves column short (omega arith)
+
+  its_packs : Packs (packed_words a.view s (entry_at entries column).frame) serves_it.page.right.entries.values
+  its_packs = column_packs store v a s rec n column (entry_at entries column) patch p.walk p.host p.opened short serves_it usable
+
+  pub fill_packed : IsPacked (packed_words a.view s (entry_at entries column).frame)
+  fill_packed = (serves_it.page.right.entries.values, its_packs)
+
+  pub fill_low : (entry_at entries column).frame < frame_count a.view.limits
+  fill_low = serves_it.low
+
+  module _ (unset : slice_get patch column ≡ Some None) where
+    abbrev there_is : Bool
+    there_is = (entry_at entries column).is_present
+
+    abbrev its_cell : Cell
+    its_cell = frames.cell_in serves_it.words (slice_index serves_it.page.right.entries.values (rec % 256)) (rec % 256)
+
+    -- an absent entry
+    pub fill_none : (b : Sitting) → Watched a.view b.view s → ((vs : List ℕ) → Packs (packed_words a.view s (entry_at entries column).frame) vs → None ≡ cond (entry_at entries column).is_present (Some (frames.cell_in serves_it.words (slice_index vs (rec % 256)) (rec % 256))) None) → HasNoRow v b s rec
+    fill_none b ab is = column_none store v a s rec n column (entry_at entries column) patch p.walk p.host p.opened short serves_it usable unset (sym serves_it.is.present ∙ absent there_is its_cell (is serves_it.page.right.entries.values its_packs)) b ab
       where
         absent : (e : Bool) (cell : Cell) → None ≡ cond e (Some cell) None → e ≡ false
         absent true cell is = absurd (true≢false (sym (ap is_some is)))
         absent false cell is = refl
 
     -- a present one
-    pub fill_some : (b : Sitting) → Skims a.view b.view s → IsReader store b s → (cell : Cell) → ((vs : List ℕ) → Packs (packed_words a.view s (entry_at entries column).frame) vs → Some cell ≡ cond (entry_at entries column).is_present (Some (frames.cell_in serves.words (slice_index vs (rec % 256)) (rec % 256))) None)
+    pub fill_some : (b : Sitting) → Skims a.view b.view s → IsReader store b s → (cell : Cell) → ((vs : List ℕ) → Packs (packed_words a.view s (entry_at entries column).frame) vs → Some cell ≡ cond (entry_at entries column).is_present (Some (frames.cell_in serves_it.words (slice_index vs (rec % 256)) (rec % 256))) None)
         → (used : Bool) → used ≡ true → GoesOn store v b s rec n entries (slice_set patch column (Some cell)) used
     fill_some b skims reader cell is used always =
         let still : RowPages store v b s rec n entries patch = pages_stay store v a b s rec n entries patch p skims reader in
-        let told : column_of column (row_from None p.walk.acts) ≡ Some cell = ap (λ acts. column_of column (row_from None acts)) p.walk.whole
-        ∙ (entry_present v serves.between s rec column n p.walk.passed p.walk.versions serves.words p.walk.possible p.host p.opened serves.before short_there may sight (sym serves.is.present ∙ present entry.is_present cell (frames.cell_in serves.words (slice_index values (rec % 256)) (rec % 256)) (is values packs))
-        ∙ cell_is entry.is_present cell (frames.cell_in serves.words (slice_index values (rec % 256)) (rec % 256)) (is values packs)) in
-        let low : column < length patch = (let w = p.walk.wide in omega arith) in record {
+        let told : column_of column (row_from None p.walk.acts) ≡ Some cell = column_told store v a s rec n column (entry_at entries column) patch p.walk p.host p.opened short serves_it usable unset (sym serves_it.is.present ∙ present there_is cell its_cell (is serves_it.page.right.entries.values its_packs))
+        ∙ cell_is there_is cell its_cell (is serves_it.page.right.entries.values its_packs) in record {
           pages = record {
             host = p.host;
             opened = p.opened;
-            walk = record {
-              reader = reader;
-              possible = p.walk.possible;
-              watched = watched_on v a.view b.view s p.walk.watched skims.watched;
-              wide = length-set patch column (Some cell) ∙ p.walk.wide;
-              passed = p.walk.passed;
-              versions = p.walk.versions;
-              passes = passes_later v a.view b.view s rec p.walk.passed skims.watched p.walk.versions p.walk.passes;
-              chain = chain_stays store.layout.limits (knows a.view s).facts (knows b.view s).facts rec n p.walk.versions (facts_on a.view b.view s skims.watched) p.walk.chain;
-              fits = p.walk.fits;
-              acts = p.walk.acts;
-              sees = p.walk.sees;
-              answers = p.walk.answers ∙ sym (set_known (row_from None (seen_acts (knows v s) s p.walk.versions)) patch column cell low (ap (column_of column) (sym p.walk.answers) ∙ told));
-              made = λ other few. dite (ℕ_discrete other column)
-                  (λ e. inr (subst (λ (c : ℕ). UsedPage v b.view s rec c p.walk.passed p.walk.versions) (sym e) (on_page b.view skims.watched)))
-                  (λ ne. ⊎_elim
-                  (λ (made : MakeColumn (knows v s) s other p.walk.passed patch). inl (λ older. made older ∙ sym (column_other older patch column other cell ne)))
-                  (λ (page : UsedPage v a.view s rec other p.walk.passed p.walk.versions). inr (used_on v a.view b.view s rec other p.walk.passed p.walk.versions skims.watched page))
-                  (p.walk.made other few));
-              whole = p.walk.whole;
-              left = λ other none. p.walk.left other (still_unset patch column other cell low none).0;
-            };
+            walk = column_set store v a s rec n column (entry_at entries column) patch p.walk p.host p.opened short serves_it usable unset b skims.watched reader cell told;
             wide = p.wide;
-            serves = λ other few usable. serves_later v a.view b.view s rec other copy (entry_at entries other) skims.watched (p.serves other few usable);
+            serves = λ other few usable. serves_later v a.view b.view s rec other (p.walk.passed ++ p.walk.versions) (entry_at entries other) skims.watched (p.serves other few usable);
             saves = still.saves;
           };
           row = λ yes. column_some column (row_from None p.walk.acts) cell told;
@@ -374,15 +396,15 @@ module _ (store : Store) (v : View) (a : Sitting) (s rec n column : ℕ) (entrie
 
 -- ---- the row of the patch
 
-pub rows_whole : (store : Store) (v : View) (b : Sitting) (s rec n : ℕ) (entries : List Entry) (patch : List (Option Cell)) (row : List Cell) → GoesOn store v b s rec n entries patch true → list_all is_some patch ≡ true → row ≡ map (λ cell. unwrap_or cell None) patch → IsRowOf v s rec (Some row)
-rows_whole store v b s rec n entries patch row goes all is = let w = goes.pages.walk in let older : Option (List Cell) = row_from None (seen_acts (knows v s) s w.versions) in (
+pub walk_whole : (store : Store) (v : View) (b : Sitting) (s rec n : ℕ) (patch : List (Option Cell)) (row : List Cell) (w : RowWalk store v b s rec n patch) → is_some (row_from None w.acts) ≡ true → list_all is_some patch ≡ true → row ≡ map (λ cell. unwrap_or cell None) patch → IsRowOf v s rec (Some row)
+walk_whole store v b s rec n patch row w some all is = let older : Option (List Cell) = row_from None (seen_acts (knows v s) s w.versions) in (
   w.acts,
   w.sees,
-  ap (λ (r : List Cell). Some r) is ∙ sym (w.answers ∙ row_all store.layout.limits.columns older patch (wide_row store.layout.limits rec (knows v s) s w.versions w.chain.whole) w.wide (ap is_some (sym w.answers) ∙ goes.row refl) all),
+  ap (λ (r : List Cell). Some r) is ∙ sym (w.answers ∙ row_all store.layout.limits.columns older patch (wide_row store.layout.limits rec (knows v s) s w.versions w.chain.whole) w.wide (ap is_some (sym w.answers) ∙ some) all),
 )
 
-pub rows_walked : (store : Store) (v : View) (b : Sitting) (s rec n : ℕ) (entries : List Entry) (patch : List (Option Cell)) (row : List Cell) → GoesOn store v b s rec n entries patch true → list_all is_some patch ≡ true → row ≡ map (λ cell. unwrap_or cell None) patch → WalksRow v b.view s rec (Some row)
-rows_walked store v b s rec n entries patch row goes all is = let w = goes.pages.walk in let few : length patch ≡ v.limits.columns = w.wide ∙ ap (λ (l : Limits). l.columns) (sym w.reader.seat_of.limits ∙ w.watched.learns.limits) in (
+pub walk_walked : (store : Store) (v : View) (b : Sitting) (s rec n : ℕ) (patch : List (Option Cell)) (row : List Cell) → RowWalk store v b s rec n patch → list_all is_some patch ≡ true → row ≡ map (λ cell. unwrap_or cell None) patch → WalksRow v b.view s rec (Some row)
+walk_walked store v b s rec n patch row w all is = let few : length patch ≡ v.limits.columns = w.wide ∙ ap (λ (l : Limits). l.columns) (sym w.reader.seat_of.limits ∙ w.watched.learns.limits) in (
   w.passed,
   w.versions,
   w.passes,
@@ -391,6 +413,12 @@ rows_walked store v b s rec n entries patch row goes all is = let w = goes.pages
       (λ (page : UsedPage v b.view s rec column w.passed w.versions). inr page)
       (w.made column low))),
 )
+
+pub rows_whole : (store : Store) (v : View) (b : Sitting) (s rec n : ℕ) (entries : List Entry) (patch : List (Option Cell)) (row : List Cell) → GoesOn store v b s rec n entries patch true → list_all is_some patch ≡ true → row ≡ map (λ cell. unwrap_or cell None) patch → IsRowOf v s rec (Some row)
+rows_whole store v b s rec n entries patch row goes all is = walk_whole store v b s rec n patch row goes.pages.walk (goes.row refl) all is
+
+pub rows_walked : (store : Store) (v : View) (b : Sitting) (s rec n : ℕ) (entries : List Entry) (patch : List (Option Cell)) (row : List Cell) → GoesOn store v b s rec n entries patch true → list_all is_some patch ≡ true → row ≡ map (λ cell. unwrap_or cell None) patch → WalksRow v b.view s rec (Some row)
+rows_walked store v b s rec n entries patch row goes all is = walk_walked store v b s rec n patch row goes.pages.walk all is
 
 -- ---- the columns one after the other
 

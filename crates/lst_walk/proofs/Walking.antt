@@ -408,7 +408,7 @@ unfolding cell_stays
 stays_same store v a b s rec column n walk ab reader = refl
 
 -- the same of a row
-pub row_stays : (store : Store) (v : View) (a b : Sitting) (s rec n : ℕ) (patch : List (Option Cell)) → RowWalk store v a s rec n patch → Watched a.view b.view s → IsReader store b s → RowWalk store v b s rec n patch
+unfoldable pub row_stays : (store : Store) (v : View) (a b : Sitting) (s rec n : ℕ) (patch : List (Option Cell)) → RowWalk store v a s rec n patch → Watched a.view b.view s → IsReader store b s → RowWalk store v b s rec n patch
 row_stays store v a b s rec n patch walk ab reader = record {
   reader = reader;
   possible = walk.possible;

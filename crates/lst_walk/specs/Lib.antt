@@ -6,3 +6,5 @@ pub mod Packing
 pub mod Walks
 pub mod Taking
 pub mod Filling
+pub mod Taken
+pub mod Whole

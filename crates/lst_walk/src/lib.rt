@@ -10,8 +10,11 @@ mod packed;
 mod pages;
 mod rows;
 mod stamps;
+mod taken;
+mod whole;
 mod words;
 
 pub use columns::column;
 pub use rows::row;
 pub use stamps::stamp;
+pub use taken::{TakenPage, column_by, is_there_by, page_of};

@@ -52,7 +52,7 @@ pub(crate) fn entry_of(store: &Store, seat: &mut Seat, s: u32, rec: RecordId, co
 }
 
 /// The same of a session with a pin.
-fn taken(store: &Store, seat: &mut Seat, s: u32, rec: RecordId, column: u32) -> Entry
+pub(crate) fn taken(store: &Store, seat: &mut Seat, s: u32, rec: RecordId, column: u32) -> Entry
     requires reader { IsReader store.now seat.old s }
     requires pinned { 0 < (knows seat.old.view s).pages.session.pin }
     requires rec { rec.number < record_count store.now.layout.limits }
@@ -156,7 +156,13 @@ pub(crate) fn cell_of(
 }
 
 /// The cell at a slot of the page in a frame that is in hand: null where the slot's null bit is set.
-fn present_cell(store: &Store, seat: &mut Seat, s: u32, frame: u32, slot: u32) -> Option<u64>
+pub(crate) fn present_cell(
+    store: &Store,
+    seat: &mut Seat,
+    s: u32,
+    frame: u32,
+    slot: u32,
+) -> Option<u64>
     requires reader { IsReader store.now seat.old s }
     requires frame { frame < frame_count seat.old.view.limits }
     requires packed { IsPacked (packed_words seat.old.view s frame) }
@@ -189,6 +195,7 @@ pub(crate) fn value(store: &Store, seat: &mut Seat, s: u32, frame: u32, slot: u3
     requires slot { slot < 256 }
     ensures reader { IsReader store.now seat.new s }
     ensures skims { Skims seat.old.view seat.new.view s }
+    ensures same { knows seat.new.view s ≡ knows seat.old.view s }
     ensures value { (values : List ℕ) → Packs (packed_words seat.old.view s frame) values → result ≡ slice_index values slot }
 {
     let mut words = Packed {

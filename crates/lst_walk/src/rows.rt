@@ -18,6 +18,7 @@ ghost use Rattle.lst_walk.specs.Filling.{RowPages, GoesOn, Fills, SetsAll, Fills
 
 use crate::pages::{Entry, cell_of, entries_of, newest};
 use crate::stamps::is_seen;
+use crate::whole::paged;
 use crate::words::{below, cell, encoding, head};
 use arrayvec::ArrayVec;
 use lst_bits::{Encoding, Kind, has_column};
@@ -65,9 +66,13 @@ pub fn row(store: &Store, seat: &mut Seat, s: u32, rec: RecordId) -> Option<Row>
 {
     seat.consider();
     let range = rec.number / 256;
+    let mut number = head(store, seat, s, rec);
+    let mut told = Row::of_numbers(ArrayVec::new());
+    if paged(store, seat, s, rec, number, &mut told) {
+        return Some(told);
+    }
     let mut cells = [None; 8];
     let patch = &mut cells[..store.layout().limits.columns as usize];
-    let mut number = head(store, seat, s, rec);
     let entries = entries_of(store, seat, s, rec);
     let last = newest(&entries);
     while number > 0 {

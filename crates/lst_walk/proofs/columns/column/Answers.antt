@@ -64,19 +64,19 @@ pub number_of-requires-clause-reader : goal.number_of-requires-clause-reader
 number_of-requires-clause-reader c = c.loop-number.invariant.walk.reader
 
 pub number_of-requires-clause-frame : goal.number_of-requires-clause-frame
-number_of-requires-clause-frame c = page_low c.args.store.now c.args.seat.now.view c.loop-number.seat c.args.s c.args.rec.number c.args.c c.loop-number.number c.entry_of-entry.result c.requires.host c.requires.opened c.requires.column c.loop-number.invariant c.loop-number-test.true c.if-number-entry.true
+number_of-requires-clause-frame c = page_low c.args.store.now c.args.seat.now.view c.loop-number.seat c.args.s c.args.rec.number c.args.c c.loop-number.number c.entry_of-entry.result c.requires.host c.requires.opened c.requires.column c.loop-number.invariant.walk (c.loop-number.invariant.serves (let some = c.loop-number-test.true in let low = c.if-number-entry.true in omega arith)) c.if-number-entry.true
 
 pub number_of-requires-clause-packed : goal.number_of-requires-clause-packed
-number_of-requires-clause-packed c = page_packed c.args.store.now c.args.seat.now.view c.loop-number.seat c.args.s c.args.rec.number c.args.c c.loop-number.number c.entry_of-entry.result c.requires.host c.requires.opened c.requires.column c.loop-number.invariant c.loop-number-test.true c.if-number-entry.true
+number_of-requires-clause-packed c = page_packed c.args.store.now c.args.seat.now.view c.loop-number.seat c.args.s c.args.rec.number c.args.c c.loop-number.number c.entry_of-entry.result c.requires.host c.requires.opened c.requires.column c.loop-number.invariant.walk (c.loop-number.invariant.serves (let some = c.loop-number-test.true in let low = c.if-number-entry.true in omega arith)) c.if-number-entry.true
 
 pub returns-then-number-entry-clause-watched : goal.returns-then-number-entry-clause-watched
 returns-then-number-entry-clause-watched c = watched_on c.args.seat.now.view c.loop-number.seat.view c.number_of.new.seat.view c.args.s c.loop-number.invariant.walk.watched c.number_of.ensures.skims.watched
 
 pub returns-then-number-entry-clause-cell : goal.returns-then-number-entry-clause-cell
-returns-then-number-entry-clause-cell c = page_used c.args.store.now c.args.seat.now.view c.loop-number.seat c.args.s c.args.rec.number c.args.c c.loop-number.number c.entry_of-entry.result c.requires.host c.requires.opened c.requires.column c.loop-number.invariant c.loop-number-test.true c.if-number-entry.true c.number_of.result c.number_of.ensures.number
+returns-then-number-entry-clause-cell c = page_used c.args.store.now c.args.seat.now.view c.loop-number.seat c.args.s c.args.rec.number c.args.c c.loop-number.number c.entry_of-entry.result c.requires.host c.requires.opened c.requires.column c.loop-number.invariant.walk (c.loop-number.invariant.serves (let some = c.loop-number-test.true in let low = c.if-number-entry.true in omega arith)) c.if-number-entry.true c.number_of.result c.number_of.ensures.number
 
 pub returns-then-number-entry-clause-walk : goal.returns-then-number-entry-clause-walk
-returns-then-number-entry-clause-walk c = page_walked c.args.store.now c.args.seat.now.view c.loop-number.seat c.args.s c.args.rec.number c.args.c c.loop-number.number c.entry_of-entry.result c.requires.host c.requires.opened c.requires.column c.loop-number.invariant c.loop-number-test.true c.if-number-entry.true c.number_of.new.seat.view c.number_of.result c.number_of.ensures.skims.watched
+returns-then-number-entry-clause-walk c = page_walked c.args.store.now c.args.seat.now.view c.loop-number.seat c.args.s c.args.rec.number c.args.c c.loop-number.number c.entry_of-entry.result c.requires.host c.requires.opened c.requires.column c.loop-number.invariant.walk (c.loop-number.invariant.serves (let some = c.loop-number-test.true in let low = c.if-number-entry.true in omega arith)) c.if-number-entry.true c.number_of.new.seat.view c.number_of.result c.number_of.ensures.skims.watched
 
 pub returns-then-number-entry-clause-saves : goal.returns-then-number-entry-clause-saves
 returns-then-number-entry-clause-saves c = page_saved c.args.store.now c.args.seat.now.view c.loop-number.seat c.number_of.new.seat c.args.s c.args.rec.number c.args.c c.loop-number.number c.entry_of-entry.result c.loop-number.invariant c.number_of.ensures.skims.watched c.number_of.ensures.skims.finds

@@ -6,9 +6,10 @@ use Rattle.lst_sights.proofs.Watching.{watched_same}
 use Rattle.lst_walk.proofs.Reading.{reader_on, at_on, version_on, watched_on}
 use Rattle.lst_walk.proofs.Stamping.{at_same, has_same}
 use Rattle.lst_walk.proofs.Lists.{take_same, none_set}
-use Rattle.lst_walk.proofs.Walking.{linked_at, back_at, number_few, at_number, version_number, range_low, row_start, row_done, row_gone, row_over, row_walked, gone_walked, row_ended}
+use Rattle.lst_walk.proofs.Walking.{linked_at, back_at, number_few, at_number, version_number, range_low, row_start, row_done, row_gone, row_over, row_walked, gone_walked, row_ended, row_stays}
 use Rattle.std.specs.List.{list_all}
 use Rattle.lst_walk.proofs.Rowing.{rows_start, rows_next, rows_saved, rows_held, rows_whole, rows_walked, high_column, unset_still}
+use Rattle.lst_walk.proofs.Straight.{paged_start}
 use Rattle.lst_walk.proofs.Finds.{loads_tail}
 use Rattle.lst_walk.proofs.rows.row.Goals as goal
 
@@ -81,12 +82,38 @@ fill-requires-clause-wide c = c.loop-number.invariant.pages.walk.wide
 pub fill-requires-clause-walk : goal.fill-requires-clause-walk
 fill-requires-clause-walk c = (c.args.seat.now.view, c.loop-number.invariant.pages)
 
+pub paged-requires-clause-walk : goal.paged-requires-clause-walk
+paged-requires-clause-walk c = (
+  c.args.seat.now.view,
+  paged_start c.args.store.now c.args.seat.now.view c.head-number.new.seat c.args.s c.args.rec.number c.head-number.result c.head-number.ensures.looked.0 c.requires.host c.requires.opened
+      (row_start c.args.store.now c.args.seat.now.view c.head-number.new.seat c.args.s c.args.rec.number c.head-number.result c.consider.ensures c.requires.host c.requires.opened c.head-number.ensures.reader c.head-number.ensures.watched c.head-number.ensures.possible c.head-number.ensures.chain _ refl)
+      c.head-number.ensures.looked.1 c.head-number.ensures.looked.2,
+)
+
+pub returns-then-paged-clause-watched : goal.returns-then-paged-clause-watched
+returns-then-paged-clause-watched c = watched_on c.args.seat.now.view c.head-number.new.seat.view c.paged.new.seat.view c.args.s c.head-number.ensures.watched c.paged.ensures.skims.watched
+
+pub returns-then-paged-clause-row : goal.returns-then-paged-clause-row
+returns-then-paged-clause-row c = (c.paged.ensures.told c.if-paged.true c.args.seat.now.view (paged_start c.args.store.now c.args.seat.now.view c.head-number.new.seat c.args.s c.args.rec.number c.head-number.result c.head-number.ensures.looked.0 c.requires.host c.requires.opened
+    (row_start c.args.store.now c.args.seat.now.view c.head-number.new.seat c.args.s c.args.rec.number c.head-number.result c.consider.ensures c.requires.host c.requires.opened c.head-number.ensures.reader c.head-number.ensures.watched c.head-number.ensures.possible c.head-number.ensures.chain _ refl)
+    c.head-number.ensures.looked.1 c.head-number.ensures.looked.2)).row
+
+pub returns-then-paged-clause-walk : goal.returns-then-paged-clause-walk
+returns-then-paged-clause-walk c = (c.paged.ensures.told c.if-paged.true c.args.seat.now.view (paged_start c.args.store.now c.args.seat.now.view c.head-number.new.seat c.args.s c.args.rec.number c.head-number.result c.head-number.ensures.looked.0 c.requires.host c.requires.opened
+    (row_start c.args.store.now c.args.seat.now.view c.head-number.new.seat c.args.s c.args.rec.number c.head-number.result c.consider.ensures c.requires.host c.requires.opened c.head-number.ensures.reader c.head-number.ensures.watched c.head-number.ensures.possible c.head-number.ensures.chain _ refl)
+    c.head-number.ensures.looked.1 c.head-number.ensures.looked.2)).walk
+
+pub returns-then-paged-clause-saves : goal.returns-then-paged-clause-saves
+returns-then-paged-clause-saves c = λ pinned. (c.paged.ensures.told c.if-paged.true c.args.seat.now.view (paged_start c.args.store.now c.args.seat.now.view c.head-number.new.seat c.args.s c.args.rec.number c.head-number.result c.head-number.ensures.looked.0 c.requires.host c.requires.opened
+    (row_start c.args.store.now c.args.seat.now.view c.head-number.new.seat c.args.s c.args.rec.number c.head-number.result c.consider.ensures c.requires.host c.requires.opened c.head-number.ensures.reader c.head-number.ensures.watched c.head-number.ensures.possible c.head-number.ensures.chain _ refl)
+    c.head-number.ensures.looked.1 c.head-number.ensures.looked.2)).saves
+
 pub loop-number-init : goal.loop-number-init
 loop-number-init c = let l = ap (λ (y : Layout). y.limits.columns) c.layout.ensures in let few = c.args.store.now.layout.valid.columns.1 in
     let is = take_same c.layout.result.now.limits.columns 8 None (omega arith) ∙ ap (λ (n : ℕ). replicate n None) l in record {
-      pages = rows_start c.args.store.now c.args.seat.now.view c.head-number.new.seat c.entries_of-entries.new.seat c.args.s c.args.rec.number c.head-number.result c.entries_of-entries.result _ c.requires.host c.requires.opened
-          (row_start c.args.store.now c.args.seat.now.view c.head-number.new.seat c.args.s c.args.rec.number c.head-number.result c.consider.ensures c.requires.host c.requires.opened c.head-number.ensures.reader c.head-number.ensures.watched c.head-number.ensures.possible c.head-number.ensures.chain _ is)
-          c.head-number.ensures.looked.0 c.head-number.ensures.looked.1 c.head-number.ensures.looked.2 c.entries_of-entries.ensures.takes;
+      pages = rows_start c.args.store.now c.args.seat.now.view c.head-number.new.seat.view c.paged.new.seat c.entries_of-entries.new.seat c.args.s c.args.rec.number c.head-number.result c.entries_of-entries.result _ c.requires.host c.requires.opened
+          (row_stays c.args.store.now c.args.seat.now.view c.head-number.new.seat c.paged.new.seat c.args.s c.args.rec.number c.head-number.result _ (row_start c.args.store.now c.args.seat.now.view c.head-number.new.seat c.args.s c.args.rec.number c.head-number.result c.consider.ensures c.requires.host c.requires.opened c.head-number.ensures.reader c.head-number.ensures.watched c.head-number.ensures.possible c.head-number.ensures.chain _ is) c.paged.ensures.skims.watched c.paged.ensures.reader)
+          c.head-number.ensures.looked.0 c.head-number.ensures.looked.1 c.head-number.ensures.looked.2 c.paged.ensures.skims c.entries_of-entries.ensures.takes;
       unset = ap (list_all is_some) is ∙ none_set c.args.store.now.layout.limits.columns c.args.store.now.layout.valid.columns.0;
     }
 

@@ -4,7 +4,7 @@ use Rattle.lst_layout.specs.Areas.{frame_count}
 use Rattle.lst_page_state.specs.State.{hand_of}
 use Rattle.lst_rule.specs.Rule.{knows}
 use Rattle.lst_walk.proofs.Reading.{reader_on}
-use Rattle.lst_walk.proofs.Loading.{frame_skims, packed_low, packed_word}
+use Rattle.lst_walk.proofs.Loading.{frame_skims, frame_knows, packed_low, packed_word}
 use Rattle.lst_walk.proofs.packed.PackedWords.word.Goals as goal
 
 pub invariant_of-self : goal.invariant_of-self
@@ -25,4 +25,5 @@ returns-clause-later c = let p = c.args.self.now in record {
   s = search rules;
   frame = search rules;
   skims = frame_skims p.seat.now.view c.load_frame.new.seat.view p.s p.frame (1 + c.args.place) c.load_frame.result c.load_frame.ensures.loaded p.ready.reader.host p.ready.low (let few = packed_low (hand_of (knows p.seat.now.view p.s).pages.session p.frame) c.args.place c.requires in omega arith);
+  same = frame_knows p.seat.now.view c.load_frame.new.seat.view p.s p.frame (1 + c.args.place) c.load_frame.result c.load_frame.ensures.loaded;
 }
