@@ -1,3 +1,4 @@
 pub mod Parting
+pub mod Owning
 pub mod Telling
 pub mod Gathering

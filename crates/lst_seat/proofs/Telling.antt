@@ -6,7 +6,7 @@ use Rattle.lst_layout.specs.Words.{shown}
 use Rattle.lst_model.specs.declared.commits.Commit.{Commit}
 use Rattle.lst_model.specs.Histories.{Extends}
 use Rattle.lst_core_state.specs.declared.known.Known.{Known}
-use Rattle.lst_core_state.specs.State.{history_of}
+use Rattle.lst_core_state.specs.State.{history_of, mine}
 use Rattle.lst_rule.specs.declared.store.Store.{Store}
 use Rattle.lst_rule.specs.declared.view.View.{View}
 use Rattle.lst_rule.specs.Joins.{longer, noted, hears, united, Heard}
@@ -16,9 +16,10 @@ use Rattle.lst_rule.specs.Seats.{Sitting}
 use Rattle.lst_rule.specs.Stores.{IsSeatOf}
 use Rattle.lst_rule.proofs.Hearing.{front_on, IsLonger, longer_is, knows_hearing}
 use Rattle.lst_rule.proofs.Joining.{knows_ours}
-use Rattle.lst_rule.proofs.Knowing.{is_seen}
+use Rattle.lst_rule.proofs.Knowing.{is_seen, knows_own}
 use Rattle.lst_rule.proofs.Seating.{possible_apart, noted_hosts}
 use Rattle.lst_seat.specs.Seats.{HostsSome, Tells, Hears}
+use Rattle.lst_seat.proofs.Owning.{same_own}
 
 -- of the sessions from n on, none has seen more than the teller
 pub record BestSo (v : View) (n teller : ℕ) : Type 0 where
@@ -83,11 +84,18 @@ module _ (v w note : View) (bare : note.hosts ≡ []) (h : Heard (united v note)
   both s hosted = longer_is (history_of u.limits (shown u.limits h.before.words)) (knows v s).seen note.note
       (subst (λ (k : Known). Extends (history_of u.limits (shown u.limits h.before.words)) k.seen) (knows_same s) (is_seen u h.before.words h.before.known h.before.merger h.before.allowed s (on s hosted))) h.before.allowed.told
 
+  own : (s : ℕ) → hosts v s ≡ true → s < v.limits.sessions → mine s (knows w s) ≡ mine s (knows v s)
+  own s hosted low =
+      let is : knows v s ≡ h.before.known s = sym (knows_same s) ∙ knows_own u h.before.words h.before.known h.before.merger h.before.allowed s (on s hosted) (λ e. omega arith) in
+      ap (mine s) (now s hosted) ∙ same_own s (history_of u.limits (shown u.limits h.before.words)) (knows v s).seen (longer (knows v s).seen note.note) (both s hosted).front (both s hosted).first
+      (ap (mine s) is ∙ (h.before.allowed.sound.views s low).own)
+
   pub heard : Hears v w note
   heard = record {
     now = now;
     told = λ s hosted. subst (λ (k : Known). Extends k.seen note.note) (sym (now s hosted)) (both s hosted).second;
     kept = λ s hosted. subst (λ (k : Known). Extends k.seen (knows v s).seen) (sym (now s hosted)) (both s hosted).first;
+    own = own;
     hosted = ap (λ (z : View). z.hosts) h.now ∙ hosts_same;
     limits = ap (λ (z : View). z.limits) h.now;
     whole = ap (λ (z : View). z.whole) h.now;

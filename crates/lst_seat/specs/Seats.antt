@@ -42,12 +42,13 @@ pub record Tells (store : Store) (v : View) (note : Sitting) : Type 0 where
   pub copy : note.view ≡ noted teller v
   pub all : (s : ℕ) → hosts v s ≡ true → Extends note.view.note (knows v s).seen
 
--- each session of the seat has heard the note: it has seen the longer history of the two, which extends both, and has the facts of both.
--- Nothing else of what they know changed
+-- each session of the seat has heard the note: it has seen the longer history of the two, which extends both, and has the facts of both. Its own
+-- commits are those that it had seen. Nothing else of what they know changed
 pub record Hears (v w note : View) : Type 0 where
   pub now : (s : ℕ) → hosts v s ≡ true → knows w s ≡ hears note.note note.note_facts (knows v s)
   pub told : (s : ℕ) → hosts v s ≡ true → Extends (knows w s).seen note.note
   pub kept : (s : ℕ) → hosts v s ≡ true → Extends (knows w s).seen (knows v s).seen
+  pub own : (s : ℕ) → hosts v s ≡ true → s < v.limits.sessions → mine s (knows w s) ≡ mine s (knows v s)
   pub hosted : w.hosts ≡ v.hosts
   pub limits : w.limits ≡ v.limits
   pub whole : w.whole ≡ v.whole

@@ -30,13 +30,14 @@ use Rattle.lst_rule.proofs.Knowing.{whole_words, knows_own, knows_merger}
 use Rattle.lst_sights.specs.Watching.{IsStamped, Watches, Watched}
 use Rattle.lst_sights.proofs.Stamps.{stamped_same}
 use Rattle.lst_crew_state.specs.Crews.{IsIdle, IsCrew}
-use Rattle.lst_crew_state.specs.Telling.{opened_of, told_store, told, pages_told, tps_known, told_state}
+use Rattle.lst_crew_state.specs.Telling.{opened_of, told_store, told, pages_told, told_state}
 use Rattle.lst_crew_state.specs.Effects.{SameTransactions, SameBut}
 use Rattle.lst_crew_state.proofs.Openings.{below_is, transactions_are_told}
 use Rattle.lst_crew_state.proofs.PageParts.{pins_and_pages_are_told}
 use Rattle.lst_crew_state.proofs.Stamped.{stamps_tell_nothing}
 use Rattle.lst_rule.specs.declared.store.Store.{Store}
 use Rattle.lst_session.specs.declared.crew.Crew.{Crew}
+use Rattle.lst_page_state.specs.Runs.{tps_known}
 use Rattle.lst_session.specs.Crews.{words_of, IsCrewOf, TellsState, store_told, pages_known, state_told}
 
 -- ---- a crew that tells the machine's state

@@ -31,3 +31,5 @@ pub mod Recounting
 pub mod Parting
 pub mod Gathering
 pub mod Telling
+pub mod ByHand
+pub mod Waiting

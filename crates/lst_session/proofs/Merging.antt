@@ -16,6 +16,7 @@ use Rattle.lst_page_state.specs.Settled.{settled_tails}
 use Rattle.lst_page_state.specs.Sound.{IsPage}
 use Rattle.lst_page_state.specs.State.{oldest_epoch}
 use Rattle.lst_page_state.specs.Step.{lets_go}
+use Rattle.lst_page_state.specs.Runs.{tps_known}
 use Rattle.lst_rule.specs.declared.store.Store.{Store}
 use Rattle.lst_rule.specs.declared.view.View.{View}
 use Rattle.lst_rule.specs.Rule.{knows, hosts}
@@ -31,7 +32,7 @@ use Rattle.lst_crew_state.specs.Effects.{SamePinEach, SameStock, TellAlike}
 use Rattle.lst_crew_state.specs.Laws.{IsMergedTo, AreSettled, pin_lets_go}
 use Rattle.lst_core_state.specs.Cells.{record_count}
 use Rattle.lst_core_state.specs.Index.{is_placed}
-use Rattle.lst_crew_state.specs.Telling.{told, pages_told, told_pages, tps_known}
+use Rattle.lst_crew_state.specs.Telling.{told, pages_told, told_pages}
 use Rattle.lst_crew_state.proofs.Merging.{nothing_new_is_told, no_frame_is_told, swaps_are_told}
 use Rattle.lst_crew_state.proofs.Openings.{transactions_are_told}
 use Rattle.lst_crew_state.proofs.Others.{other_areas_tell_nothing}

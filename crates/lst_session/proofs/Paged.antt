@@ -23,7 +23,7 @@ use Rattle.lst_txn.specs.declared.begins.BeginFault.{BeginFault}
 use Rattle.lst_txn.specs.declared.begins.BeginFault.TheVariants as begins
 use Rattle.lst_txn.specs.declared.ends.Idle.{Idle}
 use Rattle.lst_crew_state.specs.Effects.{SamePinEach, SamePinBut, SameStock, begins_or_ends}
-use Rattle.lst_crew_state.specs.Telling.{tps_known, told_pages}
+use Rattle.lst_crew_state.specs.Telling.{told_pages}
 use Rattle.lst_crew_state.proofs.PageParts.{pins_and_pages_are_told, pinned_begins_are_told, pinned_ends_are_told, other_calls_leave_pages}
 use Rattle.lst_calls.specs.declared.kinds.WriteRefusal.{WriteRefusal}
 use Rattle.lst_calls.specs.declared.kinds.Outcome.{Outcome}
@@ -37,6 +37,7 @@ use Rattle.lst_session.specs.Replies.{begin_cause, begin_reply, commit_reply, ab
 use Rattle.lst_session.proofs.Crewed.{StoreAnswers, opened_by, opened_some}
 use Rattle.lst_session.proofs.Growing.{stock_stays, pins_stay}
 use Rattle.lst_session.proofs.Keeping.{called_same}
+use Rattle.lst_page_state.specs.Runs.{tps_known}
 use Rattle.lst_session.proofs.Turning as turning
 
 pub same_stock : (l : Limits) (m o : MergerFrames) → o ≡ m → SameStock l m o

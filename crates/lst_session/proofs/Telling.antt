@@ -2,7 +2,8 @@
 use Rattle.std.proofs.Common.{◌≡◌, ◌≢◌, ◌⊎◌, ℕ, suc, zero, ◌+◌, ◌<◌, ◌≤◌, List, [], ◌∷◌, ◌++◌, Bool, true, false, length, get_or, slice_set, refl, sym, subst, ap, ◌∙◌, arith, append-nil, append_assoc}
 use mathlib.Core.Logic.{dite}
 use native.Mathlib.Decide.{ℕ_discrete}
-use Rattle.std.specs.List.{All}
+use Rattle.std.specs.List.{All, Contains}
+use Rattle.std.proofs.lemmas.List.Elements.{Contains-append_left}
 use Rattle.std.proofs.lemmas.List.{get_or-set_same, get_or-set_other, length-set, set-get_or, get_or_default}
 use Rattle.lst_layout.specs.declared.limits.Limits.{Limits}
 use Rattle.lst_model.specs.declared.commits.Commit.{Commit}
@@ -10,6 +11,7 @@ use Rattle.lst_model.specs.Histories.{Extends}
 use Rattle.lst_core_state.specs.declared.facts.Fact.{Fact}
 use Rattle.lst_core_state.specs.declared.known.Known.{Known}
 use Rattle.lst_core_state.specs.Laws.{heard}
+use Rattle.lst_core_state.specs.State.{mine}
 use Rattle.lst_core_state.proofs.Histories.{starts_trans}
 use Rattle.lst_rule.specs.declared.store.Store.{Store}
 use Rattle.lst_rule.specs.declared.view.View.{View}
@@ -30,6 +32,7 @@ hears_none k = record {
   facts = [];
   is = ap (λ (fs : List Fact). record k { facts = fs }) (sym (append-nil k.facts));
   grows = same_extends k.seen;
+  keeps = λ f h. h;
 }
 
 pub hears_on : (a b c : Known) → OnlyHears a b → OnlyHears b c → OnlyHears a c
@@ -37,6 +40,7 @@ hears_on a b c x y = record {
   facts = x.facts ++ y.facts;
   is = y.is ∙ (ap (λ (k : Known). heard k c.seen y.facts) x.is ∙ ap (λ (fs : List Fact). record a { seen = c.seen; facts = fs }) (append_assoc a.facts x.facts y.facts));
   grows = starts_trans c.seen b.seen a.seen y.grows x.grows;
+  keeps = λ f h. y.keeps f (x.keeps f h);
 }
 
 pub idle_hears : (a b : Known) → OnlyHears a b → IsIdle a → IsIdle b
@@ -58,18 +62,21 @@ hears_more store old seat note pass of h = record {
     own = subst (λ (l : Limits). old.number < l.sessions) (sym h.limits) pass.own;
   };
   number = refl;
+  hosted = h.hosted;
+  mine = h.own old.number pass.host pass.own;
   knows = let now = h.now old.number pass.host in record {
     facts = note.view.note_facts;
     is = now ∙ ap (λ (seen : List Commit). heard (known_by old) seen note.view.note_facts) (sym (ap (λ (k : Known). k.seen) now));
     grows = h.kept old.number pass.host;
+    keeps = λ f has. subst (λ (fs : List Fact). Contains fs f) (sym (ap (λ (k : Known). k.facts) now)) (Contains-append_left (known_by old).facts note.view.note_facts f has);
   };
 }
 
 pub more_none : (store : Store) (x : Session) → IsPass store x → HearsMore store x x
-more_none store x pass = record { pass = pass; number = refl; knows = hears_none (known_by x) }
+more_none store x pass = record { pass = pass; number = refl; hosted = refl; mine = refl; knows = hears_none (known_by x) }
 
 pub more_on : (store : Store) (a b c : Session) → HearsMore store a b → HearsMore store b c → HearsMore store a c
-more_on store a b c x y = record { pass = y.pass; number = y.number ∙ x.number; knows = hears_on (known_by a) (known_by b) (known_by c) x.knows y.knows }
+more_on store a b c x y = record { pass = y.pass; number = y.number ∙ x.number; hosted = y.hosted ∙ x.hosted; mine = subst (λ (n : ℕ). mine n (known_by c) ≡ mine n (known_by b)) x.number y.mine ∙ x.mine; knows = hears_on (known_by a) (known_by b) (known_by c) x.knows y.knows }
 
 -- ---- all sessions
 

@@ -6,3 +6,4 @@ pub mod Parting
 pub mod Replies
 pub mod Lines
 pub mod Lending
+pub mod Waits

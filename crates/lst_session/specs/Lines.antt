@@ -68,20 +68,25 @@ AbortLeaves v w s Aborted = IsOpen v s × Ends v w s
 AbortLeaves v w s (Refused cause.Idle) = IsClosed v s × (w ≡ v)
 AbortLeaves v w s answer = ⊥
 
--- by the call, of a get also where it loads no word of a tail record; a crew's line has no scans
+-- by the call; scans are told of elsewhere
+abbrev pub SessionLeaves : View → View → ℕ → Call → Reply → Type 0
+SessionLeaves v w s call.Begin answer = BeginLeaves v w s answer
+SessionLeaves v w s (call.AsOf time) answer = AsOfLeaves v w s time answer
+SessionLeaves v w s (call.Get key) answer = GetLeaves v w s key answer
+SessionLeaves v w s (call.Insert key row) answer = WriteLeaves v w s key 1 (Put row) answer
+SessionLeaves v w s (call.Update key patch) answer = WriteLeaves v w s key 0 (Set patch) answer
+SessionLeaves v w s (call.Delete key) answer = WriteLeaves v w s key 0 Del answer
+SessionLeaves v w s (call.Sum column) answer = ⊥
+SessionLeaves v w s call.Count answer = ⊥
+SessionLeaves v w s call.Scan answer = ⊥
+SessionLeaves v w s (call.Find column number) answer = ⊥
+SessionLeaves v w s call.Commit answer = CommitLeaves v w s answer
+SessionLeaves v w s call.Abort answer = AbortLeaves v w s answer
+
+-- by a crew's call: of a get also where it loads no word of a tail record
 abbrev pub CallLeaves : View → View → ℕ → Call → Reply → Type 0
-CallLeaves v w s call.Begin answer = BeginLeaves v w s answer
-CallLeaves v w s (call.AsOf time) answer = AsOfLeaves v w s time answer
 CallLeaves v w s (call.Get key) answer = GetLeaves v w s key answer × SavesTails v w s key
-CallLeaves v w s (call.Insert key row) answer = WriteLeaves v w s key 1 (Put row) answer
-CallLeaves v w s (call.Update key patch) answer = WriteLeaves v w s key 0 (Set patch) answer
-CallLeaves v w s (call.Delete key) answer = WriteLeaves v w s key 0 Del answer
-CallLeaves v w s (call.Sum column) answer = ⊥
-CallLeaves v w s call.Count answer = ⊥
-CallLeaves v w s call.Scan answer = ⊥
-CallLeaves v w s (call.Find column number) answer = ⊥
-CallLeaves v w s call.Commit answer = CommitLeaves v w s answer
-CallLeaves v w s call.Abort answer = AbortLeaves v w s answer
+CallLeaves v w s call answer = SessionLeaves v w s call answer
 
 -- a merge, by what the merger found and made
 abbrev pub MergeLeaves : View → View → ℕ → ℕ → Reply → Type 0

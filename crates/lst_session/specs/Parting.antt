@@ -6,6 +6,7 @@ use Rattle.lst_model.specs.Histories.{Extends}
 use Rattle.lst_core_state.specs.declared.facts.Fact.{Fact}
 use Rattle.lst_core_state.specs.declared.known.Known.{Known}
 use Rattle.lst_core_state.specs.Laws.{heard}
+use Rattle.lst_core_state.specs.State.{mine}
 use Rattle.lst_rule.specs.declared.store.Store.{Store}
 use Rattle.lst_rule.specs.declared.view.View.{View}
 use Rattle.lst_rule.specs.Rule.{knows, hosts}
@@ -13,6 +14,7 @@ use Rattle.lst_rule.specs.Seats.{Sitting}
 use Rattle.lst_rule.specs.Stores.{IsSeatOf}
 use Rattle.lst_rule.specs.Surveys.{HostsAll}
 use Rattle.lst_retire.specs.Frames.{AreSpares}
+use Rattle.lst_sights.specs.Copies.{Includes}
 use Rattle.lst_seat.specs.Seats.{IsPartOf, HasSeenAll}
 use Rattle.lst_session.specs.Crews.{store_told}
 use Rattle.lst_session.specs.declared.passes.Merger.{Merger}
@@ -84,20 +86,23 @@ pub record IsGathered (sessions : List Session) (m w : View) : Type 0 where
 
 -- ---- telling and hearing
 
--- of what was known, only what was seen and the facts grew
+-- of what was known, only what was seen and the facts grew; every fact is kept
 pub record OnlyHears (k now : Known) : Type 0 where
   pub facts : List Fact
   pub is : now ≡ heard k now.seen facts
   pub grows : Extends now.seen k.seen
+  pub keeps : Includes now.facts k.facts
 
 -- what a session at a place of the list has seen
 abbrev pub seen_at : List Session → ℕ → Session → List Commit
 seen_at sessions i none = (known_by (slice_index_or sessions i none)).seen
 
--- a session's pass is one still, with its number
+-- a session's pass is one still, with its number and its own commits, and hosts whom it hosted
 pub record HearsMore (store : Store) (old new : Session) : Type 0 where
   pub pass : IsPass store new
   pub number : new.number ≡ old.number
+  pub hosted : new.seat.view.hosts ≡ old.seat.view.hosts
+  pub mine : mine old.number (known_by new) ≡ mine old.number (known_by old)
   pub knows : OnlyHears (known_by old) (known_by new)
 
 -- of each session only what it has seen and its facts grew

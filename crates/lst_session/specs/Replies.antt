@@ -81,3 +81,8 @@ abbrev pub IsCrewLine : Line → Type 0
 IsCrewLine Phase = Unit {0}
 IsCrewLine (MergeLine range column) = Unit {0}
 IsCrewLine (CallLine session call) = IsCrewCall call
+
+-- the calls that a session answers without waiting: all but scans, which others answer, and commits
+abbrev pub IsPromptCall : Call → Type 0
+IsPromptCall CommitCall = ⊥
+IsPromptCall call = IsCrewCall call

@@ -32,53 +32,53 @@ struct Pair {
     ghost own: { IsCrewOf store crew × TellsState crew.seat.view },
 }
 
-fn row(first: u64, second: u64) -> Row {
+pub(crate) fn row(first: u64, second: u64) -> Row {
     let mut cells = ArrayVec::new();
     cells.push(first);
     cells.push(second);
     Row::of_numbers(cells)
 }
 
-fn patch(first: Option<u64>, second: Option<u64>) -> Patch {
+pub(crate) fn patch(first: Option<u64>, second: Option<u64>) -> Patch {
     let mut cells = ArrayVec::new();
     cells.push(first);
     cells.push(second);
     Patch::of_numbers(cells)
 }
 
-fn insert(key: Key, first: u64, second: u64) -> Call {
+pub(crate) fn insert(key: Key, first: u64, second: u64) -> Call {
     Call::Insert {
         key,
         row: row(first, second),
     }
 }
 
-fn update(key: Key, first: Option<u64>, second: Option<u64>) -> Call {
+pub(crate) fn update(key: Key, first: Option<u64>, second: Option<u64>) -> Call {
     Call::Update {
         key,
         patch: patch(first, second),
     }
 }
 
-fn get(key: Key) -> Call {
+pub(crate) fn get(key: Key) -> Call {
     Call::Get { key }
 }
 
-fn begun(time: u64) -> Reply {
+pub(crate) fn begun(time: u64) -> Reply {
     Reply::Begun { time }
 }
 
-fn found(first: u64, second: u64) -> Reply {
+pub(crate) fn found(first: u64, second: u64) -> Reply {
     Reply::Row {
         row: row(first, second),
     }
 }
 
-fn committed(time: u64) -> Reply {
+pub(crate) fn committed(time: u64) -> Reply {
     Reply::Committed { time }
 }
 
-fn ended(time: u64) -> Reply {
+pub(crate) fn ended(time: u64) -> Reply {
     Reply::Ended { time }
 }
 
@@ -87,7 +87,7 @@ fn refused(cause: Cause) -> Reply {
 }
 
 /// Whether the crew takes a session's call.
-fn fits(limits: &Limits, session: u32, call: &Call) -> bool
+pub(crate) fn fits(limits: &Limits, session: u32, call: &Call) -> bool
     ensures { IsTrue result → (session < limits.now.sessions) × CallFits limits.now.columns call.now × IsCrewCall call.now }
 {
     if session >= limits.sessions {

@@ -59,7 +59,7 @@ fn seats_of(sessions: Sessions, mut seats: Vec<Seat>) -> SeatList
 /// crew's calls ask that none has.
 ///
 /// `Gap` comes exactly where a session's number isn't among those of the sessions given, and names the least one. So a session that was
-/// dropped leaves a gap for good. It is looked for first; then memory is taken, before anything is gathered. At each refusal the sessions and
+/// dropped leaves a gap for good; a latch or the turn that it had in hand stays held for good. The gap is looked for first; then memory is taken, before anything is gathered. At each refusal the sessions and
 /// the merger are handed back as they were.
 pub fn gather(
     alloc: Global,

@@ -11,6 +11,9 @@ mod gathers;
 mod histories;
 mod laws;
 mod lines;
+mod locks;
+#[cfg(test)]
+mod merge_tests;
 mod merges;
 #[cfg(test)]
 mod part_tests;
@@ -22,10 +25,13 @@ mod replies;
 mod session;
 #[cfg(test)]
 mod tests;
+#[cfg(test)]
+mod thread_tests;
 
 pub use crew::{Crew, open_crew};
 pub use gathers::gather;
 pub use laws::seen_is_sound;
+pub use locks::CommitLock;
 pub use lst_calls::{CommitRefusal, Outcome, WriteRefusal};
 pub use lst_merge::Merge;
 pub use lst_seat::Note;
@@ -33,4 +39,5 @@ pub use lst_txn::{BeginFault as BeginRefusal, Idle as NotBegun};
 pub use passes::{GatherCause, GatherRefusal, Merger, Sessions};
 pub use phases::next_phase;
 pub use reader::Reader;
+pub use replies::{commit_reply, merge_reply};
 pub use session::Session;

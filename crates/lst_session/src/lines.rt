@@ -1,6 +1,7 @@
 //! The lines of a script.
 use crate::crew::Crew;
 use crate::replies::{abort_reply, begin_reply, commit_reply, get_reply, merge_reply, write_reply};
+use crate::session::Session;
 use lst_model::{Call, Line, OutOfMemory, Reply};
 use lst_rule::Store;
 
@@ -49,6 +50,38 @@ impl Crew {
             Call::Delete { key } => write_reply(self.delete(store, s, *key)),
             Call::Commit => commit_reply(self.commit(store, s)),
             Call::Abort => abort_reply(self.abort(store, s)),
+            _ => unreachable!(),
+        }
+    }
+}
+
+impl Session {
+    ghost use Rattle.std.specs.Prelude.{◌≡◌};
+    ghost use Rattle.lst_model.specs.Lines.{CallFits};
+    ghost use Rattle.lst_session.specs.Calls.{Called};
+    ghost use Rattle.lst_session.specs.Lines.{SessionLeaves};
+    ghost use Rattle.lst_session.specs.Passes.{IsReady};
+    ghost use Rattle.lst_session.specs.Replies.{IsPromptCall};
+
+    /// The answer to a call. It promises what the call itself promises. It takes no scans, and no commits, which may
+    /// wait.
+    pub fn answer(&mut self, store: &Store, call: &Call) -> Reply
+        requires ready { IsReady store.now self.old }
+        requires fits { CallFits self.old.seat.view.limits.columns call.now }
+        requires taken { IsPromptCall call.now }
+        ensures ready { IsReady store.now self.new }
+        ensures number { self.new.number ≡ self.old.number }
+        ensures called { Called self.old.seat.view self.new.seat.view self.old.number }
+        ensures leaves { SessionLeaves self.old.seat.view self.new.seat.view self.old.number call.now result }
+    {
+        match call {
+            Call::Begin => begin_reply(self.begin(store)),
+            Call::AsOf { time } => begin_reply(self.as_of(store, *time)),
+            Call::Get { key } => get_reply(self.get(store, *key)),
+            Call::Insert { key, row } => write_reply(self.insert(store, *key, row)),
+            Call::Update { key, patch } => write_reply(self.update(store, *key, patch)),
+            Call::Delete { key } => write_reply(self.delete(store, *key)),
+            Call::Abort => abort_reply(self.abort(store)),
             _ => unreachable!(),
         }
     }

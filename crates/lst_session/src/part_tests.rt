@@ -28,14 +28,14 @@ const SMALL: Limits = Limits {
     indexed: 0,
 };
 
-fn row(first: u64, second: u64) -> Row {
+pub(crate) fn row(first: u64, second: u64) -> Row {
     let mut cells = ArrayVec::new();
     cells.push(first);
     cells.push(second);
     Row::of_numbers(cells)
 }
 
-fn opened(alloc: Global) -> Result<(Store, Crew), Fail>
+pub(crate) fn opened(alloc: Global) -> Result<(Store, Crew), Fail>
     ensures { IfOk result (λ both. IsCrewOf both.0 both.1) }
 {
     let limits = SMALL;
@@ -46,7 +46,11 @@ fn opened(alloc: Global) -> Result<(Store, Crew), Fail>
 }
 
 /// Parts a crew. Where there is no memory for it the crew is handed back, and is parted at a second try.
-fn part_at_last(alloc: Global, store: &Store, crew: Crew) -> Result<(Sessions, Merger), Fail>
+pub(crate) fn part_at_last(
+    alloc: Global,
+    store: &Store,
+    crew: Crew,
+) -> Result<(Sessions, Merger), Fail>
     requires { IsCrewOf store.now crew }
     ensures sessions { IfOk result (λ both. All (IsReady store.now) both.0) }
     ensures merger { IfOk result (λ both. IsMergerOf store.now both.1) }
@@ -62,7 +66,7 @@ fn part_at_last(alloc: Global, store: &Store, crew: Crew) -> Result<(Sessions, M
 }
 
 /// The three sessions of a list, in order.
-fn three(store: &Store, sessions: Sessions) -> Result<(Session, Session, Session), Fail>
+pub(crate) fn three(store: &Store, sessions: Sessions) -> Result<(Session, Session, Session), Fail>
     requires { All (IsReady store.now) sessions }
     ensures first { IfOk result (λ all. IsReady store.now all.0) }
     ensures second { IfOk result (λ all. IsReady store.now all.1) }
@@ -76,7 +80,7 @@ fn three(store: &Store, sessions: Sessions) -> Result<(Session, Session, Session
 }
 
 /// The three sessions of a crew, in order, and its merger.
-fn parted(
+pub(crate) fn parted(
     alloc: Global,
     store: &Store,
     crew: Crew,
@@ -93,7 +97,7 @@ fn parted(
 }
 
 /// Sessions in a list, in this order.
-fn listed(
+pub(crate) fn listed(
     alloc: Global,
     store: &Store,
     first: Session,
@@ -113,7 +117,12 @@ fn listed(
 }
 
 /// Gathers sessions that are all there. Where there is no memory for it all is handed back, and is gathered at a second try.
-fn gathered(alloc: Global, store: &Store, sessions: Sessions, merger: Merger) -> Result<Crew, Fail>
+pub(crate) fn gathered(
+    alloc: Global,
+    store: &Store,
+    sessions: Sessions,
+    merger: Merger,
+) -> Result<Crew, Fail>
     requires sessions { All (IsReady store.now) sessions }
     requires merger { IsMergerOf store.now merger }
     ensures { IfOk result (IsCrewOf store.now) }
@@ -132,7 +141,7 @@ fn gathered(alloc: Global, store: &Store, sessions: Sessions, merger: Merger) ->
 }
 
 /// Inserts a row, in a crew's call.
-fn put(
+pub(crate) fn put(
     rt: &impl Abort,
     store: &Store,
     crew: &mut Crew,

@@ -63,7 +63,7 @@ pub(crate) fn write_reply(answer: Result<(), WriteRefusal>) -> Reply
 }
 
 /// The reply to a commit.
-pub(crate) fn commit_reply(answer: Result<Outcome, NotBegun>) -> Reply
+pub fn commit_reply(answer: Result<Outcome, NotBegun>) -> Reply
     ensures { result ≡ replies.commit_reply answer }
 {
     match answer {
@@ -74,7 +74,7 @@ pub(crate) fn commit_reply(answer: Result<Outcome, NotBegun>) -> Reply
 }
 
 /// The reply to a merge.
-pub(crate) fn merge_reply(answer: Merge) -> Reply
+pub fn merge_reply(answer: Merge) -> Reply
     ensures { result ≡ replies.merge_reply answer }
 {
     match answer {

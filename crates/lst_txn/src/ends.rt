@@ -28,7 +28,8 @@ pub enum TurnFault {
     Busy,
 }
 
-/// The turn to commit. It has to be spent, by `commit` or by `give_back`, and nothing else makes or unmakes one but `take_turn`.
+/// The turn to commit. It has to be spent, by `commit` or by `give_back`, and nothing else makes or unmakes one but `take_turn`. Where the seat that
+/// has the turn is dropped, the commit word stays held for good.
 pub struct Turn {
     pub(crate) session: u32,
 }
