@@ -9,4 +9,7 @@ pub mod Putting
 pub mod Leaving
 pub mod Replying
 pub mod Indexes
+pub mod Naming
+pub mod Folded
 pub mod Lining
+pub mod Sessioning

@@ -1,5 +1,5 @@
 -- Scans in progress.
-use Rattle.std.proofs.Common.{◌≡◌, ℕ, ◌+◌, ◌≤◌, List, [], ◌∷◌, length, true, refl, sym, subst, ap, ◌∙◌, arith}
+use Rattle.std.proofs.Common.{◌≡◌, ◌⊎◌, ℕ, ◌+◌, ◌<◌, ◌≤◌, List, [], ◌∷◌, ◌++◌, inl, inr, ⊎_elim, length, true, refl, sym, subst, ap, ◌∙◌, arith}
 use Rattle.std.specs.Prelude.{Option, Some, None}
 use Rattle.lst_model.specs.Cells.{Cell}
 use Rattle.lst_model.specs.Tables.{Rows}
@@ -16,14 +16,15 @@ use Rattle.lst_walk.specs.Readers.{IsReader}
 use Rattle.std.specs.Ordering.{nat_cmp, match_ordering}
 use Rattle.std.specs.declared.cmp.Ordering.{Ordering}
 use Rattle.std.specs.declared.cmp.Ordering.TheVariants.{Less, Equal, Greater}
-use Rattle.std.specs.Cmp.{nat_cmp_total}
+use Rattle.std.specs.Cmp.{nat_cmp_total, nat_cmp_is}
+use Rattle.lst_core_state.specs.Cells.{record_count}
 use Rattle.std.specs.FinMap.{entries, entries-insert}
 use Rattle.std.specs.FinMap.Entries.{put, by_order}
 use Rattle.std.specs.BTreeMap.{insert_entry}
 use Rattle.lst_scan.specs.Scans.{table_seen, IsRowOn, IsEntryOn, Places, between}
 use Rattle.lst_scan.proofs.Totals.{length_sum}
 use Rattle.lst_scan.proofs.Parts.{total, total_none, total_split}
-use Rattle.lst_scan.proofs.Seeing.{same_table, places_stay, weight_of, total_on, with_entry, with_record}
+use Rattle.lst_scan.proofs.Seeing.{place_of, places_of, all_rows, same_table, places_stay, weight_of, total_on, with_entry, with_record}
 
 -- the session has only looked since the view was v
 pub record Scans (store : Store) (v : View) (seat : Sitting) (s : ℕ) : Type 0 where
@@ -125,3 +126,50 @@ collects_next store v a b s n found more collects p reader watched entry on is =
       ∙ ap entries (sym (subst (λ (t : Rows). between place 0 (n + 1) t ≡ with_entry entry (between place 0 n t)) (same_table (knows v s) (knows a.view s) kept.alike)
       (with_record a.view s p collects.scans.reader.host place (places_stay (knows v s) (knows a.view s) kept place places) 0 n (omega arith) entry on)))));
 }
+
+-- ---- entries by rising key
+
+-- each key of the list is below this one
+abbrev pub AreBelow : ℕ → List (ℕ × List Cell) → Type 0
+AreBelow key [] = Unit {0}
+AreBelow key (e ∷ es) = (e.0 < key) × AreBelow key es
+
+-- the list has no key, or none above the last
+abbrev pub AreUpTo : ℕ → List (ℕ × List Cell) → Type 0
+AreUpTo last found = (found ≡ []) ⊎ AreBelow (last + 1) found
+
+below_higher : (low high : ℕ) (es : List (ℕ × List Cell)) → low ≤ high → AreBelow low es → AreBelow high es
+below_higher low high [] rises below = tt
+below_higher low high (e ∷ es) rises below = ((let b = below.0 in omega arith), below_higher low high es rises below.1)
+
+below_more : (key : ℕ) (row : List Cell) (es : List (ℕ × List Cell)) → AreBelow key es → AreBelow (key + 1) (es ++ (key, row) ∷ [])
+below_more key row [] below = ((omega arith), tt)
+below_more key row (e ∷ es) below = ((let b = below.0 in omega arith), below_more key row es below.1)
+
+insert_last : (key : ℕ) (row : List Cell) (es : List (ℕ × List Cell)) → AreBelow key es → insert_entry nat_cmp es key row ≡ es ++ (key, row) ∷ []
+insert_last key row [] below = refl
+insert_last key row (e ∷ es) below = ap (λ (o : Ordering). match_ordering o ((key, row) ∷ e ∷ es) ((e.0, row) ∷ es) (e ∷ insert_entry nat_cmp es key row)) (sym (nat_cmp_is key e.0 Greater below.0)) ∙ ap (λ more. e ∷ more) (insert_last key row es below.1)
+
+-- a key that comes next
+pub comes_below : (last key : ℕ) (found : List (ℕ × List Cell)) → AreUpTo last found → (found ≡ []) ⊎ (last < key) → AreBelow key found
+comes_below last key found up next = ⊎_elim
+    (λ (none : found ≡ []). subst (λ es. AreBelow key es) (sym none) tt)
+    (λ (below : AreBelow (last + 1) found). ⊎_elim (λ (none : found ≡ []). subst (λ es. AreBelow key es) (sym none) tt) (λ (above : last < key). below_higher (last + 1) key found (omega arith) below) next)
+    up
+
+-- goes to the end
+pub next_last : (key : ℕ) (row : List Cell) (found more : List (ℕ × List Cell)) → AreBelow key found → more ≡ found ++ (key, row) ∷ [] → (more ≡ entries_with (Some (key, row)) found) × AreUpTo key more
+next_last key row found more below is = (is ∙ sym (insert_last key row found below), inr (subst (λ es. AreBelow (key + 1) es) (sym is) (below_more key row found below)))
+
+-- all rows
+pub collects_whole : (store : Store) (v : View) (seat : Sitting) (s n : ℕ) (found : List (ℕ × List Cell)) → n ≡ record_count v.limits → Collects store v seat s n found → found ≡ entries (table_seen (knows v s))
+collects_whole store v seat s n found end collects = let c = collects.scans in let place = place_of v s c.possible c.host c.opened in let places = places_of v s c.possible c.host c.opened in
+    collects.is place places ∙ (ap (λ (m : ℕ). entries (between place 0 m (table_seen (knows v s)))) end ∙ ap entries (all_rows v s c.possible c.host place places))
+
+-- and of a later look
+pub scan_later : (store : Store) (v : View) (a : Sitting) (s : ℕ) → Scans store v a s → table_seen (knows a.view s) ≡ table_seen (knows v s)
+scan_later store v a s scans = same_table (knows v s) (knows a.view s) (scans_keep store v a s scans).alike
+
+-- nothing but looks
+pub adds_look : (store : Store) (v : View) (a b : Sitting) (s : ℕ) (weight : List Cell → ℕ) (low n sum : ℕ) → Adds store v a s weight low n sum → IsReader store b s → Watched a.view b.view s → Adds store v b s weight low n sum
+adds_look store v a b s weight low n sum adds reader watched = record { scans = scans_next store v a b s adds.scans reader watched; rises = adds.rises; is = adds.is }

@@ -8,7 +8,8 @@ use Rattle.lst_model.specs.declared.acts.Act.TheVariants.{Put, Set, Del}
 use Rattle.lst_model.specs.Cells.{Cell, is_number, holds_at, overlaid}
 use Rattle.lst_model.specs.Histories.{row_after, row_from}
 use Rattle.lst_core_state.specs.State.{sight}
-use Rattle.lst_scan.specs.Laws.{puts_number, NumbersWerePut}
+use Rattle.lst_second.specs.Candidates.{puts_number}
+use Rattle.lst_scan.specs.Laws.{NumbersWerePut}
 use Rattle.lst_scan.proofs.Seeing.{row_seen}
 
 abbrev row_holds : ℕ → ℕ → Option (List Cell) → Bool

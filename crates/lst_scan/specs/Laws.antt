@@ -1,10 +1,8 @@
 -- Laws of parts of a table, and of the places that cut it.
-use Rattle.std.specs.Prelude.{◌≡◌, ℕ, ◌+◌, ◌<◌, ◌≤◌, Bool, true, false, List, Option, Some, sum_by, unwrap_or, slice_get}
+use Rattle.std.specs.Prelude.{◌≡◌, ℕ, ◌+◌, ◌<◌, ◌≤◌, true, List, Option, Some, sum_by, unwrap_or}
 use Rattle.std.specs.List.{Contains, range_with_len}
-use Rattle.std.specs.Option.{option_flatten}
 use Rattle.lst_model.specs.declared.acts.Act.{Act}
-use Rattle.lst_model.specs.declared.acts.Act.TheVariants.{Put, Set, Del}
-use Rattle.lst_model.specs.Cells.{Cell, is_number, holds_at}
+use Rattle.lst_model.specs.Cells.{Cell, holds_at}
 use Rattle.lst_model.specs.Tables.{Rows, sum_of, row_of}
 use Rattle.lst_core_state.specs.declared.known.Known.{Known}
 use Rattle.lst_core_state.specs.Cells.{record_count}
@@ -14,6 +12,7 @@ use Rattle.lst_rule.specs.Rule.{knows, hosts}
 use Rattle.lst_rule.specs.Learned.{Possible}
 use Rattle.lst_sights.specs.Copies.{Includes}
 use Rattle.lst_sights.specs.Watching.{Watched}
+use Rattle.lst_second.specs.Candidates.{puts_number}
 use Rattle.lst_scan.specs.Scans.{table_seen, IsCellOn, Places, between}
 
 -- the sum over a part is that over the pieces into which cuts, which never fall, divide it
@@ -40,12 +39,6 @@ RowsHavePlaces = (v : View) (s : ℕ) → Possible v → hosts v s ≡ true → 
 abbrev pub PlacesAgree : Type 0
 PlacesAgree = (w : View) (s t : ℕ) (k j : Known) → Possible w → hosts w s ≡ true → hosts w t ≡ true → Includes (knows w s).facts k.facts → Includes (knows w t).facts j.facts → table_seen j ≡ table_seen k
     → (place other : ℕ → ℕ) → Places k place → Places j other → Places j place
-
--- the act puts this number into the column
-abbrev pub puts_number : ℕ → ℕ → Act → Bool
-puts_number column number (Put row) = holds_at column number row
-puts_number column number (Set patch) = is_number number (option_flatten (option_flatten (slice_get patch column)))
-puts_number column number Del = false
 
 -- a number in a row that is seen was put there by an act on its key that is seen
 abbrev pub NumbersWerePut : Type 0

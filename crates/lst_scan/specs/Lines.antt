@@ -14,6 +14,7 @@ use Rattle.lst_rule.specs.Rule.{knows}
 use Rattle.lst_session.specs.Calls.{OnlyLooks, FindsNoneFull}
 use Rattle.lst_session.specs.Crews.{TellsState, state_told}
 use Rattle.lst_session.specs.Lines.{IsOpen, IsClosed, CallLeaves, MergeLeaves}
+use Rattle.lst_scan.specs.Savings.{SavesSum}
 use Rattle.lst_scan.specs.Scans.{table_seen}
 
 -- a state of the machine that the view told is told still
@@ -52,7 +53,7 @@ FindLeaves v w s column number answer = ⊥
 
 -- by the call: a scan, or one by key, a begin or an end
 abbrev pub EachCallLeaves : View → View → ℕ → Call → Reply → Type 0
-EachCallLeaves v w s (call.Sum column) answer = SumLeaves v w s column answer
+EachCallLeaves v w s (call.Sum column) answer = SumLeaves v w s column answer × SavesSum v w s column
 EachCallLeaves v w s call.Count answer = CountLeaves v w s answer
 EachCallLeaves v w s call.Scan answer = ScanLeaves v w s answer
 EachCallLeaves v w s (call.Find column number) answer = FindLeaves v w s column number answer

@@ -1,15 +1,21 @@
-//! Scans: sums, counts and lists over all rows that a session's open transaction sees, record by record.
+//! Scans: sums, counts and lists over all rows that a session's open transaction sees, record by record; and finds, on the records that a
+//! column's index names.
 //!
 //! A record has at most one key, and a key at most one record. So the rows of a range of records are a part of the table, and the answers over
 //! parts add up to that over the whole.
 #![tactic(auto)]
 
 mod finds;
+#[cfg(test)]
+mod index_tests;
 mod laws;
 mod lines;
 mod lists;
 mod readers;
 mod records;
+#[cfg(test)]
+mod session_tests;
+mod sessions;
 mod sums;
 #[cfg(test)]
 mod tests;
@@ -20,3 +26,4 @@ pub use laws::{
 };
 pub use lines::crew_line;
 pub use readers::{count, find, find_among, rows, sum, sum_part};
+pub use sessions::session_line;

@@ -4,6 +4,7 @@ ghost use Rattle.lst_machine.specs.Calls.{is_indexed};
 ghost use Rattle.lst_model.specs.Lines.{LineFits};
 ghost use Rattle.lst_model.specs.declared.lines.Call.TheVariants as call;
 ghost use Rattle.lst_session.specs.Crews.{IsCrewOf, TellsState, Answers, AnswersLine};
+ghost use Rattle.lst_scan.specs.Savings.{SavesSum};
 ghost use Rattle.lst_scan.specs.Lines.{KeepsState, HasScanned, SumLeaves, CountLeaves, ScanLeaves, FindLeaves, EachLineLeaves, LineLooks};
 
 use crate::finds::{FindRefusal, find};
@@ -16,7 +17,8 @@ use std::alloc::Global;
 
 /// The answer to a line: a scan is made by the session's open transaction, and all other lines by the crew. It promises of the session that
 /// calls, and of the merger, what the call itself promises; and where the crew tells a state of the machine, the answer is the machine's, and the
-/// crew then tells the next one. Memory may be wanted for a list of rows and for a find in an indexed column, with a transaction open: then the
+/// crew then tells the next one. A sum of a column whose pages have folded every accepted write, each ended by its transaction's begin, loads no word
+/// of a tail record. Memory may be wanted for a list of rows and for a find in an indexed column, with a transaction open: then the
 /// session has only looked, and the crew tells the same state.
 pub fn crew_line(
     alloc: Global,
@@ -46,13 +48,15 @@ pub fn crew_line(
     }
 }
 
-fn idle() -> Reply
+/// The reply to a call while no transaction is open.
+pub(crate) fn idle() -> Reply
     ensures { result ≡ Reply.Refused Cause.Idle }
 {
     Reply::Refused { cause: Cause::Idle }
 }
 
-/// The answer to a sum.
+/// The answer to a sum. Where the crew tells a state of the machine in which the pages of the column have folded every accepted write, each ended by
+/// the transaction's begin, no word of a tail record is loaded.
 fn sum_call(store: &Store, crew: &mut Crew, s: u32, column: u32) -> Reply
     requires crew { IsCrewOf store.now crew.old }
     requires session { s < crew.old.seat.view.limits.sessions }
@@ -60,6 +64,7 @@ fn sum_call(store: &Store, crew: &mut Crew, s: u32, column: u32) -> Reply
     ensures crew { IsCrewOf store.now crew.new }
     ensures machine { TellsState crew.old.seat.view → TellsState crew.new.seat.view × Answers crew.old.seat.view crew.new.seat.view s (call.Sum column) result }
     ensures session { SumLeaves crew.old.seat.view crew.new.seat.view s column result }
+    ensures saves { SavesSum crew.old.seat.view crew.new.seat.view s column }
 {
     crew.seat.consider();
     if !crew.seat.is_open(s) {

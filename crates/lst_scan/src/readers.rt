@@ -8,6 +8,7 @@ ghost use Rattle.lst_core_state.specs.Cells.{record_count};
 ghost use Rattle.lst_rule.specs.Rule.{knows};
 ghost use Rattle.lst_sights.specs.Watching.{Watched};
 ghost use Rattle.lst_walk.specs.Readers.{IsReader};
+ghost use Rattle.lst_scan.specs.Savings.{SavesPart};
 ghost use Rattle.lst_scan.specs.Scans.{table_seen, Places, between, AreCandidates};
 ghost use Rattle.lst_scan.specs.Finds.{IsRefused};
 
@@ -18,7 +19,8 @@ use lst_rule::{RecordId, Store};
 use lst_session::Reader;
 use std::alloc::Global;
 
-/// The numbers of a column, 0 for null, added over all rows. The sum never wraps.
+/// The numbers of a column, 0 for null, added over all rows. The sum never wraps. Where the seat knows each word, the session is pinned, and the
+/// column's pages have folded the newest version of each record, with an entry of the begin or earlier, no word of a tail record is loaded.
 pub fn sum(store: &Store, reader: &mut Reader<'_>, column: u32) -> u128
     requires reader { IsReader store.now reader.old.seat.now reader.old.s }
     requires column { column < store.now.layout.limits.columns }
@@ -27,6 +29,7 @@ pub fn sum(store: &Store, reader: &mut Reader<'_>, column: u32) -> u128
     ensures lent { reader.new.seat.ghost_name ≡ reader.old.seat.ghost_name }
     ensures watched { Watched reader.old.seat.now.view reader.new.seat.now.view reader.old.s }
     ensures sum { result ≡ sum_of (table_seen (knows reader.old.seat.now.view reader.old.s)) column }
+    ensures saves { SavesPart reader.old.seat.now.view reader.new.seat.now.view reader.old.s column 0 (record_count store.now.layout.limits) }
 {
     sums::sum(store, reader.seat, reader.s, column)
 }
@@ -42,6 +45,7 @@ pub fn sum_part(store: &Store, reader: &mut Reader<'_>, column: u32, from: u32, 
     ensures lent { reader.new.seat.ghost_name ≡ reader.old.seat.ghost_name }
     ensures watched { Watched reader.old.seat.now.view reader.new.seat.now.view reader.old.s }
     ensures sum { (place : ℕ → ℕ) → Places (knows reader.old.seat.now.view reader.old.s) place → result ≡ sum_of (between place (256 * from) (256 * to) (table_seen (knows reader.old.seat.now.view reader.old.s))) column }
+    ensures saves { SavesPart reader.old.seat.now.view reader.new.seat.now.view reader.old.s column (256 * from) (256 * to) }
 {
     sums::sum_part(store, reader.seat, reader.s, column, from, to)
 }
@@ -96,8 +100,8 @@ pub fn find_among(
 }
 
 /// The keys, rising, of the rows with this number in the column. NotIndexed comes exactly where the layout names no index on the column, and
-/// then nothing is looked at; for want of memory only looks were made. For now the find looks at each record of the store, and not at those
-/// alone that the index names. The session has no record in hand.
+/// then nothing is looked at; for want of memory only looks were made. Where the session has no tail in hand, and between its calls it never
+/// has, the find looks at those records alone that the index names, at each once. It has no record in hand.
 pub fn find(
     alloc: Global,
     store: &Store,

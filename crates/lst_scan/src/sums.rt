@@ -4,9 +4,11 @@ ghost use Rattle.lst_model.specs.Tables.{sum_of, count_of};
 ghost use Rattle.lst_rule.specs.Rule.{knows};
 ghost use Rattle.lst_sights.specs.Watching.{Watched};
 ghost use Rattle.lst_walk.specs.Readers.{IsReader};
+ghost use Rattle.lst_core_state.specs.Cells.{record_count};
+ghost use Rattle.lst_scan.specs.Savings.{SavesPart};
 ghost use Rattle.lst_scan.specs.Scans.{table_seen, Places, between};
 
-use crate::records::cell;
+use crate::records::{cell_by, is_row_by, page_at};
 use lst_rule::{RecordId, Seat, Store};
 
 /// The numbers of a column, 0 for null, added over all rows that the open transaction sees. A sum has 128 bits, and never wraps: there are
@@ -17,6 +19,7 @@ pub(crate) fn sum(store: &Store, seat: &mut Seat, s: u32, c: u32) -> u128
     ensures reader { IsReader store.now seat.new s }
     ensures watched { Watched seat.old.view seat.new.view s }
     ensures sum { result ≡ sum_of (table_seen (knows seat.old.view s)) c }
+    ensures saves { SavesPart seat.old.view seat.new.view s c 0 (record_count store.now.layout.limits) }
 {
     seat.consider();
     sum_part(store, seat, s, c, 0, store.layout().limits.ranges)
@@ -31,6 +34,7 @@ pub(crate) fn sum_part(store: &Store, seat: &mut Seat, s: u32, c: u32, from: u32
     ensures reader { IsReader store.now seat.new s }
     ensures watched { Watched seat.old.view seat.new.view s }
     ensures sum { (place : ℕ → ℕ) → Places (knows seat.old.view s) place → result ≡ sum_of (between place (256 * from) (256 * to) (table_seen (knows seat.old.view s))) c }
+    ensures saves { SavesPart seat.old.view seat.new.view s c (256 * from) (256 * to) }
 {
     seat.consider();
     let mut total: u128 = 0;
@@ -48,13 +52,15 @@ fn sum_range(store: &Store, seat: &mut Seat, s: u32, c: u32, range: u32) -> u128
     ensures reader { IsReader store.now seat.new s }
     ensures watched { Watched seat.old.view seat.new.view s }
     ensures sum { (place : ℕ → ℕ) → Places (knows seat.old.view s) place → result ≡ sum_of (between place (256 * range) (256 * (range + 1)) (table_seen (knows seat.old.view s))) c }
+    ensures saves { SavesPart seat.old.view seat.new.view s c (256 * range) (256 * (range + 1)) }
     ensures few { result ≤ 2 ^ 72 }
 {
     seat.consider();
+    let mut page = page_at(store, seat, s, range, c);
     let mut total: u128 = 0;
     for number in 256 * range..256 * (range + 1) {
         seat.consider();
-        let found = cell(store, seat, s, RecordId { number }, c);
+        let found = cell_by(store, seat, s, RecordId { number }, c, &mut page);
         total += u128::from(found.unwrap_or(0));
     }
     total
@@ -85,11 +91,11 @@ fn count_range(store: &Store, seat: &mut Seat, s: u32, range: u32) -> u64
     ensures few { result ≤ 256 }
 {
     seat.consider();
+    let mut page = page_at(store, seat, s, range, 0);
     let mut rows: u64 = 0;
     for number in 256 * range..256 * (range + 1) {
         seat.consider();
-        let found = cell(store, seat, s, RecordId { number }, 0);
-        if found.is_some() {
+        if is_row_by(store, seat, s, RecordId { number }, &mut page) {
             rows += 1;
         }
     }

@@ -5,7 +5,7 @@ ghost use Rattle.lst_model.specs.Lines.{CallFits, IsPatch};
 ghost use Rattle.lst_session.specs.Passes.{IsReady};
 ghost use Rattle.lst_session.specs.Crews.{IsCrewOf};
 
-use crate::{count, crew_line, find_among, rows, sum, sum_part};
+use crate::{FindRefusal, count, crew_line, find, find_among, rows, sum, sum_part};
 use arrayvec::ArrayVec;
 use lst_layout::Limits;
 use lst_model::{Call, Cause, Key, KeyList, Line, OutOfMemory, Patch, Reply, Row, RowList, Time};
@@ -20,14 +20,14 @@ use std::test::Fail;
 
 /// A store of two ranges with two columns and two sessions, and one of the sessions.
 #[derive(Drop)]
-struct Opened {
-    store: Store,
-    session: Session,
+pub(crate) struct Opened {
+    pub(crate) store: Store,
+    pub(crate) session: Session,
     ghost own: { IsReady store session × (store.layout.limits.columns ≡ 2) × (store.layout.limits.ranges ≡ 2) },
 }
 
-/// The store has room for so many writes to each range.
-fn open_one(alloc: Global, tails: u32) -> Result<Opened, Fail> {
+/// The store has room for so many writes to each range, and its second column has an index.
+pub(crate) fn open_one(alloc: Global, tails: u32) -> Result<Opened, Fail> {
     let limits = Limits {
         columns: 2,
         ranges: 2,
@@ -35,7 +35,7 @@ fn open_one(alloc: Global, tails: u32) -> Result<Opened, Fail> {
         sessions: 2,
         txns: 8,
         spare: 1,
-        indexed: 0,
+        indexed: 2,
     };
     let Ok(layout) = limits.check() else {
         return Err(Fail::from("the limits are in range"));
@@ -46,7 +46,7 @@ fn open_one(alloc: Global, tails: u32) -> Result<Opened, Fail> {
 }
 
 /// A row of two cells, None for null.
-fn row(first: Option<u64>, second: Option<u64>) -> Row
+pub(crate) fn row(first: Option<u64>, second: Option<u64>) -> Row
     ensures { length result ≡ 2 }
 {
     let mut row = Row::of_numbers(ArrayVec::new());
@@ -180,6 +180,23 @@ fn found(
     Ok(Some(find_among(alloc, &on.store, &mut reader, 0, number, &records)))
 }
 
+/// The keys of the rows that have this number in the second column, by its index.
+fn found_by_index(
+    alloc: Global,
+    on: &mut Opened,
+    number: u64,
+) -> Option<Result<KeyList, FindRefusal>> {
+    if on.session.is_idle() {
+        return None;
+    }
+    let s = on.session.number;
+    let mut reader = Reader {
+        seat: &mut on.session.seat,
+        s,
+    };
+    Some(find(alloc, &on.store, &mut reader, 1, number))
+}
+
 #[test]
 fn own_writes_nulls_and_deletes_are_scanned(rt: HostRuntime) -> Result<(), Fail> {
     let mut on = open_one(rt.alloc(), 16)?;
@@ -228,6 +245,34 @@ fn rows_with_a_number_are_found(rt: HostRuntime) -> Result<(), Fail> {
         found(rt.alloc(), &mut on, 31)?,
         Some(Ok(KeyList::new(rt.alloc())))
     );
+    Ok(())
+}
+
+#[test]
+fn rows_of_the_past_are_found_by_the_index(rt: HostRuntime) -> Result<(), Fail> {
+    let alloc = rt.alloc();
+    let mut on = open_one(alloc, 16)?;
+    assert_eq!(rt; begin(&mut on), Ok(0));
+    assert_eq!(rt; put(&mut on, 9, Some(30), Some(20)), Ok(()));
+    assert_eq!(rt; put(&mut on, 7, Some(20), Some(0)), Ok(()));
+    assert_eq!(rt; put(&mut on, 5, None, Some(20)), Ok(()));
+    let both = KeyList::from_items(vec![in alloc; 5, 9]?);
+    assert_eq!(rt; found_by_index(alloc, &mut on, 20), Some(Ok(both)));
+    assert_eq!(rt; try_commit(&mut on), Ok(Outcome::Committed { time: 1 }));
+    assert_eq!(rt; begin(&mut on), Ok(1));
+    assert_eq!(rt; empty(&mut on, 9), Ok(()));
+    assert_eq!(rt; delete(&mut on, 5), Ok(()));
+    assert_eq!(rt;
+        found_by_index(alloc, &mut on, 20),
+        Some(Ok(KeyList::new(alloc)))
+    );
+    // The number 0 is found, and the row with a null in its place isn't.
+    let zero = KeyList::from_items(vec![in alloc; 7]?);
+    assert_eq!(rt; found_by_index(alloc, &mut on, 0), Some(Ok(zero)));
+    assert_eq!(rt; try_commit(&mut on), Ok(Outcome::Committed { time: 2 }));
+    assert_eq!(rt; as_of(&mut on, 1), Ok(1));
+    let both = KeyList::from_items(vec![in alloc; 5, 9]?);
+    assert_eq!(rt; found_by_index(alloc, &mut on, 20), Some(Ok(both)));
     Ok(())
 }
 
@@ -297,14 +342,14 @@ fn parts_add_up_to_the_whole(rt: HostRuntime) -> Result<(), Fail> {
 
 /// The same store with all its sessions at one seat.
 #[derive(Drop)]
-struct Crewed {
-    store: Store,
-    crew: Crew,
+pub(crate) struct Crewed {
+    pub(crate) store: Store,
+    pub(crate) crew: Crew,
     ghost own: { IsCrewOf store crew × (store.layout.limits.columns ≡ 2) × (store.layout.limits.sessions ≡ 2) },
 }
 
-/// The first column has an index, or none has.
-fn open_both(alloc: Global, is_indexed: bool) -> Result<Crewed, Fail> {
+/// Bit c of the mask says whether column c has an index.
+pub(crate) fn open_both(alloc: Global, indexed: u8) -> Result<Crewed, Fail> {
     let limits = Limits {
         columns: 2,
         ranges: 1,
@@ -312,7 +357,7 @@ fn open_both(alloc: Global, is_indexed: bool) -> Result<Crewed, Fail> {
         sessions: 2,
         txns: 8,
         spare: 1,
-        indexed: u8::from(is_indexed),
+        indexed,
     };
     let Ok(layout) = limits.check() else {
         return Err(Fail::from("the limits are in range"));
@@ -321,7 +366,7 @@ fn open_both(alloc: Global, is_indexed: bool) -> Result<Crewed, Fail> {
     Ok(Crewed { store, crew })
 }
 
-fn begin_of(on: &mut Crewed, s: u32) -> Result<Time, BeginRefusal>
+pub(crate) fn begin_of(on: &mut Crewed, s: u32) -> Result<Time, BeginRefusal>
     requires { s < 2 }
 {
     on.crew.begin(&on.store, s)
@@ -333,13 +378,13 @@ fn as_of_by(on: &mut Crewed, s: u32, time: Time) -> Result<Time, BeginRefusal>
     on.crew.as_of(&on.store, s, time)
 }
 
-fn put_by(on: &mut Crewed, s: u32, key: Key, second: u64) -> Result<(), WriteRefusal>
+pub(crate) fn put_by(on: &mut Crewed, s: u32, key: Key, second: u64) -> Result<(), WriteRefusal>
     requires { s < 2 }
 {
     on.crew.insert(&on.store, s, key, &row(None, Some(second)))
 }
 
-fn commit_of(on: &mut Crewed, s: u32) -> Result<Outcome, NotBegun>
+pub(crate) fn commit_of(on: &mut Crewed, s: u32) -> Result<Outcome, NotBegun>
     requires { s < 2 }
 {
     on.crew.commit(&on.store, s)
@@ -361,7 +406,7 @@ fn total_of(on: &mut Crewed, s: u32) -> Option<u128>
 
 #[test]
 fn sessions_scan_what_each_sees(rt: HostRuntime) -> Result<(), Fail> {
-    let mut on = open_both(rt.alloc(), false)?;
+    let mut on = open_both(rt.alloc(), 0)?;
     assert_eq!(rt; begin_of(&mut on, 0), Ok(0));
     assert_eq!(rt; begin_of(&mut on, 1), Ok(0));
     assert_eq!(rt; put_by(&mut on, 0, 7, 20), Ok(()));
@@ -380,7 +425,12 @@ fn sessions_scan_what_each_sees(rt: HostRuntime) -> Result<(), Fail> {
 }
 
 /// The answer to a line.
-fn answer(alloc: Global, on: &mut Crewed, session: u32, call: Call) -> Result<Reply, OutOfMemory>
+pub(crate) fn answer(
+    alloc: Global,
+    on: &mut Crewed,
+    session: u32,
+    call: Call,
+) -> Result<Reply, OutOfMemory>
     requires session { session < 2 }
     requires fits { CallFits 2 call }
 {
@@ -388,7 +438,7 @@ fn answer(alloc: Global, on: &mut Crewed, session: u32, call: Call) -> Result<Re
     crew_line(alloc, &on.store, &mut on.crew, &line)
 }
 
-fn refused(cause: Cause) -> Result<Reply, OutOfMemory> {
+pub(crate) fn refused(cause: Cause) -> Result<Reply, OutOfMemory> {
     Ok(Reply::Refused { cause })
 }
 
@@ -410,7 +460,7 @@ fn put_two(rt: &(impl Abort + AllocGlobal), on: &mut Crewed) -> Result<(), Fail>
 #[test]
 fn lines_are_answered(rt: HostRuntime) -> Result<(), Fail> {
     let alloc = rt.alloc();
-    let mut on = open_both(alloc, true)?;
+    let mut on = open_both(alloc, 1)?;
     // Whether a transaction is open is asked before the index.
     let find = Call::Find {
         column: 1,
@@ -475,5 +525,84 @@ fn lines_are_answered(rt: HostRuntime) -> Result<(), Fail> {
     };
     let list = KeyList::new(alloc);
     assert_eq!(rt; answer(alloc, &mut on, 1, find), Ok(Reply::Keys { list }));
+    Ok(())
+}
+
+/// The keys that a session's transaction finds with this number in the column.
+pub(crate) fn find_by(
+    alloc: Global,
+    on: &mut Crewed,
+    session: u32,
+    column: u32,
+    value: u64,
+) -> Result<Reply, OutOfMemory>
+    requires session { session < 2 }
+    requires column { column < 2 }
+{
+    answer(alloc, on, session, Call::Find { column, value })
+}
+
+#[test]
+fn two_rows_are_found_by_the_index(rt: HostRuntime) -> Result<(), Fail> {
+    let alloc = rt.alloc();
+    let mut on = open_both(alloc, 2)?;
+    assert_eq!(rt; begin_of(&mut on, 0), Ok(0));
+    assert_eq!(rt; put_by(&mut on, 0, 9, 20), Ok(()));
+    assert_eq!(rt; put_by(&mut on, 0, 7, 20), Ok(()));
+    let list = KeyList::from_items(vec![in alloc; 7, 9]?);
+    assert_eq!(rt; find_by(alloc, &mut on, 0, 1, 20), Ok(Reply::Keys { list }));
+    assert_eq!(rt;
+        find_by(alloc, &mut on, 0, 0, 10),
+        refused(Cause::NotIndexed)
+    );
+    Ok(())
+}
+
+/// Makes the second column this number.
+fn new_second(number: u64) -> Patch
+    ensures { IsPatch 2 result }
+{
+    let mut patch = Patch::of_numbers(ArrayVec::new());
+    patch.push(None);
+    patch.push(Some(Some(number)));
+    patch
+}
+
+#[test]
+fn an_older_snapshot_finds_the_old_number(rt: HostRuntime) -> Result<(), Fail> {
+    let alloc = rt.alloc();
+    let mut on = open_both(alloc, 2)?;
+    assert_eq!(rt; begin_of(&mut on, 0), Ok(0));
+    assert_eq!(rt; put_by(&mut on, 0, 7, 20), Ok(()));
+    assert_eq!(rt; commit_of(&mut on, 0), Ok(Outcome::Committed { time: 1 }));
+    assert_eq!(rt; begin_of(&mut on, 1), Ok(1));
+    assert_eq!(rt; begin_of(&mut on, 0), Ok(1));
+    let update = Call::Update {
+        key: 7,
+        patch: new_second(21),
+    };
+    assert_eq!(rt; answer(alloc, &mut on, 0, update), Ok(Reply::Done));
+    assert_eq!(rt; commit_of(&mut on, 0), Ok(Outcome::Committed { time: 2 }));
+    assert_eq!(rt; begin_of(&mut on, 0), Ok(2));
+    let old = KeyList::from_items(vec![in alloc; 7]?);
+    assert_eq!(rt;
+        find_by(alloc, &mut on, 1, 1, 20),
+        Ok(Reply::Keys { list: old })
+    );
+    let none = KeyList::new(alloc);
+    assert_eq!(rt;
+        find_by(alloc, &mut on, 1, 1, 21),
+        Ok(Reply::Keys { list: none })
+    );
+    let none = KeyList::new(alloc);
+    assert_eq!(rt;
+        find_by(alloc, &mut on, 0, 1, 20),
+        Ok(Reply::Keys { list: none })
+    );
+    let new = KeyList::from_items(vec![in alloc; 7]?);
+    assert_eq!(rt;
+        find_by(alloc, &mut on, 0, 1, 21),
+        Ok(Reply::Keys { list: new })
+    );
     Ok(())
 }
