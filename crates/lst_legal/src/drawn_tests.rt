@@ -6,8 +6,9 @@ use crate::{are_sessions_below, legal};
 use arrayvec::ArrayVec;
 use lst_layout::Limits;
 use lst_model::{Call, Cause, KeyList, Line, OutOfMemory, Patch, Reply, Row, RowList, Table};
-use lst_replies::{Replies, Report, Stamp, Stamps};
+use lst_replies::{Replies, Report, ReportFault, Stamp, Stamps, parse_report, print_report};
 use std::alloc::Global;
+use std::process::Abort;
 use std::test::Fail;
 
 const SESSIONS: u64 = 3;
@@ -569,5 +570,123 @@ fn drawn_reports_are_judged_as_the_plain_checker_judges(rt: HostRuntime) -> Resu
     }
     // Both verdicts occur often.
     assert!(rt; legal_ones > 100 && others > 65);
+    Ok(())
+}
+
+/// A text with a byte in the place of another.
+fn with_byte(alloc: Global, text: &[u8], place: usize, byte: u8) -> Result<Vec<u8>, OutOfMemory> {
+    let mut changed = Vec::new(alloc);
+    for (at, old) in text.iter().enumerate() {
+        changed.push(if at == place { byte } else { *old })?;
+    }
+    Ok(changed)
+}
+
+/// What the two checkers say of a text, or None where it is no report.
+fn judge_text(
+    alloc: Global,
+    limits: &Limits,
+    lines: &[Line],
+    text: &[u8],
+) -> Result<Option<Verdicts>, OutOfMemory> {
+    let report = match parse_report(alloc, text, 2) {
+        Ok(report) => report,
+        Err(ReportFault::Bad { .. }) => return Ok(None),
+        Err(ReportFault::OutOfMemory) => return Err(OutOfMemory),
+    };
+    let run = Run {
+        lines,
+        replies: report.replies.items(),
+        stamps: report.history.items(),
+    };
+    let plain = run.is_legal(alloc, limits)?;
+    if !are_sessions_below(limits.sessions, lines) {
+        return Ok(None);
+    }
+    let fast = legal(alloc, limits, lines, &report)?;
+    Ok(Some(Verdicts { plain, fast }))
+}
+
+/// How many texts with one byte changed were read as reports, and how many of these are legal.
+#[derive(Clone, Copy)]
+struct Changed {
+    read: u64,
+    legal: u64,
+}
+
+impl Changed {
+    /// Judges a text with each byte changed in turn, to a digit, a space, a newline, or a byte of the text.
+    fn judge_all(
+        &mut self,
+        rt: &impl Abort,
+        alloc: Global,
+        limits: &Limits,
+        lines: &[Line],
+        text: &[u8],
+        drawer: &mut Drawer,
+    ) -> Result<(), OutOfMemory> {
+        for place in 0..text.len() {
+            let byte = match drawer.draw(6) {
+                0 => b' ',
+                1 => b'\n',
+                2 => b'9',
+                3 => b'0',
+                4 => b'1',
+                _ => *text
+                    .get(drawer.draw(text.len() as u64) as usize)
+                    .unwrap_or(&b'2'),
+            };
+            let changed = with_byte(alloc, text, place, byte)?;
+            if let Some(verdicts) = judge_text(alloc, limits, lines, changed.as_slice())? {
+                assert_eq!(rt; verdicts.plain, verdicts.fast);
+                self.read = self.read.wrapping_add(1);
+                self.legal = self.legal.wrapping_add(u64::from(verdicts.fast));
+            }
+        }
+        Ok(())
+    }
+}
+
+#[test]
+fn legal_drawn_reports_with_one_byte_changed_are_judged_as_the_plain_checker_judges(
+    rt: HostRuntime,
+) -> Result<(), Fail> {
+    let alloc = rt.alloc();
+    let mut counts = Changed { read: 0, legal: 0 };
+    let mut legal_ones = 0u64;
+    for seed in 1..31u64 {
+        let mut drawer = Drawer {
+            seed: seed.wrapping_mul(104729),
+        };
+        let limits = drawer.draw_limits();
+        let drawn = draw(alloc, &limits, &mut drawer)?;
+        let Drawn {
+            lines,
+            replies,
+            stamps,
+        } = drawn;
+        let report = Report {
+            replies: Replies::from_items(replies),
+            history: Stamps::from_items(stamps),
+        };
+        let text = print_report(alloc, &report)?;
+        let is_legal = Some(Verdicts {
+            plain: true,
+            fast: true,
+        });
+        if judge_text(alloc, &limits, lines.as_slice(), text.as_bytes())? == is_legal {
+            legal_ones = legal_ones.wrapping_add(1);
+            counts.judge_all(
+                &rt,
+                alloc,
+                &limits,
+                lines.as_slice(),
+                text.as_bytes(),
+                &mut drawer,
+            )?;
+        }
+    }
+    // Some changes leave a report, some of these a legal one, and some an illegal one.
+    assert!(rt; legal_ones > 5 && counts.legal > 50 && counts.read > counts.legal.wrapping_add(50));
     Ok(())
 }

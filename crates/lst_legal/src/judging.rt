@@ -14,12 +14,12 @@ use lst_legal_runs::{
 };
 use lst_model::{Line, OutOfMemory};
 use lst_replies::{Report, Stamp, has_reply_shape, paired};
-use lst_snapshots::{Snapshots, snapshots_of};
+use lst_snapshots::{Swept, snapshots_of};
 use std::alloc::Global;
 
 /// Whether a store with these limits may give this report to a script of these lines: whether the report is legal. The
 /// sessions of the script are below the limit. It takes the time of the lines and the replies, and of the rows that they tell,
-/// but for a logarithm; a sum, a count, a scan or a find takes the time of the keys that the run has written.
+/// but for a logarithm; a sum, a count, a scan or a find takes the time of the rows that its own transaction has written, too.
 pub fn legal(
     alloc: Global,
     limits: &Limits,
@@ -77,7 +77,8 @@ fn judge(
     let Some(snapshots) = snapshots_of(alloc, history)? else {
         return Ok(false);
     };
-    let follows = follows_rules(alloc, limits, &snapshots, places)?;
+    let swept = Swept::of(alloc, snapshots)?;
+    let follows = follows_rules(alloc, limits, &swept, places)?;
     Ok(follows)
 }
 
@@ -85,12 +86,12 @@ fn judge(
 fn follows_rules(
     alloc: Global,
     limits: &Limits,
-    snapshots: &Snapshots,
+    swept: &Swept,
     places: &[Place],
 ) -> Result<bool, OutOfMemory>
     requires within { AreWithin limits.now.sessions (run_at places.now) }
     requires traced { AreTraced places.now }
-    ensures { IfOk result (λ b. IsTrue b ↔ FollowsRules limits.now snapshots.now (run_at places.now)) }
+    ensures { IfOk result (λ b. IsTrue b ↔ FollowsRules limits.now swept.now (run_at places.now)) }
 {
     if !are_refusals_exact(limits, places) {
         return Ok(false);
@@ -98,15 +99,15 @@ fn follows_rules(
     if !are_merges_consistent(alloc, limits, places)? {
         return Ok(false);
     }
-    if !are_times_bounded(alloc, snapshots.commits(), places)? {
+    if !are_times_bounded(alloc, swept.commits(), places)? {
         return Ok(false);
     }
-    if !is_fullness_explained(alloc, limits, snapshots.commits(), places)? {
+    if !is_fullness_explained(alloc, limits, swept.commits(), places)? {
         return Ok(false);
     }
-    if !are_conflicts_explained(alloc, snapshots.commits(), places)? {
+    if !are_conflicts_explained(alloc, swept.commits(), places)? {
         return Ok(false);
     }
-    let told = are_sights_told(alloc, limits, limits.sessions, snapshots, places)?;
+    let told = are_sights_told(alloc, limits, limits.sessions, swept, places)?;
     Ok(told)
 }

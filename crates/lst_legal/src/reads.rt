@@ -5,10 +5,10 @@ ghost use Rattle.lst_replies.specs.Explained.{TellsSight, is_not_indexed_reply};
 ghost use Rattle.lst_snapshots.specs.Sights.{seen};
 
 use lst_model::{Call, Cause, Key, Reply};
-use lst_snapshots::{Sight, Snapshots};
+use lst_snapshots::{Sight, Swept};
 
 /// Whether a reply with rows, keys or numbers tells what a transaction sees.
-pub(crate) fn tells_sight(snapshots: &Snapshots, sight: &Sight, call: &Call, reply: &Reply) -> bool
+pub(crate) fn tells_sight(snapshots: &Swept, sight: &Sight, call: &Call, reply: &Reply) -> bool
     ensures { IsTrue result ↔ TellsSight (seen snapshots.now sight.now) call.now reply.now }
 {
     match call {
@@ -18,7 +18,7 @@ pub(crate) fn tells_sight(snapshots: &Snapshots, sight: &Sight, call: &Call, rep
             _ => true,
         },
         Call::Count => match reply {
-            Reply::Count { rows } => *rows == sight.count(snapshots),
+            Reply::Count { rows } => u128::from(*rows) == sight.count(snapshots),
             _ => true,
         },
         Call::Scan => match reply {
@@ -33,15 +33,15 @@ pub(crate) fn tells_sight(snapshots: &Snapshots, sight: &Sight, call: &Call, rep
     }
 }
 
-fn tells_row(snapshots: &Snapshots, sight: &Sight, key: Key, reply: &Reply) -> bool
+fn tells_row(snapshots: &Swept, sight: &Sight, key: Key, reply: &Reply) -> bool
     ensures { IsTrue result ↔ TellsSight (seen snapshots.now sight.now) (Call.Get key) reply.now }
 {
     match reply {
-        Reply::Row { row } => match sight.row(snapshots, key) {
+        Reply::Row { row } => match sight.row(snapshots.snapshots(), key) {
             Some(found) => found.is_same(row),
             None => false,
         },
-        Reply::Absent => sight.row(snapshots, key).is_none(),
+        Reply::Absent => sight.row(snapshots.snapshots(), key).is_none(),
         _ => true,
     }
 }

@@ -19,7 +19,7 @@ use lst_legal_runs::{OpenOutline, Place, write_of};
 use lst_machine::lacks_index;
 use lst_model::{Call, OutOfMemory, Reply, Time};
 use lst_replies::Answer;
-use lst_snapshots::{Sight, Snapshots};
+use lst_snapshots::{Sight, Swept};
 use std::alloc::Global;
 
 /// Whether the replies of a run tell what its transactions see, under a history, and those to writes fit it. The run's
@@ -28,7 +28,7 @@ pub fn are_sights_told(
     alloc: Global,
     limits: &Limits,
     sessions: u32,
-    snapshots: &Snapshots,
+    snapshots: &Swept,
     places: &[Place],
 ) -> Result<bool, OutOfMemory>
     requires within { AreWithin sessions (run_at places.now) }
@@ -42,7 +42,7 @@ pub fn are_sights_told(
 fn are_told_with(
     alloc: Global,
     limits: &Limits,
-    snapshots: &Snapshots,
+    snapshots: &Swept,
     sights: &mut [Option<Sight>],
     places: &[Place],
 ) -> Result<bool, OutOfMemory>
@@ -70,12 +70,7 @@ fn no_sights(alloc: Global, sessions: u32) -> Result<Vec<Option<Sight>>, OutOfMe
     Ok(sights)
 }
 
-fn tells_seen(
-    limits: &Limits,
-    snapshots: &Snapshots,
-    sights: &[Option<Sight>],
-    place: &Place,
-) -> bool
+fn tells_seen(limits: &Limits, snapshots: &Swept, sights: &[Option<Sight>], place: &Place) -> bool
     requires { IfSome (speaker_of (seen_at place.now).line) (λ session. session < length sights.now) }
     ensures { (before : List Answered) → AreSights snapshots.now sights.now before → place.now.outline ≡ outline_at before (speaker_of (seen_at place.now).line) → (IsTrue result ↔ TellsSeen limits.now snapshots.now before (seen_at place.now)) }
 {
@@ -99,7 +94,7 @@ fn tells_seen(
 
 fn tells_call(
     limits: &Limits,
-    snapshots: &Snapshots,
+    snapshots: &Swept,
     sight: &Option<Sight>,
     current: &Option<OpenOutline>,
     call: &Call,
@@ -119,7 +114,7 @@ fn tells_call(
 /// Whether a reply to a call in an open transaction tells what it sees.
 fn is_open_answered(
     limits: &Limits,
-    snapshots: &Snapshots,
+    snapshots: &Swept,
     sight: &Sight,
     begin: Time,
     call: &Call,
@@ -133,13 +128,13 @@ fn is_open_answered(
     if !tells_sight(snapshots, sight, call, reply) {
         return false;
     }
-    is_write_answered(snapshots, sight, begin, call, reply)
+    is_write_answered(snapshots.snapshots(), sight, begin, call, reply)
 }
 
 /// Passes a line by.
 fn pass(
     alloc: Global,
-    snapshots: &Snapshots,
+    snapshots: &Swept,
     sights: &mut [Option<Sight>],
     answer: &Answer,
 ) -> Result<(), OutOfMemory>
@@ -169,7 +164,7 @@ fn pass(
 /// What a session's open transaction sees behind a call.
 fn pass_call(
     alloc: Global,
-    snapshots: &Snapshots,
+    snapshots: &Swept,
     sight: &mut Option<Sight>,
     call: &Call,
     reply: &Reply,
@@ -188,7 +183,7 @@ fn pass_call(
             let Some(sight) = sight else {
                 return Ok(());
             };
-            sight.write(snapshots, &write)?;
+            sight.write(snapshots.snapshots(), &write)?;
             Ok(())
         }
         _ => Ok(()),

@@ -1,6 +1,12 @@
-//! Reports of runs: how they are written and read, and whether a report is legal for a script.
+//! Reports of runs: how they are written and read, alone or behind the script that they are claimed for, and whether a report is
+//! legal for a script.
 #![tactic(auto)]
 
+mod claims;
+#[cfg(test)]
+mod tests;
+
+pub use claims::{Claim, read_claim};
 pub use lst_legal::legal;
 pub use lst_replies::{
     Answer, Replies, Report, ReportFault, SessionState, Stamp, Stamps, Transaction,

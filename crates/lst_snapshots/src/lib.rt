@@ -11,10 +11,13 @@ mod fitting;
 mod floors;
 mod index;
 mod laws;
+mod levels;
 mod measures;
 mod sight;
 mod snapshots;
 mod sound;
+mod swept;
+mod tallies;
 mod tells;
 #[cfg(test)]
 mod tests;
@@ -24,3 +27,4 @@ pub use laws::{longer_history_keeps_sight, sight_takes_joined_write};
 pub use sight::Sight;
 pub use snapshots::Snapshots;
 pub use sound::{snapshots_of, stands_by_key};
+pub use swept::Swept;

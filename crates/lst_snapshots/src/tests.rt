@@ -1,6 +1,6 @@
 //! Worked snapshots, and random ones beside tables that are replayed.
 
-use crate::{Sight, Snapshots, snapshots_of};
+use crate::{Sight, Snapshots, Swept, snapshots_of};
 use arrayvec::ArrayVec;
 use lst_model::{Act, Commit, History, OutOfMemory, Patch, Row, Table, Write, Writes, apply};
 use std::alloc::Global;
@@ -61,32 +61,34 @@ fn a_sight_shows_its_time_and_its_own_writes(rt: HostRuntime) -> Result<(), Fail
     let mut snapshots = Snapshots::new(alloc);
     snapshots.push(commit(alloc, 0, 1, 0, write(7, Act::Put(row(10, 20))))?)?;
     snapshots.push(commit(alloc, 1, 1, 1, write(7, Act::Set(patch(None, Some(21)))))?)?;
+    let swept = Swept::of(alloc, snapshots)?;
+    let snapshots = swept.snapshots();
     let mut before = Sight::new(alloc, 0);
-    assert_eq!(rt; before.row(&snapshots, 7), None);
-    assert_eq!(rt; before.count(&snapshots), 0);
-    before.write(&snapshots, &write(9, Act::Put(row(1, 2))))?;
-    assert_eq!(rt; before.row(&snapshots, 9), Some(row(1, 2)));
-    assert_eq!(rt; before.count(&snapshots), 1);
+    assert_eq!(rt; before.row(snapshots, 7), None);
+    assert_eq!(rt; before.count(&swept), 0);
+    before.write(snapshots, &write(9, Act::Put(row(1, 2))))?;
+    assert_eq!(rt; before.row(snapshots, 9), Some(row(1, 2)));
+    assert_eq!(rt; before.count(&swept), 1);
     let mut first = Sight::new(alloc, 1);
-    assert_eq!(rt; first.row(&snapshots, 7), Some(row(10, 20)));
-    first.write(&snapshots, &write(9, Act::Put(row(5, 20))))?;
-    first.write(&snapshots, &write(9, Act::Set(patch(Some(6), None))))?;
-    assert_eq!(rt; first.sum(&snapshots, 0), 16);
-    assert!(rt; first.tells_rows(&snapshots, &[(7, row(10, 20)), (9, row(6, 20))]));
-    assert!(rt; !first.tells_rows(&snapshots, &[(9, row(6, 20)), (7, row(10, 20))]));
-    assert!(rt; first.tells_keys(&snapshots, &[7, 9], 1, 20));
-    assert!(rt; !first.tells_keys(&snapshots, &[7], 1, 20));
-    first.write(&snapshots, &write(7, Act::Del))?;
-    assert_eq!(rt; first.row(&snapshots, 7), None);
-    assert!(rt; first.tells_rows(&snapshots, &[(9, row(6, 20))]));
+    assert_eq!(rt; first.row(snapshots, 7), Some(row(10, 20)));
+    first.write(snapshots, &write(9, Act::Put(row(5, 20))))?;
+    first.write(snapshots, &write(9, Act::Set(patch(Some(6), None))))?;
+    assert_eq!(rt; first.sum(&swept, 0), 16);
+    assert!(rt; first.tells_rows(&swept, &[(7, row(10, 20)), (9, row(6, 20))]));
+    assert!(rt; !first.tells_rows(&swept, &[(9, row(6, 20)), (7, row(10, 20))]));
+    assert!(rt; first.tells_keys(&swept, &[7, 9], 1, 20));
+    assert!(rt; !first.tells_keys(&swept, &[7], 1, 20));
+    first.write(snapshots, &write(7, Act::Del))?;
+    assert_eq!(rt; first.row(snapshots, 7), None);
+    assert!(rt; first.tells_rows(&swept, &[(9, row(6, 20))]));
     assert!(rt; !snapshots.is_written(7, 0));
     assert!(rt; snapshots.is_written(7, 1));
     assert!(rt; snapshots.wrote(2, 7));
     assert!(rt; !snapshots.wrote(3, 7));
     assert!(rt; !snapshots.wrote(1, 9));
     let second = Sight::new(alloc, 2);
-    assert_eq!(rt; second.row(&snapshots, 7), Some(row(10, 21)));
-    assert!(rt; second.tells_keys(&snapshots, &[], 1, 20));
+    assert_eq!(rt; second.row(snapshots, 7), Some(row(10, 21)));
+    assert!(rt; second.tells_keys(&swept, &[], 1, 20));
     Ok(())
 }
 
@@ -97,21 +99,23 @@ fn null_adds_nothing_and_is_never_found(rt: HostRuntime) -> Result<(), Fail> {
     snapshots.push(commit(alloc, 0, 1, 0, write(7, Act::Put(row_of(None, Some(20)))))?)?;
     let to_null = Act::Set(change_of(None, Some(None)));
     snapshots.push(commit(alloc, 1, 1, 1, write(7, to_null))?)?;
+    let swept = Swept::of(alloc, snapshots)?;
+    let snapshots = swept.snapshots();
     let mut sight = Sight::new(alloc, 2);
-    assert_eq!(rt; sight.row(&snapshots, 7), Some(row_of(None, None)));
-    sight.write(&snapshots, &write(9, Act::Put(row(0, 5))))?;
-    assert_eq!(rt; sight.count(&snapshots), 2);
-    assert_eq!(rt; sight.sum(&snapshots, 0), 0);
-    assert_eq!(rt; sight.sum(&snapshots, 1), 5);
-    assert!(rt; sight.tells_keys(&snapshots, &[9], 0, 0));
-    assert!(rt; !sight.tells_keys(&snapshots, &[7, 9], 0, 0));
-    assert!(rt; sight.tells_rows(&snapshots, &[(7, row_of(None, None)), (9, row(0, 5))]));
-    assert!(rt; !sight.tells_rows(&snapshots, &[(7, row(0, 0)), (9, row(0, 5))]));
+    assert_eq!(rt; sight.row(snapshots, 7), Some(row_of(None, None)));
+    sight.write(snapshots, &write(9, Act::Put(row(0, 5))))?;
+    assert_eq!(rt; sight.count(&swept), 2);
+    assert_eq!(rt; sight.sum(&swept, 0), 0);
+    assert_eq!(rt; sight.sum(&swept, 1), 5);
+    assert!(rt; sight.tells_keys(&swept, &[9], 0, 0));
+    assert!(rt; !sight.tells_keys(&swept, &[7, 9], 0, 0));
+    assert!(rt; sight.tells_rows(&swept, &[(7, row_of(None, None)), (9, row(0, 5))]));
+    assert!(rt; !sight.tells_rows(&swept, &[(7, row(0, 0)), (9, row(0, 5))]));
     let before = Sight::new(alloc, 1);
-    assert_eq!(rt; before.row(&snapshots, 7), Some(row_of(None, Some(20))));
-    assert!(rt; before.tells_keys(&snapshots, &[7], 1, 20));
-    sight.write(&snapshots, &write(7, Act::Set(patch(Some(0), None))))?;
-    assert!(rt; sight.tells_keys(&snapshots, &[7, 9], 0, 0));
+    assert_eq!(rt; before.row(snapshots, 7), Some(row_of(None, Some(20))));
+    assert!(rt; before.tells_keys(&swept, &[7], 1, 20));
+    sight.write(snapshots, &write(7, Act::Set(patch(Some(0), None))))?;
+    assert!(rt; sight.tells_keys(&swept, &[7, 9], 0, 0));
     Ok(())
 }
 
@@ -220,6 +224,8 @@ fn each_time_shows_the_table_replayed(rt: HostRuntime) -> Result<(), Fail> {
             writes,
         })?;
     }
+    let swept = Swept::of(alloc, snapshots)?;
+    let snapshots = swept.snapshots();
     for time in 0..41u64 {
         let mut table = Table::new(alloc);
         for commit in snapshots.commits().iter().take(time as usize) {
@@ -234,16 +240,16 @@ fn each_time_shows_the_table_replayed(rt: HostRuntime) -> Result<(), Fail> {
         for _ in 0..5u32 {
             let own = random_write(&mut state);
             apply(&mut table, &own)?;
-            sight.write(&snapshots, &own)?;
+            sight.write(snapshots, &own)?;
         }
         for key in 0..6u64 {
-            assert_eq!(rt; sight.row(&snapshots, key), table.row(key));
+            assert_eq!(rt; sight.row(snapshots, key), table.row(key));
         }
         let present = (0..6u64).filter(|key| table.row(*key).is_some()).count();
-        assert_eq!(rt; sight.count(&snapshots), present as u64);
-        assert_eq!(rt; sight.sum(&snapshots, 0), first_sum(&table));
+        assert_eq!(rt; sight.count(&swept), present as u128);
+        assert_eq!(rt; sight.sum(&swept, 0), first_sum(&table));
         let zeros = holders(alloc, &table, 0)?;
-        assert!(rt; sight.tells_keys(&snapshots, zeros.as_slice(), 0, 0));
+        assert!(rt; sight.tells_keys(&swept, zeros.as_slice(), 0, 0));
     }
     Ok(())
 }

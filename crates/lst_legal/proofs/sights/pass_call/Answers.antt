@@ -1,4 +1,7 @@
-use Rattle.std.proofs.Common.{◌≡◌, sym, ap, ◌∙◌}
+use Rattle.std.proofs.Common.{◌≡◌, List, sym, ap, ◌∙◌, subst}
+use Rattle.lst_model.specs.declared.commits.Commit.{Commit}
+use Rattle.lst_model.specs.Tables.{applied}
+use Rattle.lst_snapshots.specs.Sights.{seen}
 use Rattle.lst_model.specs.declared.replies.Reply.{Reply}
 use Rattle.lst_replies.specs.States.{after_call, with_write}
 use Rattle.lst_replies.specs.Runs.{write_of}
@@ -14,5 +17,6 @@ returns-in_default-sight c = λ state is transaction e.
 pub returns-in_ok-write-in-Done : goal.returns-in_ok-write-in-Done
 returns-in_ok-write-in-Done c = λ state is transaction e.
     let now : (after_call c.args.call.now c.args.reply.now state).current ≡ with_write (write_of c.args.call.now) state.current = ap (λ (r : Reply). (after_call c.args.call.now r state).current) c.in-Done.is in
-    write_seen c.args.snapshots.now c.args.sight.now c.in-Some-sight.sight c.write.new.self c.in-Some.write state.current is c.in-Some-sight.is c.in_ok-write-in-Done.ensures.ok transaction
+    write_seen c.args.snapshots.now c.args.sight.now c.in-Some-sight.sight c.write.new.self c.in-Some.write state.current is c.in-Some-sight.is
+    (subst (λ (history : List Commit). seen history c.write.new.self ≡ applied (seen history c.in-Some-sight.sight) c.in-Some.write) c.snapshots.ensures c.in_ok-write-in-Done.ensures.ok) transaction
     (ap (λ w. with_write w state.current) (sym c.in-Some.is ∙ c.write_of.ensures) ∙ sym now ∙ e)
