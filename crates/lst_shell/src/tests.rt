@@ -1,6 +1,6 @@
 //! The program over memory: what it answers, where it stops, and how it fails.
 
-use crate::{Status, lstore};
+use lst_command::{Status, lstore};
 use lst_io::{MemSink, MemSource};
 use lst_model::{Call, KeyList, Line, Reply, Text};
 use lst_report::print_line;
@@ -11,13 +11,13 @@ use std::test::Fail;
 
 /// Which call of the source, of the sink and of the sink of errors fails, counted from 1; none where it is 0.
 #[derive(Clone, Copy)]
-struct Fails {
-    read: u64,
-    write: u64,
-    report: u64,
+pub(crate) struct Fails {
+    pub read: u64,
+    pub write: u64,
+    pub report: u64,
 }
 
-const NOTHING: Fails = Fails {
+pub(crate) const NOTHING: Fails = Fails {
     read: 0,
     write: 0,
     report: 0,
@@ -41,7 +41,7 @@ fn words_of(alloc: Global, line: &str) -> Result<Vec<String>, Fail> {
 }
 
 /// A run over memory with these words: how it ends, and what the sink and the sink of errors took.
-fn shows(
+pub(crate) fn shows(
     rt: &impl Abort,
     alloc: Global,
     line: &str,
@@ -74,10 +74,21 @@ fn shows(
 
 /// A run at which nothing fails.
 fn answers(rt: &impl Abort, alloc: Global, input: &str, output: &str) -> Result<(), Fail> {
+    answers_with(rt, alloc, "run", input, output)
+}
+
+/// The same with these words.
+fn answers_with(
+    rt: &impl Abort,
+    alloc: Global,
+    line: &str,
+    input: &str,
+    output: &str,
+) -> Result<(), Fail> {
     shows(
         rt,
         alloc,
-        "run",
+        line,
         input.as_bytes(),
         NOTHING,
         Status::Done,
@@ -155,6 +166,12 @@ const LINEAGE: &str =
 
 const LINEAGE_REPLIES: &str =
     "0 begun 0\n0 ok\n0 ok\n0 committed 1\n1 begun 1\n0 begun 1\n0 ok\n0 committed 2\n3 begun 2\n3 ok\n3 aborted\n2 begun 2\n2 ok\nmerged 4\nidle 4\n1 row 10 1\n0 begun 2\n0 row 11 1\n2 committed 3\nmerged 5\n";
+
+const FOUND: &str =
+    "# run --index 1\n# Stock found by a value: the key is the article; column 0 is the number in store, column 1 the shelf, which has an index.\n0 begin\n0 insert 11 40 3\n0 insert 12 15 7\n0 insert 13 8 3\n0 commit\n# What lies on shelf 3, and how much there is of everything.\n1 begin\n1 find 1 3\n1 sum 0\n# Beside it article 11 is moved, and article 14 comes to the shelf.\n0 begin\n0 update 11 _ 7\n0 insert 14 5 3\n0 find 1 3\n0 commit\n# The reader finds what it saw when it began; who begins now finds the new state.\n1 find 1 3\n1 find 1 7\n1 commit\n1 begin\n1 find 1 3\n1 find 1 7\n# A merge changes no answer. No row has shelf 9, and column 0 has no index.\nmerge 0 1\n1 find 1 3\n1 find 1 9\n1 find 0 40\n1 commit\n";
+
+const FOUND_REPLIES: &str =
+    "0 begun 0\n0 ok\n0 ok\n0 ok\n0 committed 1\n1 begun 1\n1 keys 11 13\n1 sum 63\n0 begun 1\n0 ok\n0 ok\n0 keys 13 14\n0 committed 2\n1 keys 11 13\n1 keys 12\n1 ended 1\n1 begun 2\n1 keys 13 14\n1 keys 11 12\nmerged 5\n1 keys 13 14\n1 keys\n1 refused noindex\n1 ended 2\n";
 
 #[test]
 fn each_line_is_answered(rt: HostRuntime) -> Result<(), Fail> {
@@ -234,6 +251,27 @@ fn scans_are_answered(rt: HostRuntime) -> Result<(), Fail> {
         alloc,
         "1 asof 1\n1 sum 1\n0 begin\n0 insert 6 1 18446744073709551615\n0 sum 1\n1 sum 1\n0 commit\n1 sum 1\n1 scan\n1 commit\n1 begin\n1 count\n1 scan\n",
         "1 begun 1\n1 sum 20\n0 begun 1\n0 ok\n0 sum 18446744073709551635\n1 sum 20\n0 committed 2\n1 sum 20\n1 rows 7:10,20\n1 ended 1\n1 begun 2\n1 count 2\n1 rows 6:1,18446744073709551615 7:10,20\n",
+    )
+}
+
+#[test]
+fn rows_are_found_by_the_index(rt: HostRuntime) -> Result<(), Fail> {
+    let alloc = rt.alloc();
+    // The first line of the script names the option.
+    answers_with(&rt, alloc, "run --index 1", FOUND, FOUND_REPLIES)?;
+    answers_with(
+        &rt,
+        alloc,
+        "run --index 1",
+        "0 begin\n0 insert 9 30 20\n0 insert 7 10 20\n0 find 1 20\n0 find 0 10\n",
+        "0 begun 0\n0 ok\n0 ok\n0 keys 7 9\n0 refused noindex\n",
+    )?;
+    answers_with(
+        &rt,
+        alloc,
+        "run --index 0",
+        "0 begin\n0 insert 1 5 5\n0 commit\n0 begin\n0 update 1 6 _\n0 find 0 5\n0 find 0 6\n1 begin\n1 find 0 5\n1 find 0 6\n",
+        "0 begun 0\n0 ok\n0 committed 1\n0 begun 1\n0 ok\n0 keys\n0 keys 1\n1 begun 1\n1 keys 1\n1 keys\n",
     )
 }
 

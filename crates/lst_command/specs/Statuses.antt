@@ -1,0 +1,26 @@
+-- The number of a status, and the line that is written of it.
+use Rattle.std.specs.Prelude.{ℕ, List, [], ◌++◌, codes, decimal}
+use Rattle.lst_command.specs.declared.status.Status.{Status}
+use Rattle.lst_command.specs.declared.status.Status.TheVariants.{Done, Illegal, Usage, BadScript, TooLong, ReadFault, WriteFault, OutOfMemory}
+use Rattle.lst_script.specs.FaultTexts.{fault_text}
+
+abbrev pub status_code : Status → ℕ
+status_code Done = 0
+status_code Illegal = 1
+status_code Usage = 2
+status_code (BadScript line kind) = 3
+status_code TooLong = 4
+status_code ReadFault = 5
+status_code WriteFault = 6
+status_code OutOfMemory = 7
+
+-- the line for the reader of errors, with its newline; none where the command did its work
+abbrev pub error_line : Status → List ℕ
+error_line Done = []
+error_line Illegal = []
+error_line Usage = codes "lstore: bad command line\n"
+error_line (BadScript line kind) = codes "lstore: line " ++ decimal line ++ codes ": " ++ fault_text kind ++ codes "\n"
+error_line TooLong = codes "lstore: input too long\n"
+error_line ReadFault = codes "lstore: read failed\n"
+error_line WriteFault = codes "lstore: write failed\n"
+error_line OutOfMemory = codes "lstore: out of memory\n"

@@ -1,0 +1,19 @@
+//! What is so of the definitions, apart from any run.
+ghost use Rattle.std.specs.Prelude.{◌≡◌, ℕ, List};
+ghost use Rattle.lst_model.specs.declared.lines.Line.{Line};
+ghost use Rattle.lst_script.specs.Scripts.{IsScript};
+ghost use Rattle.lst_machine.specs.Others.{without_merges};
+ghost use Rattle.lst_layout.specs.declared.limits.Limits.{Limits};
+ghost use Rattle.lst_command.specs.Owed.{run_text};
+ghost use Rattle.lst_command.specs.Merges.{other_text};
+
+/// An input is one script at most, so a run has one output alone. The contract is a law; the body does nothing.
+pub fn input_is_one_script()
+    ensures { (limits : Limits) (input : List ℕ) (script other : List Line) → IsScript limits input script → IsScript limits input other → script ≡ other }
+{}
+
+/// With the merge lines taken out of a script, the output of its run loses exactly the texts of their replies. The contract is a law; the
+/// body does nothing.
+pub fn merges_change_no_other_text()
+    ensures { (limits : Limits) (script : List Line) → run_text limits (without_merges script) ≡ other_text limits script }
+{}

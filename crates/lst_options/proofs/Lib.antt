@@ -1,0 +1,2 @@
+mod FaultKinds
+pub mod OneStore

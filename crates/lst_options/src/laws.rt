@@ -1,0 +1,10 @@
+//! What is so of the definitions, apart from any call.
+ghost use Rattle.std.specs.Prelude.{◌≡◌, List};
+ghost use Rattle.clap.specs.Words.{Text};
+ghost use Rattle.lst_layout.specs.declared.limits.Limits.{Limits};
+ghost use Rattle.lst_options.specs.Options.{NamesLimits};
+
+/// Words name the limits of one store at most. The contract is a law; the body does nothing.
+pub fn words_name_one_store()
+    ensures { (words : List Text) (limits other : Limits) → NamesLimits words limits → NamesLimits words other → limits ≡ other }
+{}

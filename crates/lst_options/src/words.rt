@@ -1,0 +1,70 @@
+//! The words of a command line, taken by options.
+ghost use Rattle.std.specs.Prelude.{◌≡◌, ◌↔◌, [], IfOk, IfSome, IsSome, map, option_map, string_bytes};
+ghost use Rattle.clap.specs.Words.{app_of, fault_of, first_of, found_of, matches_of, rows_of, with_rule};
+ghost use Rattle.lst_options.specs.Words.{option, bare, run_options};
+
+use clap::error::ErrorKind;
+use clap::{Arg, ArgAction, ArgMatches, Command};
+use lst_model::OutOfMemory;
+use std::alloc::{AllocError, Global};
+
+/// The values that the words give the options of a store, or None where they aren't taken. The first word isn't looked at.
+/// The only error is want of memory.
+pub(crate) fn parsed<'a>(
+    alloc: Global,
+    words: &'a [String],
+) -> Result<Option<ArgMatches<'a>>, OutOfMemory>
+    ensures taken { IfOk result (λ found. IsSome found ↔ (fault_of run_options (map string_bytes words.entry.now) ≡ [])) }
+    ensures rows { IfOk result (λ found. IfSome found (λ matches. rows_of (found_of matches) ≡ matches_of run_options (map string_bytes words.entry.now))) }
+{
+    let command = run_command(alloc)?;
+    match command.try_get_matches_from(words) {
+        Ok(matches) => Ok(Some(matches)),
+        Err(error) => match error.kind() {
+            ErrorKind::OutOfMemory => Err(OutOfMemory),
+            _ => Ok(None),
+        },
+    }
+}
+
+/// A command that takes the options of a store, and no flag for help or the version.
+fn run_command<'a>(alloc: Global) -> Result<Command<'a>, AllocError>
+    ensures { IfOk result (λ command. app_of command ≡ run_options) }
+{
+    let command = bare_command(alloc);
+    let command = with_option(alloc, command, "columns")?;
+    let command = with_option(alloc, command, "ranges")?;
+    let command = with_option(alloc, command, "tails")?;
+    let command = with_option(alloc, command, "sessions")?;
+    let command = with_option(alloc, command, "txns")?;
+    let command = with_option(alloc, command, "spare")?;
+    with_option(alloc, command, "index")
+}
+
+/// A command without options and without flags.
+fn bare_command<'a>(alloc: Global) -> Command<'a>
+    ensures { app_of result ≡ bare }
+{
+    Command::new(alloc, "lstore")
+        .disable_help_flag(true)
+        .disable_version_flag(true)
+}
+
+/// The command with one more option, which takes one value.
+fn with_option<'a>(
+    alloc: Global,
+    command: Command<'a>,
+    name: &'a str,
+) -> Result<Command<'a>, AllocError>
+    ensures { IfOk result (λ more. app_of more ≡ with_rule (app_of command.entry) (option name.entry.now)) }
+{
+    let argument = Arg::new(alloc, name).long(name).action(ArgAction::Set);
+    command.arg(argument)
+}
+
+/// The value of an option, where it is given.
+pub(crate) fn value_in<'a>(matches: &ArgMatches<'a>, name: &str) -> Option<&'a str>
+    ensures { option_map (λ text. text.now) result ≡ first_of name.now (rows_of (found_of matches.now)) }
+{
+    matches.get_str(name)
+}

@@ -1,8 +1,0 @@
-use Rattle.std.proofs.Common.{ℕ, List, subst, sym}
-use Rattle.lst_shell.specs.Runs.{HasRun}
-use Rattle.lst_shell.proofs.Running.{one_line_run}
-use Rattle.lst_shell.proofs.execution.answer.Goals as goal
-
-pub returns-clause-run : goal.returns-clause-run
-returns-clause-run c rest whole last so_far = subst (λ (text : List ℕ). HasRun c.crew_line.new.crew.seat.view text rest whole last) (sym c.in_ok-push_line.ensures)
-    (one_line_run c.args.crew.now.seat.view c.crew_line.new.crew.seat.view c.args.text.now c.args.line.now rest whole last c.in_ok-reply.reply c.requires.limits so_far (c.in_ok-reply.ensures.machine c.requires.tells).1)

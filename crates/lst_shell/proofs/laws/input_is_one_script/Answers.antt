@@ -1,9 +1,0 @@
-use Rattle.std.proofs.Common.{Ok}
-use Rattle.lst_script.proofs.OneReading.{answers_script}
-use Rattle.lst_shell.specs.Answers.{store_limits}
-use Rattle.lst_shell.proofs.laws.input_is_one_script.Goals as goal
-
-pub returns : goal.returns
-returns c input script other is is_other =
-    let same = answers_script store_limits input (Ok script) is tt other is_other in
-    cc
