@@ -3,12 +3,16 @@
 
 ghost use Rattle.std.specs.Prelude.{◌<◌};
 
+mod engines;
 mod making;
+mod packs;
 mod reports;
 mod runs;
 
+use engines::engine;
 use lst_layout::{Layout, Limits};
 use lst_seat::open_store;
+use packs::{deed_of, packs};
 use reports::{Task, reports};
 use runs::{clocks, finds, head_runs, heads, time_runs, turns};
 use std::alloc::Global;
@@ -27,7 +31,12 @@ const LIMITS: Limits = Limits {
 
 /// What the kind of run came to, or None for want of memory. A kind that there isn't comes to 0.
 fn answer(alloc: Global, layout: &Layout, kind: &str, count: u32) -> Option<u64> {
+    if let Some((deed, form)) = deed_of(kind) {
+        return Some(packs(deed, form, count));
+    }
     let task = match kind {
+        "drawn" => return engine(alloc, false, count).ok(),
+        "plain" => return engine(alloc, true, count).ok(),
         "made" => Task::Make,
         "printed" => Task::Print,
         "read" => Task::Read,

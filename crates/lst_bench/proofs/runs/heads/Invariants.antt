@@ -1,4 +1,4 @@
-use Rattle.std.specs.Prelude.{ℕ, ◌≡◌, ◌*◌, ◌-◌, ◌<◌}
+use Rattle.std.specs.Prelude.{◌≡◌, ◌*◌, ◌-◌, ◌<◌}
 use Rattle.lst_bench.specs.Seated.{Stays}
 use Rattle.lst_bench.proofs.runs.heads.Given as goal
 
