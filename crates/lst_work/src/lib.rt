@@ -1,0 +1,25 @@
+//! Sessions at work, each in a thread of its own: a worker runs the lines of its session beside the others, a merge worker the merges, phase
+//! after phase. What the replies tell, and what the lines leave of what each session and the merger know, is told by `work_on`.
+#![tactic(auto)]
+
+mod gates;
+mod hearing;
+mod hiring;
+mod laws;
+mod lines;
+mod merging;
+mod orders;
+mod phases;
+mod scripts;
+mod work;
+mod workers;
+
+pub use gates::{FreeGate, Gate};
+pub use laws::{script_is_explained, script_is_told, tails_are_written};
+pub use lines::line_reply;
+pub use merging::{MergeQueue, empty_queue, run_merges};
+pub use orders::in_order;
+pub use phases::run_phase;
+pub use scripts::{run_script, whole_phase};
+pub use work::work_on;
+pub use workers::{Worker, run_lines, work_phase};
