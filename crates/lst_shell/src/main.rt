@@ -9,6 +9,8 @@ mod drawn_tests;
 mod option_tests;
 #[cfg(test)]
 mod tests;
+#[cfg(test)]
+mod thread_tests;
 
 use lst_command::program;
 use lst_io::{StdSink, StdSource};
