@@ -9,8 +9,6 @@ mod drawn_tests;
 mod option_tests;
 #[cfg(test)]
 mod tests;
-#[cfg(test)]
-mod thread_tests;
 
 use lst_command::program;
 use lst_io::{StdSink, StdSource};

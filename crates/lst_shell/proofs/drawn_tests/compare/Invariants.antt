@@ -1,6 +1,5 @@
 use Rattle.std.proofs.Common.{◌≡◌}
 use Rattle.lst_plain.specs.Plains.{limits_of}
-use Rattle.lst_machine.specs.Machines.{limits_of as machine_limits}
 use Rattle.lst_session.specs.Crews.{IsCrewOf}
 use Rattle.lst_shell.proofs.drawn_tests.compare.Given as goal
 
@@ -9,5 +8,4 @@ invariant-loop g l = record {
   crew : IsCrewOf l.store l.crew;
   sessions : (l.crew.seat.view.limits.sessions ≡ 3) × (l.crew.seat.view.limits.ranges ≡ 1) × (l.crew.seat.view.limits.columns ≡ 2);
   plain : ((limits_of l.plain).sessions ≡ 3) × ((limits_of l.plain).ranges ≡ 1) × ((limits_of l.plain).columns ≡ 2);
-  machine : ((machine_limits l.machine).sessions ≡ 3) × ((machine_limits l.machine).ranges ≡ 1) × ((machine_limits l.machine).columns ≡ 2);
 }
