@@ -196,8 +196,8 @@ pub(crate) fn visit(
 }
 
 /// The record of a key, which is drawn and placed if the key has none. At most one record is drawn, and none is in hand afterwards. A
-/// record that was drawn while another session placed the key stays drawn in vain. A record is drawn only once the key's run was found to
-/// end without it in this call.
+/// record that was drawn while another session placed the key stays drawn in vain. Where one is drawn, looks alone
+/// after the call's begin found that the key's run ended without it; that they came before the draw is read in the body.
 ///
 /// TableFull comes exactly where the key was found without a record and then the record counter at its limit; no record is drawn
 /// then.

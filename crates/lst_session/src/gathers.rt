@@ -55,7 +55,7 @@ fn seats_of(sessions: Sessions, mut seats: Vec<Seat>) -> SeatList
 
 /// Gathers the sessions of a store, in any order, and its merger into a crew. The crew's history is then the whole history of the store: it extends
 /// what each session had seen, each session's commits in it are those that the session had seen, in their order, and each session has
-/// seen all of it. Nothing else of what a session knew changes, so an open transaction goes on. What a session has in hand stays so too; the
+/// seen all of it. Beside that only facts and finds are added to what a session knew, so an open transaction goes on. What a session has in hand stays so too; the
 /// crew's calls ask that none has.
 ///
 /// `Gap` comes exactly where a session's number isn't among those of the sessions given, and names the least one. So a session that was

@@ -12,7 +12,8 @@ use lst_rule::Store;
 use lst_seat::{Note, hear, tell};
 
 impl Session {
-    /// Copies what the session has seen into a note, which another session may hear, also on another thread. Nothing changes, and it takes no memory.
+    /// A note, which another session may hear, also on another thread: it has all that this session has seen, and more where another session at the
+    /// same seat has seen more. Nothing changes, and it takes no memory.
     pub fn tell(&mut self, store: &Store) -> Note
         requires pass { IsPass store.now self.old }
         ensures same { self.new ≡ self.old }
@@ -23,7 +24,7 @@ impl Session {
     }
 
     /// Lets the session hear a note of the same store: afterwards all that the teller had seen is a front of what this session has seen, and
-    /// so is all that it had seen itself. Nothing else changes, and an open transaction sees what it saw.
+    /// so is all that it had seen itself. Beside that only its facts grow, and an open transaction sees what it saw.
     pub fn hear(&mut self, store: &Store, note: Note)
         requires pass { IsPass store.now self.old }
         requires note { IsSeatOf store.now note.seat }

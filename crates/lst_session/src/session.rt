@@ -15,7 +15,7 @@ use lst_txn::{BeginFault as BeginRefusal, Idle as NotBegun};
 
 /// A session at a seat that hosts it, by its number. It may go to another thread.
 ///
-/// What is dropped can't be had again: a transaction that is open then stays so for good, and its writes stay unfinished. A latch or the turn that
+/// What is dropped can't be had again: a transaction that is open then stays so for good, with its pin, and its writes stay unfinished. A latch or the turn that
 /// it has in hand stays held for good as well; between two calls here it has none. `gather` then answers that this session is missing.
 #[derive(Drop)]
 pub struct Session {
