@@ -1,7 +1,6 @@
 -- Of records whose pages have folded each write a scan loads no word of a tail record.
-use Rattle.std.proofs.Common.{◌≡◌, ◌⊎◌, ⊎_elim, ℕ, ◌+◌, ◌/◌, ◌%◌, ◌<◌, ◌≤◌, List, [], true, refl, sym, subst, ap, ◌∙◌, append-nil, arith}
+use Rattle.std.proofs.Common.{◌≡◌, ⊎_elim, ℕ, ◌+◌, ◌/◌, ◌%◌, ◌<◌, ◌≤◌, List, [], true, sym, subst, ap, ◌∙◌, append-nil, arith}
 use Rattle.std.proofs.lemmas.List.Elements.{All-nil}
-use Rattle.lst_layout.specs.declared.limits.Limits.{Limits}
 use Rattle.lst_layout.specs.declared.place.Place.TheVariants.{HeadWord, DirectoryWord, FrameWord}
 use Rattle.lst_layout.specs.Frames.{lineage_place, time_place}
 use Rattle.lst_bits.specs.Times.{time_of}
@@ -17,7 +16,7 @@ use Rattle.lst_sights.specs.Watching.{Watched}
 use Rattle.lst_rule.specs.PageSteps.{FrameLoaded}
 use Rattle.lst_walk.specs.Pages.{SavesCell}
 use Rattle.lst_walk.specs.declared.taken.TakenPage.{TakenPage}
-use Rattle.lst_walk.specs.Taken.{IsTaken, TakesPage, LeavesPage}
+use Rattle.lst_walk.specs.Taken.{TakesPage, LeavesPage}
 use Rattle.lst_crew_state.specs.Crews.{IsPinnedWhereOpen}
 use Rattle.lst_crew_state.specs.Folding.{AreAllFolded, NeedsNoTail}
 use Rattle.lst_crew_state.proofs.Folding.{folded_tables_need_no_tail, stamped_needs_no_tail}

@@ -11,5 +11,6 @@ pub mod Replying
 pub mod Indexes
 pub mod Naming
 pub mod Folded
+pub mod Sheets
 pub mod Lining
 pub mod Sessioning

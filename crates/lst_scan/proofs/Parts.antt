@@ -14,7 +14,7 @@ use Rattle.lst_scan.proofs.Totals.{length_sum, sum_where, none_chosen, one_chose
 
 -- ---- numbers between two others
 
-both_hold : (a b : Bool) → (a && b) ≡ true → (a ≡ true) × (b ≡ true)
+pub both_hold : (a b : Bool) → (a && b) ≡ true → (a ≡ true) × (b ≡ true)
 both_hold true true e = (refl, refl)
 both_hold true false e = (refl, e)
 both_hold false b e = absurd (true≢false (sym e))

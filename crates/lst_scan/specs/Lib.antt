@@ -1,5 +1,6 @@
 pub mod Scans
 pub mod Savings
+pub mod Paged
 pub mod Laws
 pub mod Leavings
 pub mod Replies

@@ -11,6 +11,7 @@ mod index_tests;
 mod laws;
 mod lines;
 mod lists;
+mod paged;
 mod readers;
 mod records;
 #[cfg(test)]

@@ -19,7 +19,8 @@ use lst_session::{CommitLock, Session, commit_reply};
 use std::alloc::Global;
 use std::sync::Wait;
 
-/// The answer of a session to a call. It promises what the call itself promises, a scan that of the reader's; `AfterCall` says it by the reply.
+/// The answer of a session to a call. What the call itself promises of its answer and of what it leaves, and a scan of the reader's, `AfterCall` says by
+/// the reply; that a read of what is merged loads no tail record is promised by the calls alone.
 /// While no transaction is open, each call but a begin, also as of a time, is refused as idle before anything else is asked. A commit waits while
 /// the commit word is held; no other call does. Memory may be wanted for a list of rows and for a find in an indexed column, with a
 /// transaction open: then the session has only looked.

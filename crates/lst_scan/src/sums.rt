@@ -8,6 +8,7 @@ ghost use Rattle.lst_core_state.specs.Cells.{record_count};
 ghost use Rattle.lst_scan.specs.Savings.{SavesPart};
 ghost use Rattle.lst_scan.specs.Scans.{table_seen, Places, between};
 
+use crate::paged::{count_by_page, frame_of, sum_by_page};
 use crate::records::{cell_by, is_row_by, page_at};
 use lst_rule::{RecordId, Seat, Store};
 
@@ -53,6 +54,24 @@ fn sum_range(store: &Store, seat: &mut Seat, s: u32, c: u32, range: u32) -> u128
     ensures watched { Watched seat.old.view seat.new.view s }
     ensures sum { (place : ℕ → ℕ) → Places (knows seat.old.view s) place → result ≡ sum_of (between place (256 * range) (256 * (range + 1)) (table_seen (knows seat.old.view s))) c }
     ensures saves { SavesPart seat.old.view seat.new.view s c (256 * range) (256 * (range + 1)) }
+    ensures few { result ≤ 2 ^ 73 }
+{
+    seat.consider();
+    match frame_of(store, seat, s, range, c) {
+        Some(frame) => sum_by_page(store, seat, s, c, range, frame),
+        None => sum_by_records(store, seat, s, c, range),
+    }
+}
+
+/// The same, record by record.
+fn sum_by_records(store: &Store, seat: &mut Seat, s: u32, c: u32, range: u32) -> u128
+    requires reader { IsReader store.now seat.old s }
+    requires column { c < store.now.layout.limits.columns }
+    requires range { range < store.now.layout.limits.ranges }
+    ensures reader { IsReader store.now seat.new s }
+    ensures watched { Watched seat.old.view seat.new.view s }
+    ensures sum { (place : ℕ → ℕ) → Places (knows seat.old.view s) place → result ≡ sum_of (between place (256 * range) (256 * (range + 1)) (table_seen (knows seat.old.view s))) c }
+    ensures saves { SavesPart seat.old.view seat.new.view s c (256 * range) (256 * (range + 1)) }
     ensures few { result ≤ 2 ^ 72 }
 {
     seat.consider();
@@ -83,6 +102,22 @@ pub(crate) fn count(store: &Store, seat: &mut Seat, s: u32) -> u64
 
 /// The number of those of one range.
 fn count_range(store: &Store, seat: &mut Seat, s: u32, range: u32) -> u64
+    requires reader { IsReader store.now seat.old s }
+    requires range { range < store.now.layout.limits.ranges }
+    ensures reader { IsReader store.now seat.new s }
+    ensures watched { Watched seat.old.view seat.new.view s }
+    ensures count { (place : ℕ → ℕ) → Places (knows seat.old.view s) place → result ≡ count_of (between place (256 * range) (256 * (range + 1)) (table_seen (knows seat.old.view s))) }
+    ensures few { result ≤ 512 }
+{
+    seat.consider();
+    match frame_of(store, seat, s, range, 0) {
+        Some(frame) => count_by_page(store, seat, s, range, frame),
+        None => count_by_records(store, seat, s, range),
+    }
+}
+
+/// The same, record by record.
+fn count_by_records(store: &Store, seat: &mut Seat, s: u32, range: u32) -> u64
     requires reader { IsReader store.now seat.old s }
     requires range { range < store.now.layout.limits.ranges }
     ensures reader { IsReader store.now seat.new s }

@@ -1,9 +1,5 @@
-use Rattle.std.proofs.Common.{ℕ, List}
 use Rattle.std.proofs.lemmas.Result.{IfOk-weaker}
-use Rattle.lst_rule.specs.declared.records.RecordId.{RecordId}
-use Rattle.lst_rule.specs.Rule.{knows}
 use Rattle.lst_sights.proofs.Watching.{watched_same}
-use Rattle.lst_scan.specs.Scans.{AreCandidates}
 use Rattle.lst_scan.proofs.Naming.{no_whole_tail}
 use Rattle.lst_scan.proofs.finds.records_for.Goals as goal
 

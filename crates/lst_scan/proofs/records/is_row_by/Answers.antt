@@ -1,4 +1,4 @@
-use Rattle.std.proofs.Common.{◌/◌, sym, ◌∙◌}
+use Rattle.std.proofs.Common.{◌/◌, sym}
 use Rattle.lst_sights.proofs.Watching.{watches_join}
 use Rattle.lst_scan.proofs.Seeing.{cell_on}
 use Rattle.lst_scan.proofs.Dividing.{cells_stay}
