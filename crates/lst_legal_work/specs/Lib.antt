@@ -1,0 +1,13 @@
+pub mod Explained
+pub mod Laws
+pub mod Legal
+pub mod Lines
+pub mod Lives
+pub mod Merges
+pub mod Orders
+pub mod Phases
+pub mod Runs
+pub mod Scripts
+pub mod Whole
+pub mod Worked
+pub mod Works

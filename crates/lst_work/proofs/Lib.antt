@@ -1,0 +1,14 @@
+pub mod AfterCalls
+pub mod Beginning
+pub mod Cutting
+pub mod Heard
+pub mod Hires
+pub mod Merges
+pub mod Ordering
+pub mod Reading
+pub mod Refusing
+pub mod Reports
+pub mod Running
+pub mod Scanning
+pub mod Wholes
+pub mod Writing

@@ -1,0 +1,94 @@
+-- A merge worker that makes one merge after another.
+use Rattle.std.proofs.Common.{◌≡◌, ℕ, ◌+◌, ◌<◌, ◌≤◌, List, [], ◌∷◌, ◌++◌, length, take, get_or, refl, sym, subst, ap, ◌∙◌, arith, append_assoc, append-nil}
+use Rattle.std.proofs.lemmas.List.{take_more}
+use Rattle.std.proofs.lemmas.List.Elements.{filter-append}
+use Rattle.lst_walk.proofs.Lists.{take_whole}
+use Rattle.lst_model.specs.declared.lines.Line.{Line}
+use Rattle.lst_model.specs.declared.lines.Line.TheVariants.{Phase, Merge, Call}
+use Rattle.lst_model.specs.declared.replies.Reply.{Reply}
+use Rattle.lst_rule.specs.declared.store.Store.{Store}
+use Rattle.lst_rule.specs.declared.view.View.{View}
+use Rattle.lst_merge.specs.declared.answers.Merge.{Merge as Answer}
+use Rattle.lst_merge.specs.declared.answers.Merge.TheVariants as merges
+use Rattle.lst_merge.specs.Merges.{Merges}
+use Rattle.lst_session.specs.declared.passes.Merger.{Merger}
+use Rattle.lst_session.specs.Lines.{MergeLeaves}
+use Rattle.lst_session.specs.Parting.{IsMergerOf}
+use Rattle.lst_session.specs.Replies.{merge_reply}
+use Rattle.lst_work.specs.declared.merging.MergeQueue.{MergeQueue}
+use Rattle.lst_legal_work.specs.Merges.{is_merge, merges_of, Merging}
+use Rattle.lst_work.specs.Merges.{Merged, IsMerging}
+
+-- ---- one merge
+
+leaves_by : (v w : View) (range column : ℕ) (answer : Answer) → Merges v w range column answer → MergeLeaves v w range column (merge_reply answer)
+leaves_by v w range column (merges.Merged tps) x = x
+leaves_by v w range column (merges.Idle tps) x = x
+leaves_by v w range column (merges.NoFrame session) x = x
+
+pub merged_page : (range column : ℕ) (answer : Answer) (reply : Reply) (before after : Merger) (old new : MergeQueue) → Merges before.seat.view after.seat.view range column answer
+    → reply ≡ merge_reply answer → new.replies.items ≡ old.replies.items ++ reply ∷ [] → Merged (Merge range column ∷ []) before after old new
+merged_page range column answer reply before after old new x is grows = record {
+  replies = merge_reply answer ∷ [];
+  grows = grows ∙ ap (λ (r : Reply). old.replies.items ++ r ∷ []) is;
+  merging = (after.seat.view, leaves_by before.seat.view after.seat.view range column answer x, refl);
+}
+
+-- a line that is none
+pub merged_nothing : (lines : List Line) (merger : Merger) (queue : MergeQueue) → merges_of lines ≡ [] → Merged lines merger merger queue queue
+merged_nothing lines merger queue none = record {
+  replies = [];
+  grows = sym (append-nil queue.replies.items);
+  merging = subst (λ (ls : List Line). Merging ls [] merger.seat.view merger.seat.view) (sym none) refl;
+}
+
+-- ---- one after another
+
+pub merging_on : (xs ys : List Line) (rs qs : List Reply) (v u w : View) → Merging xs rs v u → Merging ys qs u w → Merging (xs ++ ys) (rs ++ qs) v w
+merging_on [] ys [] qs v u w a b = subst (λ (t : View). Merging ys qs t w) a b
+merging_on [] ys (reply ∷ rs) qs v u w a b = absurd a
+merging_on (Phase ∷ xs) ys rs qs v u w a b = absurd a
+merging_on (Call session call ∷ xs) ys rs qs v u w a b = absurd a
+merging_on (Merge range column ∷ xs) ys [] qs v u w a b = absurd a
+merging_on (Merge range column ∷ xs) ys (reply ∷ rs) qs v u w a b = (a.0, a.1, merging_on xs ys rs qs a.0 u w a.2 b)
+
+pub merged_on : (xs ys : List Line) (a b c : Merger) (p q r : MergeQueue) → Merged xs a b p q → Merged ys b c q r → Merged (xs ++ ys) a c p r
+merged_on xs ys a b c p q r x y = record {
+  replies = x.replies ++ y.replies;
+  grows = y.grows ∙ (ap (λ (rs : List Reply). rs ++ y.replies) x.grows ∙ append_assoc p.replies.items x.replies y.replies);
+  merging = subst (λ (ls : List Line). Merging ls (x.replies ++ y.replies) a.seat.view c.seat.view) (sym (filter-append is_merge xs ys))
+      (merging_on (merges_of xs) (merges_of ys) x.replies y.replies a.seat.view b.seat.view c.seat.view x.merging y.merging);
+}
+
+pub merged_whole : (lines all : List Line) (a b : Merger) (p q : MergeQueue) → lines ≡ all → Merged lines a b p q → Merged all a b p q
+merged_whole lines all a b p q e x = subst (λ (ls : List Line). Merged ls a b p q) e x
+
+pub merging_first : (store : Store) (lines : List Line) (merger : Merger) (queue : MergeQueue) → IsMergerOf store merger → IsMerging store lines merger merger queue queue 0
+merging_first store lines merger queue ready = record { ready = ready; merged = merged_nothing [] merger queue refl }
+
+pub merging_then : (store : Store) (lines : List Line) (before now next : Merger) (old queue longer : MergeQueue) (n : ℕ) (line : Line) → IsMerging store lines before now old queue n → n < length lines → line ≡ get_or lines n line
+    → IsMergerOf store next → Merged (line ∷ []) now next queue longer → IsMerging store lines before next old longer (n + 1)
+merging_then store lines before now next old queue longer n line x inside is ready merged = record {
+  ready = ready;
+  merged = merged_whole (take n lines ++ line ∷ []) (take (n + 1) lines) before next old longer (sym (take_more lines n line inside ∙ ap (λ (l : Line). take n lines ++ l ∷ []) (sym is)))
+      (merged_on (take n lines) (line ∷ []) before now next old queue longer x.merged merged);
+}
+
+pub merging_all : (store : Store) (lines : List Line) (before now : Merger) (old queue : MergeQueue) (n : ℕ) → IsMerging store lines before now old queue n → length lines ≤ n → Merged lines before now old queue
+merging_all store lines before now old queue n x past = merged_whole (take n lines) lines before now old queue (take_whole lines n past) x.merged
+
+-- ---- the replies
+
+pub merging_long : (lines : List Line) (replies : List Reply) (v w : View) → Merging lines replies v w → length replies ≡ length lines
+merging_long [] [] v w x = refl
+merging_long [] (reply ∷ replies) v w x = absurd x
+merging_long (Phase ∷ lines) replies v w x = absurd x
+merging_long (Call session call ∷ lines) replies v w x = absurd x
+merging_long (Merge range column ∷ lines) [] v w x = absurd x
+merging_long (Merge range column ∷ lines) (reply ∷ replies) v w x = let h = merging_long lines replies x.0 w x.2 in omega arith
+
+-- ---- the replies of a queue that had none
+
+pub fresh_merging : (lines : List Line) (before after : Merger) (old new : MergeQueue) → Merged lines before after old new → old.replies.items ≡ [] → Merging (merges_of lines) new.replies.items before.seat.view after.seat.view
+fresh_merging lines before after old new x none = subst (λ (rs : List Reply). Merging (merges_of lines) rs before.seat.view after.seat.view)
+    (sym (x.grows ∙ ap (λ (rs : List Reply). rs ++ x.replies) none)) x.merging

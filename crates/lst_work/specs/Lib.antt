@@ -1,0 +1,6 @@
+pub mod Hiring
+pub mod Merges
+pub mod Orders
+pub mod Parts
+pub mod Reporting
+pub mod Workers

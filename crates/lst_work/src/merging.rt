@@ -1,0 +1,127 @@
+//! The merge worker: it makes the merges of a phase, beside the sessions.
+ghost use Rattle.std.specs.Prelude.{◌≡◌, ◌+◌, ◌<◌, ◌^◌, length, OnOk, [], ◌∷◌, false};
+ghost use Rattle.std.specs.List.{All};
+ghost use Rattle.lst_session.specs.Parting.{IsMergerOf};
+ghost use Rattle.lst_session.specs.Replies as replies;
+ghost use Rattle.lst_work.specs.Merges.{Merged, HasMerged};
+ghost use Rattle.lst_legal_work.specs.Runs.{CanRun};
+
+use crate::gates::Gate;
+use lst_model::{Line, OutOfMemory, Reply};
+use lst_rule::Store;
+use lst_session::{Merge, Merger};
+use std::alloc::Global;
+use std::collections::VecDeque;
+
+/// The replies to the merges that were made, in order.
+#[derive(Drop)]
+pub struct MergeQueue {
+    pub replies: VecDeque<Reply>,
+    /// Memory ran out, and the rest of the lines was given up.
+    pub has_failed: bool,
+}
+
+/// A queue of no replies.
+pub fn empty_queue(alloc: Global) -> MergeQueue
+    ensures none { result.replies.items ≡ [] }
+    ensures ready { result.has_failed ≡ false }
+{
+    MergeQueue {
+        replies: VecDeque::new(alloc),
+        has_failed: false,
+    }
+}
+
+/// The reply to a merge.
+fn merge_reply(answer: Merge) -> Reply
+    ensures { result ≡ replies.merge_reply answer }
+{
+    match answer {
+        Merge::Merged { tps } => Reply::Merged { tps },
+        Merge::Idle { tps } => Reply::NothingNew { tps },
+        Merge::NoFrame { session } => Reply::NoFrame { session },
+    }
+}
+
+/// Merges the page of a range and a column, and keeps the reply.
+fn merge_page(
+    store: &Store,
+    range: u32,
+    column: u32,
+    merger: &mut Merger,
+    queue: &mut MergeQueue,
+) -> Result<(), OutOfMemory>
+    requires merger { IsMergerOf store.now merger.old }
+    requires can { CanRun store.now.layout.limits (Line.Merge range column) }
+    ensures merger { IsMergerOf store.now merger.new }
+    ensures merged { OnOk result (Merged (Line.Merge range column ∷ []) merger.old merger.new queue.old queue.new) }
+{
+    let answer = merger.merge(store, range, column);
+    queue.replies.push_back(merge_reply(answer))?;
+    Ok(())
+}
+
+/// Runs a line if it is a merge. The merge worker has the number of the sessions.
+fn merge_line<G: Gate>(
+    store: &Store,
+    gate: &G,
+    place: u64,
+    line: &Line,
+    merger: &mut Merger,
+    queue: &mut MergeQueue,
+) -> Result<(), OutOfMemory>
+    requires merger { IsMergerOf store.now merger.old }
+    requires can { CanRun store.now.layout.limits line.now }
+    ensures merger { IsMergerOf store.now merger.new }
+    ensures merged { OnOk result (Merged (line.now ∷ []) merger.old merger.new queue.old queue.new) }
+{
+    let Line::Merge { range, column } = line else {
+        return Ok(());
+    };
+    let number = store.layout().limits.sessions;
+    gate.at(number, place, false);
+    merge_page(store, *range, *column, merger, queue)?;
+    gate.at(number, place, true);
+    Ok(())
+}
+
+/// Makes the merges among these lines. The first of them has the place `first` in the script.
+fn merge_lines<G: Gate>(
+    store: &Store,
+    gate: &G,
+    first: u64,
+    lines: &[Line],
+    merger: &mut Merger,
+    queue: &mut MergeQueue,
+) -> Result<(), OutOfMemory>
+    requires merger { IsMergerOf store.now merger.old }
+    requires can { All (CanRun store.now.layout.limits) lines.now }
+    requires places { first + length lines.now < 2 ^ 64 }
+    ensures merger { IsMergerOf store.now merger.new }
+    ensures merged { OnOk result (Merged lines.now merger.old merger.new queue.old queue.new) }
+{
+    for i in 0..lines.len() {
+        let place = first + i as u64;
+        merge_line(store, gate, place, &lines[i], merger, queue)?;
+    }
+    Ok(())
+}
+
+/// Makes the merges among these lines, unless memory runs out.
+pub fn run_merges<G: Gate>(
+    store: &Store,
+    gate: &G,
+    first: u64,
+    lines: &[Line],
+    merger: &mut Merger,
+    queue: &mut MergeQueue,
+)
+    requires merger { IsMergerOf store.now merger.old }
+    requires can { All (CanRun store.now.layout.limits) lines.now }
+    requires places { first + length lines.now < 2 ^ 64 }
+    ensures { HasMerged store.now lines.now merger.old merger.new queue.old queue.new }
+{
+    if merge_lines(store, gate, first, lines, merger, queue).is_err() {
+        queue.has_failed = true;
+    }
+}

@@ -1,0 +1,56 @@
+//! The replies of all workers, put into the order of the lines.
+ghost use Rattle.std.specs.Prelude.{◌≡◌, ◌≢◌, ◌+◌, ◌<◌, ◌∷◌, length, map, IfOk, ℕ};
+ghost use Rattle.std.specs.List.{All};
+ghost use Rattle.lst_model.specs.Lines.{LineFits};
+ghost use Rattle.lst_replies.specs.Runs.{speaker_of};
+ghost use Rattle.lst_work.specs.Orders.{queue_at, lines_from, AreInOrder};
+ghost use Rattle.lst_legal_work.specs.Orders.{queue_of};
+
+use lst_model::{Line, OutOfMemory, Reply};
+use std::alloc::Global;
+use std::collections::VecDeque;
+
+/// Takes the first reply from a queue.
+fn taken(queues: &mut [VecDeque<Reply>], queue: usize) -> Reply
+    requires inside { queue < length queues.old }
+    requires some { 0 < length (queue_at (map (λ q. q.items) queues.old) queue) }
+    ensures wide { length queues.new ≡ length queues.old }
+    ensures first { queue_at (map (λ q. q.items) queues.old) queue ≡ result ∷ queue_at (map (λ q. q.items) queues.new) queue }
+    ensures others { (other : ℕ) → other ≢ queue → queue_at (map (λ q. q.items) queues.new) other ≡ queue_at (map (λ q. q.items) queues.old) other }
+{
+    let Some(reply) = queues[queue].pop_front() else {
+        unreachable!();
+    };
+    reply
+}
+
+/// The session that a line is of, or None where it is a merge.
+fn speaker(line: &Line) -> Option<u32>
+    ensures { result ≡ speaker_of line.now }
+{
+    match line {
+        Line::Call { session, .. } => Some(*session),
+        _ => None,
+    }
+}
+
+/// The replies to these lines, in their order. Each session's stand in the queue with its number, and those to merges in the last one.
+pub fn in_order(
+    alloc: Global,
+    sessions: u32,
+    lines: &[Line],
+    queues: &mut [VecDeque<Reply>],
+) -> Result<Vec<(Option<u32>, Reply)>, OutOfMemory>
+    requires wide { length queues.old ≡ sessions + 1 }
+    requires fits { (ranges columns : ℕ) × All (LineFits sessions ranges columns) lines.now }
+    requires long { (queue : ℕ) → length (queue_at (map (λ q. q.items) queues.old) queue) ≡ lines_from sessions queue lines.now }
+    ensures { IfOk result (λ replies. AreInOrder sessions lines.now (map (λ q. q.items) queues.old) replies.items) }
+{
+    let mut replies = Vec::new(alloc);
+    for i in 0..lines.len() {
+        let speaker = speaker(&lines[i]);
+        let reply = taken(queues, speaker.unwrap_or(sessions) as usize);
+        replies.push((speaker, reply))?;
+    }
+    Ok(replies)
+}

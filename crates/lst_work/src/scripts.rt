@@ -1,0 +1,214 @@
+//! The phases of a script, one after another.
+ghost use Rattle.std.specs.Prelude.{◌≡◌, ◌+◌, ◌<◌, ◌≤◌, ◌^◌, length, OnOk, IfOk, slice_range};
+ghost use Rattle.std.specs.List.{All, list_any};
+ghost use Rattle.lst_model.specs.Lines.{LineFits};
+ghost use Rattle.lst_session.specs.Parting.{IsMergerOf};
+ghost use Rattle.lst_work.specs.Merges.{Merged};
+ghost use Rattle.lst_replies.specs.Runs.{is_phase};
+ghost use Rattle.lst_work.specs.Parts.{AreWithin, EndsAt, IsPart};
+ghost use Rattle.lst_legal_work.specs.Phases.{HaveRunThrough};
+ghost use Rattle.lst_legal_work.specs.Whole.{AreAll, IsPhase};
+ghost use Rattle.lst_legal_work.specs.Runs.{CanRun};
+ghost use Rattle.lst_work.specs.Workers.{AreReady, HaveRun};
+
+use crate::gates::Gate;
+use crate::hearing::heard;
+use crate::hiring::{dismissed, hired};
+use crate::merging::{MergeQueue, empty_queue};
+use crate::orders::in_order;
+use crate::phases::run_phase;
+use crate::workers::Worker;
+use lst_model::{Line, OutOfMemory, Reply};
+use lst_rule::Store;
+use lst_session::{CommitLock, Merger, Session};
+use std::alloc::Global;
+use std::sync::Wait;
+use std::thread::Threads;
+
+/// Whether a worker has given up.
+fn has_any_failed(workers: &[Worker]) -> bool
+    ensures { result ≡ list_any (λ worker. worker.has_failed) workers.now }
+{
+    workers.iter().any(|worker| worker.has_failed)
+}
+
+/// Runs a phase, unless memory runs out.
+fn try_phase<R: Threads + Wait + Sync, G: Gate + Sync>(
+    rt: &R,
+    alloc: Global,
+    store: &Store,
+    lock: &CommitLock,
+    gate: &G,
+    first: u64,
+    lines: &[Line],
+    workers: &mut [Worker],
+    merger: &mut Merger,
+    queue: &mut MergeQueue,
+) -> Result<(), OutOfMemory>
+    requires ready { AreReady store.now workers.old }
+    requires merger { IsMergerOf store.now merger.old }
+    requires can { All (CanRun store.now.layout.limits) lines.now }
+    requires places { first + length lines.now < 2 ^ 64 }
+    ensures ready { AreReady store.now workers.new }
+    ensures merger { IsMergerOf store.now merger.new }
+    ensures ran { OnOk result (HaveRun lines.now workers.old workers.new) }
+    ensures merged { OnOk result (Merged lines.now merger.old merger.new queue.old queue.new) }
+{
+    run_phase(
+        rt, alloc, store, lock, gate, first, lines, workers, merger, queue,
+    );
+    if queue.has_failed || has_any_failed(workers) {
+        return Err(OutOfMemory);
+    }
+    Ok(())
+}
+
+/// Runs a phase: each session's lines in a thread of its own, where one can be made, and the merges beside them. The list has every session of
+/// the store, in order. Answers the sessions, and the replies in the order of the lines.
+pub fn whole_phase<R: Threads + Wait + Sync, G: Gate + Sync>(
+    rt: &R,
+    alloc: Global,
+    store: &Store,
+    lock: &CommitLock,
+    gate: &G,
+    first: u64,
+    lines: &[Line],
+    sessions: Vec<Session>,
+    merger: &mut Merger,
+) -> Result<(Vec<Session>, Vec<(Option<u32>, Reply)>), OutOfMemory>
+    requires all { AreAll store.now sessions.items }
+    requires merger { IsMergerOf store.now merger.old }
+    requires can { All (CanRun store.now.layout.limits) lines.now }
+    requires places { first + length lines.now < 2 ^ 64 }
+    ensures merger { IsMergerOf store.now merger.new }
+    ensures all { IfOk result (λ done. AreAll store.now done.0.items) }
+    ensures phase { IfOk result (λ done. IsPhase lines.now sessions.items done.0.items merger.old.seat.view merger.new.seat.view done.1.items) }
+{
+    let count = store.layout().limits.sessions;
+    let mut workers = hired(alloc, sessions)?;
+    let mut queue = empty_queue(alloc);
+    try_phase(
+        rt,
+        alloc,
+        store,
+        lock,
+        gate,
+        first,
+        lines,
+        workers.as_mut_slice(),
+        merger,
+        &mut queue,
+    )?;
+    let (sessions, mut queues) = dismissed(alloc, workers, queue.replies)?;
+    let replies = in_order(alloc, count, lines, queues.as_mut_slice())?;
+    Ok((sessions, replies))
+}
+
+/// Whether a line is the end of a phase.
+fn ends_phase(line: &Line) -> bool
+    ensures { result ≡ is_phase line.now }
+{
+    match line {
+        Line::Phase => true,
+        _ => false,
+    }
+}
+
+/// The place of the first end of a phase from a place on, or how many lines there are.
+fn phase_end(lines: &[Line], start: usize) -> usize
+    requires { start ≤ length lines.now }
+    ensures from { start ≤ result }
+    ensures most { result ≤ length lines.now }
+    ensures within { AreWithin lines.now start result }
+    ensures end { result < length lines.now → EndsAt lines.now result }
+{
+    for i in start..lines.len() {
+        if ends_phase(&lines[i]) {
+            return i;
+        }
+    }
+    lines.len()
+}
+
+/// The lines between two places.
+fn lines_between(lines: &[Line], start: usize, end: usize) -> &[Line]
+    requires up { start ≤ end }
+    requires most { end ≤ length lines.now }
+    ensures { result.now ≡ slice_range lines.now start end }
+{
+    &lines[start..end]
+}
+
+/// A phase that was run: the place where it ends, the sessions after it, and the replies to its lines.
+#[derive(Drop)]
+struct Part {
+    end: usize,
+    sessions: Vec<Session>,
+    replies: Vec<(Option<u32>, Reply)>,
+}
+
+/// Runs the phase that begins at a place of a script.
+fn run_part<R: Threads + Wait + Sync, G: Gate + Sync>(
+    rt: &R,
+    alloc: Global,
+    store: &Store,
+    lock: &CommitLock,
+    gate: &G,
+    lines: &[Line],
+    start: usize,
+    sessions: Vec<Session>,
+    merger: &mut Merger,
+) -> Result<Part, OutOfMemory>
+    requires all { AreAll store.now sessions.items }
+    requires merger { IsMergerOf store.now merger.old }
+    requires fits { All (LineFits store.now.layout.limits.sessions store.now.layout.limits.ranges store.now.layout.limits.columns) lines.now }
+    requires start { start ≤ length lines.now }
+    ensures merger { IsMergerOf store.now merger.new }
+    ensures part { IfOk result (λ part. IsPart store.now lines.now start part.end sessions.items part.sessions.items merger.old.seat.view merger.new.seat.view part.replies.items) }
+{
+    let end = phase_end(lines, start);
+    let phase = lines_between(lines, start, end);
+    let place = start as u64 + 1;
+    let (sessions, replies) = whole_phase(
+        rt, alloc, store, lock, gate, place, phase, sessions, merger,
+    )?;
+    Ok(Part {
+        end,
+        sessions,
+        replies,
+    })
+}
+
+/// Runs a script: its phases one after another, and lets the sessions hear of each other between any two. The list has every session of the store,
+/// in order. Answers the sessions, and the replies in the order of the lines. The gate is called before and after each line, with the line's
+/// place in the script, from 1 on.
+pub fn run_script<R: Threads + Wait + Sync, G: Gate + Sync>(
+    rt: &R,
+    alloc: Global,
+    store: &Store,
+    gate: &G,
+    lines: &[Line],
+    sessions: Vec<Session>,
+    merger: &mut Merger,
+) -> Result<(Vec<Session>, Vec<(Option<u32>, Reply)>), OutOfMemory>
+    requires all { AreAll store.now sessions.items }
+    requires merger { IsMergerOf store.now merger.old }
+    requires fits { All (LineFits store.now.layout.limits.sessions store.now.layout.limits.ranges store.now.layout.limits.columns) lines.now }
+    ensures merger { IsMergerOf store.now merger.new }
+    ensures all { IfOk result (λ done. AreAll store.now done.0.items) }
+    ensures run { IfOk result (λ done. HaveRunThrough store.now lines.now sessions.items done.0.items merger.old.seat.view merger.new.seat.view done.1.items) }
+{
+    let lock = CommitLock::new();
+    let first = run_part(rt, alloc, store, &lock, gate, lines, 0, sessions, merger)?;
+    let mut end = first.end;
+    let mut passes = first.sessions;
+    let mut replies = first.replies;
+    while end < lines.len() {
+        let told = heard(store, passes);
+        let mut part = run_part(rt, alloc, store, &lock, gate, lines, end + 1, told, merger)?;
+        replies.append(&mut part.replies)?;
+        end = part.end;
+        passes = part.sessions;
+    }
+    Ok((passes, replies))
+}
