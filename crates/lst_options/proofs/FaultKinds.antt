@@ -1,5 +1,5 @@
 -- Kinds of faults.
-use Rattle.std.proofs.Common.{◌≡◌, ◌⊎◌, [], ◌∷◌, inl, inr}
+use Rattle.std.proofs.Common.{◌≡◌, [], ◌∷◌, inl, inr}
 use Rattle.clap.specs.Words.{HasKind, IsAmong, Kinds, kind_of}
 use Rattle.clap.specs.declared.error.Error.{Error}
 use Rattle.clap.specs.declared.error.kind.ErrorKind.{ErrorKind}

@@ -1,8 +1,9 @@
--- Words name the limits of one store at most.
-use Rattle.std.proofs.Common.{◌≡◌, List, [], ◌∷◌, Option, Some, codes, sym, ap, ◌∙◌}
-use Rattle.clap.specs.Words.{Text, first_of, matches_of}
+-- Words name the limits of one store at most, and one load at most.
+use Rattle.std.proofs.Common.{◌≡◌, List, Option, Some, codes, sym, ap, ◌∙◌}
+use Rattle.clap.specs.Words.{Text}
 use Rattle.lst_layout.specs.declared.limits.Limits.{Limits}
-use Rattle.lst_options.specs.Options.{GivesLimits, NamesLimits, index_or}
+use Rattle.lst_options.specs.declared.load.LoadNumbers.{LoadNumbers}
+use Rattle.lst_options.specs.Options.{GivesLimits, GivesLoad, NamesLimits, NamesLoad, index_or}
 
 same_value : {X : Type 0} (o : Option X) (a b : X) → o ≡ Some a → o ≡ Some b → a ≡ b
 same_value o a b first second = let same : Some a ≡ Some b = sym first ∙ second in cc
@@ -32,3 +33,15 @@ gives_one value a b first second =
 
 pub names_one : (words : List Text) (a b : Limits) → NamesLimits words a → NamesLimits words b → a ≡ b
 names_one words a b first second = gives_one _ a b first.gives second.gives
+
+-- ---- a load
+
+same_load : (a b : LoadNumbers) → a.seed ≡ b.seed → a.keys ≡ b.keys → a.sessions ≡ b.sessions → a ≡ b
+same_load a b seed keys sessions = λ i. record { seed = seed i; keys = keys i; sessions = sessions i }
+
+gives_one_load : (value : Text → Option Text) (a b : LoadNumbers) → GivesLoad value a → GivesLoad value b → a ≡ b
+gives_one_load value a b first second =
+    same_load a b (same_value _ a.seed b.seed first.seed second.seed) (same_value _ a.keys b.keys first.keys second.keys) (same_value _ a.sessions b.sessions first.sessions second.sessions)
+
+pub names_one_load : (words : List Text) (a b : LoadNumbers) → NamesLoad words a → NamesLoad words b → a ≡ b
+names_one_load words a b first second = gives_one_load _ a b first.gives second.gives

@@ -1,10 +1,11 @@
--- The options of a store on a command line: which words are taken, and which limits they give.
-use Rattle.std.specs.Prelude.{◌≡◌, ℕ, ◌^◌, ◌&&◌, nat_le, nat_lt, List, [], ◌∷◌, Option, Some, None, option_and_then, if◌then◌else◌, codes}
+-- The options of a store and of a load on a command line: which words are taken, and which limits and numbers they give.
+use Rattle.std.specs.Prelude.{◌≡◌, ℕ, ◌^◌, ◌&&◌, ◌<◌, ◌≤◌, nat_le, nat_lt, List, [], ◌∷◌, Option, Some, None, option_and_then, if◌then◌else◌, codes}
 use Rattle.clap.specs.Words.{Text, fault_of, first_of, matches_of}
 use Rattle.lst_layout.specs.declared.limits.Limits.{Limits}
 use Rattle.lst_layout.specs.Limits.{default_limits}
 use Rattle.lst_script.specs.Numbers.{number_of}
-use Rattle.lst_options.specs.Words.{run_options}
+use Rattle.lst_options.specs.declared.load.LoadNumbers.{LoadNumbers}
+use Rattle.lst_options.specs.Words.{load_options, run_options}
 
 -- ---- the values
 
@@ -26,6 +27,13 @@ abbrev pub index_or : ℕ → Option Text → Option ℕ
 index_or columns None = Some 0
 index_or columns (Some text) = option_and_then (bit_of columns) (number_of text)
 
+-- the seed of a generated script, which is any number; where it isn't given, 1
+abbrev pub seed_or_one : Option Text → Option ℕ
+seed_or_one None = Some 1
+seed_or_one (Some text) = number_of text
+
+-- ---- the options of a store
+
 -- the value of each option gives its limit
 pub record GivesLimits (value : Text → Option Text) (limits : Limits) : Type 0 where
   pub columns : number_or default_limits.columns 1 8 (value (codes "columns")) ≡ Some limits.columns
@@ -45,3 +53,28 @@ pub record NamesLimits (words : List Text) (limits : Limits) : Type 0 where
 abbrev pub TellsLimits : List Text → Option Limits → Type 0
 TellsLimits words (Some limits) = NamesLimits words limits
 TellsLimits words None = (limits : Limits) → ¬ NamesLimits words limits
+
+-- ---- the options of a load
+
+-- the value of each option gives its number
+pub record GivesLoad (value : Text → Option Text) (load : LoadNumbers) : Type 0 where
+  pub seed : seed_or_one (value (codes "seed")) ≡ Some load.seed
+  pub keys : number_or 1000 1 4096 (value (codes "keys")) ≡ Some load.keys
+  pub sessions : number_or 4 1 16 (value (codes "sessions")) ≡ Some load.sessions
+
+-- the words behind `load` are taken, each option with one value and none twice, and their values give each number
+pub record NamesLoad (words : List Text) (load : LoadNumbers) : Type 0 where
+  pub taken : fault_of load_options ([] ∷ words) ≡ []
+  pub gives : GivesLoad (λ name. first_of name (matches_of load_options ([] ∷ words))) load
+
+-- this is the load that the words name, or they name none
+abbrev pub TellsLoad : List Text → Option LoadNumbers → Type 0
+TellsLoad words (Some load) = NamesLoad words load
+TellsLoad words None = (load : LoadNumbers) → ¬ NamesLoad words load
+
+-- as many keys and sessions as a load may have
+pub record IsLoadable (load : LoadNumbers) : Type 0 where
+  pub some : 0 < load.keys
+  pub few : load.keys ≤ 4096
+  pub hosts : 0 < load.sessions
+  pub most : load.sessions ≤ 16

@@ -2,9 +2,15 @@
 ghost use Rattle.std.specs.Prelude.{◌≡◌, List};
 ghost use Rattle.clap.specs.Words.{Text};
 ghost use Rattle.lst_layout.specs.declared.limits.Limits.{Limits};
-ghost use Rattle.lst_options.specs.Options.{NamesLimits};
+ghost use Rattle.lst_options.specs.declared.load.LoadNumbers.{LoadNumbers};
+ghost use Rattle.lst_options.specs.Options.{NamesLimits, NamesLoad};
 
 /// Words name the limits of one store at most. The contract is a law; the body does nothing.
 pub fn words_name_one_store()
     ensures { (words : List Text) (limits other : Limits) → NamesLimits words limits → NamesLimits words other → limits ≡ other }
+{}
+
+/// Words name one load at most. The contract is a law; the body does nothing.
+pub fn words_name_one_load()
+    ensures { (words : List Text) (load other : LoadNumbers) → NamesLoad words load → NamesLoad words other → load ≡ other }
 {}

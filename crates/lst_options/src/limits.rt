@@ -5,7 +5,7 @@ ghost use Rattle.lst_layout.specs.declared.limits.Limits.{Limits as LimitsOf};
 ghost use Rattle.lst_layout.specs.Limits.{IsValid};
 ghost use Rattle.lst_options.specs.Options.{number_or, index_or, GivesLimits, TellsLimits};
 
-use crate::words::{parsed, value_in};
+use crate::words::{run_matches, value_in};
 use clap::ArgMatches;
 use lst_layout::Limits;
 use lst_model::OutOfMemory;
@@ -20,7 +20,7 @@ pub fn limits_of_words(alloc: Global, words: &[String]) -> Result<Option<Limits>
     ensures told { IfOk result (TellsLimits (drop 1 (map string_bytes words.now))) }
     ensures valid { IfOk result (λ limits. IfSome limits IsValid) }
 {
-    match parsed(alloc, words)? {
+    match run_matches(alloc, words)? {
         Some(matches) => Ok(limits_in(&matches)),
         None => Ok(None),
     }
@@ -52,7 +52,13 @@ fn limits_in(matches: &ArgMatches) -> Option<Limits>
 }
 
 /// The number that an option has: its default where it isn't given, and None where its value is no number from `least` to `most`.
-fn number_in(matches: &ArgMatches, name: &str, default: u32, least: u32, most: u32) -> Option<u32>
+pub(crate) fn number_in(
+    matches: &ArgMatches,
+    name: &str,
+    default: u32,
+    least: u32,
+    most: u32,
+) -> Option<u32>
     requires default { (least ≤ default) × (default ≤ most) }
     ensures number { result ≡ number_or default least most (first_of name.now (rows_of (found_of matches.now))) }
     ensures range { IfSome result (λ number. (least ≤ number) × (number ≤ most)) }

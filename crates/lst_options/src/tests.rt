@@ -1,6 +1,6 @@
-//! Words of command lines, and the limits that they name.
+//! Words of command lines, and the limits or the load that they name.
 
-use crate::limits_of_words;
+use crate::{LoadNumbers, limits_of_words, load_of_words};
 use lst_layout::Limits;
 use std::alloc::Global;
 use std::process::Abort;
@@ -138,6 +138,86 @@ fn each_option_is_read_in_every_form(rt: HostRuntime) -> Result<(), Fail> {
         ] {
             expect_taken(&rt, alloc, line.as_str(), wanted)?;
         }
+    }
+    Ok(())
+}
+
+/// The load that a line of words names, which spaces separate.
+fn expect_load(
+    rt: &impl Abort,
+    alloc: Global,
+    line: &str,
+    wanted: Option<LoadNumbers>,
+) -> Result<(), Fail> {
+    let mut words = Vec::new(alloc);
+    for word in line.split_whitespace() {
+        words.push(String::from_str(alloc, word)?)?;
+    }
+    let found = load_of_words(alloc, words.as_slice())?;
+    assert_eq!(rt; found, wanted, "{line}");
+    Ok(())
+}
+
+/// The load of these numbers.
+fn numbers(seed: u64, keys: u32, sessions: u32) -> Option<LoadNumbers> {
+    Some(LoadNumbers {
+        seed,
+        keys,
+        sessions,
+    })
+}
+
+#[test]
+fn each_option_gives_its_number_of_a_load(rt: HostRuntime) -> Result<(), Fail> {
+    let alloc = rt.alloc();
+    for (line, wanted) in [
+        ("load", numbers(1, 1_000, 4)),
+        ("load --", numbers(1, 1_000, 4)),
+        ("load --seed 7", numbers(7, 1_000, 4)),
+        ("load --keys=8", numbers(1, 8, 4)),
+        ("load --sessions 09", numbers(1, 1_000, 9)),
+        (
+            "load --sessions 1 --keys 1 --seed=00000000000000000000",
+            numbers(0, 1, 1),
+        ),
+        (
+            "load --seed 18446744073709551615 --keys 4096 --sessions=16",
+            numbers(18_446_744_073_709_551_615, 4_096, 16),
+        ),
+    ] {
+        expect_load(&rt, alloc, line, wanted)?;
+    }
+    Ok(())
+}
+
+#[test]
+fn other_words_name_no_load(rt: HostRuntime) -> Result<(), Fail> {
+    for line in [
+        "load x",
+        "load 1",
+        "load load",
+        "load --keys 0",
+        "load --keys 4097",
+        "load --keys 4294967297",
+        "load --sessions 0",
+        "load --sessions 17",
+        "load --seed 18446744073709551616",
+        "load --seed 000000000000000000001",
+        "load --seed -1",
+        "load --seed 1x",
+        "load --seed=",
+        "load --seed",
+        "load --seed 1 --seed 1",
+        "load --keys=1 --keys=1",
+        "load --tails 3",
+        "load --ranges 1",
+        "load --columns 1",
+        "load --index 0",
+        "load --help",
+        "load -h",
+        "load --version",
+    ] {
+        expect_load(&rt, rt.alloc(), line, None)?;
     }
     Ok(())
 }

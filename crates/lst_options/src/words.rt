@@ -1,7 +1,7 @@
 //! The words of a command line, taken by options.
-ghost use Rattle.std.specs.Prelude.{◌≡◌, ◌↔◌, [], IfOk, IfSome, IsSome, map, option_map, string_bytes};
-ghost use Rattle.clap.specs.Words.{app_of, fault_of, first_of, found_of, matches_of, rows_of, with_rule};
-ghost use Rattle.lst_options.specs.Words.{option, bare, run_options};
+ghost use Rattle.std.specs.Prelude.{◌≡◌, ◌↔◌, true, [], IfOk, IfSome, IsSome, map, option_map, string_bytes};
+ghost use Rattle.clap.specs.Words.{app_of, fault_of, first_of, found_of, is_simple, is_simple_and_free, matches_of, rows_of, with_rule};
+ghost use Rattle.lst_options.specs.Words.{option, bare, load_options, run_options};
 
 use clap::error::ErrorKind;
 use clap::{Arg, ArgAction, ArgMatches, Command};
@@ -10,14 +10,39 @@ use std::alloc::{AllocError, Global};
 
 /// The values that the words give the options of a store, or None where they aren't taken. The first word isn't looked at.
 /// The only error is want of memory.
-pub(crate) fn parsed<'a>(
+pub(crate) fn run_matches<'a>(
     alloc: Global,
     words: &'a [String],
 ) -> Result<Option<ArgMatches<'a>>, OutOfMemory>
     ensures taken { IfOk result (λ found. IsSome found ↔ (fault_of run_options (map string_bytes words.entry.now) ≡ [])) }
     ensures rows { IfOk result (λ found. IfSome found (λ matches. rows_of (found_of matches) ≡ matches_of run_options (map string_bytes words.entry.now))) }
 {
-    let command = run_command(alloc)?;
+    parsed(run_command(alloc)?, words)
+}
+
+/// The values that the words give the options of a load, or None where they aren't taken. The first word isn't looked at.
+/// The only error is want of memory.
+pub(crate) fn load_matches<'a>(
+    alloc: Global,
+    words: &'a [String],
+) -> Result<Option<ArgMatches<'a>>, OutOfMemory>
+    ensures taken { IfOk result (λ found. IsSome found ↔ (fault_of load_options (map string_bytes words.entry.now) ≡ [])) }
+    ensures rows { IfOk result (λ found. IfSome found (λ matches. rows_of (found_of matches) ≡ matches_of load_options (map string_bytes words.entry.now))) }
+{
+    parsed(load_command(alloc)?, words)
+}
+
+/// The values that the words give the options of a command, or None where they aren't taken. The first word isn't looked at.
+/// The only error is want of memory.
+fn parsed<'a>(
+    command: Command<'a>,
+    words: &'a [String],
+) -> Result<Option<ArgMatches<'a>>, OutOfMemory>
+    requires simple { is_simple (app_of command) ≡ true }
+    requires free { is_simple_and_free (app_of command) ≡ true }
+    ensures taken { IfOk result (λ found. IsSome found ↔ (fault_of (app_of command.entry) (map string_bytes words.entry.now) ≡ [])) }
+    ensures rows { IfOk result (λ found. IfSome found (λ matches. rows_of (found_of matches) ≡ matches_of (app_of command.entry) (map string_bytes words.entry.now))) }
+{
     match command.try_get_matches_from(words) {
         Ok(matches) => Ok(Some(matches)),
         Err(error) => match error.kind() {
@@ -39,6 +64,16 @@ fn run_command<'a>(alloc: Global) -> Result<Command<'a>, AllocError>
     let command = with_option(alloc, command, "txns")?;
     let command = with_option(alloc, command, "spare")?;
     with_option(alloc, command, "index")
+}
+
+/// A command that takes the options of a load, and no flag for help or the version.
+fn load_command<'a>(alloc: Global) -> Result<Command<'a>, AllocError>
+    ensures { IfOk result (λ command. app_of command ≡ load_options) }
+{
+    let command = bare_command(alloc);
+    let command = with_option(alloc, command, "seed")?;
+    let command = with_option(alloc, command, "keys")?;
+    with_option(alloc, command, "sessions")
 }
 
 /// A command without options and without flags.

@@ -1,0 +1,15 @@
+pub mod Assembling
+pub mod Balancing
+pub mod Fitting
+pub mod Freeing
+pub mod Generating
+pub mod Going
+pub mod Lining
+pub mod Lists
+pub mod Owning
+pub mod Reading
+pub mod Seeing
+pub mod Speaking
+pub mod Summing
+pub mod Totals
+pub mod Walking

@@ -1,0 +1,60 @@
+-- A generated script on which all sessions of a new store have worked.
+use Rattle.std.specs.Prelude.{◌≡◌, ℕ, ◌*◌, ◌<◌, ◌≤◌, List, [], ◌∷◌, ◌++◌, map, length, Option, Some}
+use Rattle.lst_layout.specs.declared.limits.Limits.{Limits}
+use Rattle.lst_layout.specs.declared.layout.Layout.{Layout}
+use Rattle.lst_model.specs.declared.acts.Write.{Write}
+use Rattle.lst_model.specs.declared.commits.Commit.{Commit}
+use Rattle.lst_model.specs.declared.replies.Reply.{Reply}
+use Rattle.lst_model.specs.declared.replies.Reply.TheVariants.{Begun, Ended, Sum, Count}
+use Rattle.lst_model.specs.Histories.{table_at}
+use Rattle.lst_model.specs.Tables.{Rows, count_of, sum_of}
+use Rattle.lst_core_state.specs.State.{mine}
+use Rattle.lst_rule.specs.declared.store.Store.{Store}
+use Rattle.lst_rule.specs.Learned.{Possible}
+use Rattle.lst_rule.specs.Rule.{knows}
+use Rattle.lst_replies.specs.declared.reports.Report.{Report}
+use Rattle.lst_script.specs.Generated.{range_count, generated}
+use Rattle.lst_session.specs.declared.crew.Crew.{Crew}
+use Rattle.lst_session.specs.Crews.{store_told}
+use Rattle.lst_legal_work.specs.Worked.{IsWorked}
+use Rattle.lst_load.specs.declared.loading.Loaded.{Loaded}
+use Rattle.lst_load.specs.Scripted.{transactions_of}
+
+-- the limits of a store for a generated script: one column, and as many ranges as hold the keys
+abbrev pub load_limits : ℕ → ℕ → Limits
+load_limits keys sessions = record { columns = 1; ranges = range_count keys; tails = 16384; sessions = sessions; txns = 16384; spare = 8; indexed = 0 }
+
+-- the table that the commits of the store make
+abbrev pub table_told : Crew → Rows
+table_told crew = table_at (store_told crew.seat.view).history (length (store_told crew.seat.view).history)
+
+abbrev pub writes_of_commit : Commit → List Write
+writes_of_commit commit = commit.writes
+
+-- the last replies tell these numbers: a transaction that counts the rows, and adds them up
+pub record TellsTotals (replies : List (Option ℕ × Reply)) (rows total : ℕ) : Type 0 where
+  pub front : List (Option ℕ × Reply)
+  pub begin : ℕ
+  pub is : replies ≡ front ++ (Some 0, Begun begin) ∷ (Some 0, Count rows) ∷ (Some 0, Sum total) ∷ (Some 0, Ended begin) ∷ []
+
+-- The sessions of this store have worked on the script that the seed generates, and are gathered in this crew. The numbers are those of the last
+-- replies: as many rows as there are keys, and 1,000 for each. So many rows, with that sum, has the table that the store's commits make. The commits
+-- of each session are its transactions with writes in the script, in order, with those writes.
+pub record IsLoaded (seed keys sessions : ℕ) (loaded : Loaded) (store : Store) (crew : Crew) : Type 0 where
+  pub layout : Layout
+  pub report : Report
+  pub limits : layout.limits ≡ load_limits keys sessions
+  pub worked : IsWorked layout (generated keys sessions seed) report store crew
+  pub told : TellsTotals report.replies loaded.rows loaded.total
+  pub rows : loaded.rows ≡ keys
+  pub total : loaded.total ≡ 1000 * keys
+  pub counted : loaded.rows ≡ count_of (table_told crew)
+  pub added : loaded.total ≡ sum_of (table_told crew) 0
+  pub commits : (s : ℕ) → s < sessions → map writes_of_commit (mine s (knows crew.seat.view s)) ≡ transactions_of s (generated keys sessions seed)
+
+-- Where they have worked on it, it is loaded: whatever the schedule
+abbrev pub GeneratedIsLoaded : Type 0
+GeneratedIsLoaded = (seed keys sessions : ℕ) (layout : Layout) (report : Report) (store : Store) (crew : Crew)
+    → 0 < keys → keys ≤ 4096 → 0 < sessions → layout.limits ≡ load_limits keys sessions
+    → IsWorked layout (generated keys sessions seed) report store crew → Possible crew.seat.view
+    → (loaded : Loaded) × IsLoaded seed keys sessions loaded store crew
