@@ -1,5 +1,5 @@
 -- What the statuses say, taken together.
-use Rattle.std.proofs.Common.{◌≡◌, ◌↔◌, ℕ, ◌<◌, ◌≤◌, List, ◌++◌, [], ◌∷◌, slice_index_or, true≢false, Ok, Err, length, length-append, Option, Some, None, IfSome, refl, sym, ap, ◌∙◌, subst, arith, inl, inr, append-nil}
+use Rattle.std.proofs.Common.{◌≡◌, ℕ, ◌<◌, ◌≤◌, List, ◌++◌, [], ◌∷◌, slice_index_or, true≢false, Ok, Err, length, length-append, Option, Some, None, IfSome, codes, refl, sym, ap, ◌∙◌, subst, arith, inl, inr, append-nil}
 use Rattle.lst_io.specs.Inputs.{IsWholeInput, ReadsBeyond}
 use Rattle.lst_script.specs.declared.faults.FaultKind.{FaultKind}
 use Rattle.lst_command.specs.declared.status.Status.{Status}
@@ -18,14 +18,18 @@ use Rattle.lst_script.specs.Scripts.{AreScript}
 use Rattle.lst_script.specs.Texts.{line_words}
 use Rattle.lst_script.proofs.OneReading.{one_line}
 use Rattle.lst_script.proofs.Scanning.{first_cases}
-use Rattle.lst_options.specs.Options.{NamesLimits}
-use Rattle.lst_options.proofs.OneStore.{names_one}
+use Rattle.lst_options.specs.declared.load.LoadNumbers.{LoadNumbers}
+use Rattle.lst_options.specs.Options.{NamesLimits, NamesLoad}
+use Rattle.lst_options.proofs.OneStore.{names_one, names_one_load}
 use Rattle.lst_command.specs.declared.command.Command.{Command}
-use Rattle.lst_command.specs.declared.command.Work.{Work}
-use Rattle.lst_command.specs.declared.command.Work.TheVariants.{Run, Check}
-use Rattle.lst_command.specs.Commands.{Names, work_word}
-use Rattle.lst_command.specs.Owed.{IsFault, IsFaultFor, IsInOrder, IsVerdict, Owes, OwesFor, most_bytes}
-use Rattle.lst_command.specs.Answers.{Change, IsComplete, IsDue, IsUsage, Makes, Says}
+use Rattle.lst_command.specs.declared.command.Command.TheVariants.{Input, Load}
+use Rattle.lst_command.specs.declared.command.Task.{Task}
+use Rattle.lst_command.specs.declared.command.Task.TheVariants.{Run, Work, Check}
+use Rattle.lst_command.specs.Commands.{Names, NamesLoading, NamesTask, task_word}
+use Rattle.lst_command.proofs.Naming.{no_load_word}
+use Rattle.lst_command.specs.Runs.{Left}
+use Rattle.lst_command.specs.Owed.{IsFault, IsFaultFor, IsInOrder, IsOrderlyFor, IsVerdict, OwesFor, most_bytes}
+use Rattle.lst_command.specs.Answers.{Change, HasFailed, IsComplete, IsDue, IsUsage, Makes, Refuses, Says}
 
 -- a whole input is what a source tells
 pub whole_is_told : (limit : ℕ) (old new : Option (List ℕ)) (told bytes : List ℕ) → old ≡ Some told → IsWholeInput limit old new bytes → bytes ≡ told
@@ -45,35 +49,64 @@ beyond_is_told limit (Some xs) (Some ys) told same beyond =
 
 -- ---- one command
 
-not_one_word : work_word Run ≡ work_word Check → ⊥
-not_one_word same = let first : 114 ≡ 99 = ap (λ (word : List ℕ). slice_index_or word 0 0) same in omega (arith, first)
+-- the first letters of two words
+first_letter : (a b : Task) → task_word a ≡ task_word b → slice_index_or (task_word a) 0 0 ≡ slice_index_or (task_word b) 0 0
+first_letter a b same = ap (λ (word : List ℕ). slice_index_or word 0 0) same
 
-same_work : (a b : Work) → work_word a ≡ work_word b → a ≡ b
-same_work Run Run same = refl
-same_work Check Check same = refl
-same_work Run Check same = absurd (not_one_word same)
-same_work Check Run same = absurd (not_one_word (sym same))
+same_task : (a b : Task) → task_word a ≡ task_word b → a ≡ b
+same_task Run Run same = refl
+same_task Run Work same = let first : 114 ≡ 119 = first_letter Run Work same in absurd (omega (arith, first))
+same_task Run Check same = let first : 114 ≡ 99 = first_letter Run Check same in absurd (omega (arith, first))
+same_task Work Run same = let first : 119 ≡ 114 = first_letter Work Run same in absurd (omega (arith, first))
+same_task Work Work same = refl
+same_task Work Check same = let first : 119 ≡ 99 = first_letter Work Check same in absurd (omega (arith, first))
+same_task Check Run same = let first : 99 ≡ 114 = first_letter Check Run same in absurd (omega (arith, first))
+same_task Check Work same = let first : 99 ≡ 119 = first_letter Check Work same in absurd (omega (arith, first))
+same_task Check Check same = refl
 
-same_command : (a b : Command) → a.work ≡ b.work → a.limits ≡ b.limits → a ≡ b
-same_command a b work limits = λ i. record { work = work i; limits = limits i }
+same_input : (a b : Task) (limits other : Limits) → a ≡ b → limits ≡ other → Input a limits ≡ Input b other
+same_input a b limits other task same = λ i. Input (task i) (same i)
+
+-- words name one task with its limits at most, and one load
+one_input : (words : List (List ℕ)) (a b : Task) (limits other : Limits) → NamesTask words a limits → NamesTask words b other → Input a limits ≡ Input b other
+one_input words a b limits other first second =
+    let both : task_word a ∷ first.options ≡ task_word b ∷ second.options = sym first.word ∙ second.word in
+    let word : task_word a ≡ task_word b = cc in
+    let options : first.options ≡ second.options = cc in
+    same_input a b limits other (same_task a b word)
+    (names_one second.options limits other (subst (λ (words : List (List ℕ)). NamesLimits words limits) options first.gives) second.gives)
+
+one_load : (words : List (List ℕ)) (a b : LoadNumbers) → NamesLoading words a → NamesLoading words b → Load a ≡ Load b
+one_load words a b first second =
+    let both : codes "load" ∷ first.options ≡ codes "load" ∷ second.options = sym first.word ∙ second.word in
+    let options : first.options ≡ second.options = cc in
+    ap (λ (numbers : LoadNumbers). Load numbers) (names_one_load second.options a b (subst (λ (words : List (List ℕ)). NamesLoad words a) options first.gives) second.gives)
+
+-- the word of a task is no load's
+not_both_words : (words : List (List ℕ)) (task : Task) (limits : Limits) (numbers : LoadNumbers) → NamesTask words task limits → NamesLoading words numbers → ⊥
+not_both_words words task limits numbers first second =
+    let both : task_word task ∷ first.options ≡ codes "load" ∷ second.options = sym first.word ∙ second.word in
+    let word : task_word task ≡ codes "load" = cc in
+    no_load_word task word
 
 -- words name one command at most
 pub one_command : (words : List (List ℕ)) (a b : Command) → Names words a → Names words b → a ≡ b
-one_command words a b first second =
-    let both : work_word a.work ∷ first.options ≡ work_word b.work ∷ second.options = sym first.word ∙ second.word in
-    let word : work_word a.work ≡ work_word b.work = cc in
-    let options : first.options ≡ second.options = cc in
-    same_command a b (same_work a.work b.work word)
-    (names_one second.options a.limits b.limits (subst (λ (words : List (List ℕ)). NamesLimits words a.limits) options first.limits) second.limits)
+one_command words (Input task limits) (Input other more) first second = one_input words task other limits more first second
+one_command words (Input task limits) (Load numbers) first second = absurd (not_both_words words task limits numbers first second)
+one_command words (Load numbers) (Input task limits) first second = absurd (not_both_words words task limits numbers second first)
+one_command words (Load numbers) (Load other) first second = one_load words numbers other first second
 
 -- ---- one status
 
 -- no input is in order and faulty
-not_both : (work : Work) (limits : Limits) (input text : List ℕ) (status : Status) (line : ℕ) (kind : FaultKind) → OwesFor work limits input text status → IsFaultFor work limits input line kind → ⊥
-not_both Run limits input text status line kind owed faulty =
-    let none = text_fault_none limits input owed.0.script owed.0.is_script in
+not_both : (task : Task) (limits : Limits) (input : List ℕ) (status : Status) (line : ℕ) (kind : FaultKind) → IsOrderlyFor task limits input status → IsFaultFor task limits input line kind → ⊥
+not_both Run limits input status line kind orderly faulty =
+    let none = text_fault_none limits input orderly.0.0 orderly.0.1 in
     cc
-not_both Check limits input text status line kind owed faulty = read_if_claim limits input (Err (faults.Bad line kind)) faulty owed.claim owed.is_claim
+not_both Work limits input status line kind orderly faulty =
+    let none = text_fault_none limits input orderly.0.0 orderly.0.1 in
+    cc
+not_both Check limits input status line kind orderly faulty = read_if_claim limits input (Err (faults.Bad line kind)) faulty orderly.1.claim orderly.1.is_claim
 
 -- an input is one claim at most
 one_script : (limits : Limits) (texts : List (List ℕ)) (a b : List Line) → AreScript limits texts a → AreScript limits texts b → a ≡ b
@@ -114,73 +147,114 @@ one_verdict limits claim first second a b verdict other = elim verdict [
 ]
 
 -- an input has one status at most
-one_status : (work : Work) (limits : Limits) (input first second : List ℕ) (a b : Status) → OwesFor work limits input first a → OwesFor work limits input second b → a ≡ b
-one_status Run limits input first second a b owed other = owed.1 ∙ sym other.1
-one_status Check limits input first second a b owed other =
-    let same = one_claim limits owed.wide input owed.claim other.claim owed.is_claim other.is_claim in
-    one_verdict limits other.claim first second a b (subst (λ (claim : Claim). IsVerdict limits claim first a) same owed.verdict) other.verdict
+one_status : (task : Task) (limits : Limits) (input : List ℕ) (a b : Status) → IsOrderlyFor task limits input a → IsOrderlyFor task limits input b → a ≡ b
+one_status Run limits input a b orderly other = orderly.1 ∙ sym other.1
+one_status Work limits input a b orderly other = orderly.1 ∙ sym other.1
+one_status Check limits input a b orderly other =
+    let same = one_claim limits orderly.1.wide input orderly.1.claim other.1.claim orderly.1.is_claim other.1.is_claim in
+    one_verdict limits other.1.claim orderly.0 other.0 a b (subst (λ (claim : Claim). IsVerdict limits claim orderly.0 a) same orderly.1.verdict) other.1.verdict
 
-in_order : (command : Command) (source : Change) (input text : List ℕ) (status : Status) → source.before.bytes ≡ Some input → Makes command source text status → IsInOrder command input status
-in_order command source input text status told made =
+-- an input for which something is owed is in order
+owed_orderly : (task : Task) (limits : Limits) (input text : List ℕ) (status : Status) (old new : Left) → OwesFor task limits input text status old new → IsOrderlyFor task limits input status
+owed_orderly Run limits input text status old new owed = ((owed.0.script, owed.0.is_script), owed.1)
+owed_orderly Work limits input text status old new owed = ((owed.0.script, owed.0.is_script), owed.1)
+owed_orderly Check limits input text status old new owed = (text, owed.0)
+
+in_order : (command : Command) (source : Change) (input text : List ℕ) (status : Status) (old new : Left) → source.before.bytes ≡ Some input → Makes command source text status old new → IsInOrder command input status
+in_order (Input task limits) source input text status old new told made =
     let same = whole_is_told most_bytes source.before.bytes source.after.bytes input made.input told made.whole in
     record {
       few = subst (λ (bytes : List ℕ). length bytes ≤ most_bytes) same made.whole.few;
-      text = text;
-      owed = subst (λ (bytes : List ℕ). Owes command bytes text status) same made.owed;
+      orderly = subst (λ (bytes : List ℕ). IsOrderlyFor task limits bytes status) same (owed_orderly task limits made.input text status old new made.owed);
     }
+in_order (Load numbers) source input text status old new told made = made.ended
 
-is_due : (status : Status) (words : List (List ℕ)) (source sink : Change) (input : List ℕ) → source.before.bytes ≡ Some input → Says status words source sink → IsDue status words input
-is_due Done words source sink input told says = (says.0, says.1, in_order says.0 source input says.2.text Done told says.2.made)
-is_due Illegal words source sink input told says = (says.0, says.1, in_order says.0 source input says.2.text Illegal told says.2.made)
-is_due Usage words source sink input told says = tt
-is_due (BadScript line kind) words source sink input told says =
-    let same = whole_is_told most_bytes source.before.bytes source.after.bytes input says.2.0.input told says.2.0.whole in
-    (says.0, says.1, subst (λ (bytes : List ℕ). length bytes ≤ most_bytes) same says.2.0.whole.few, subst (λ (bytes : List ℕ). IsFault says.0 bytes line kind) same says.2.0.is_first)
-is_due TooLong words source sink input told says = beyond_is_told most_bytes source.before.bytes source.after.bytes input told says.2.0
-is_due ReadFault words source sink input told says = tt
-is_due WriteFault words source sink input told says = (says.0, says.1, says.2.status, in_order says.0 source input says.2.text says.2.status told says.2.made)
-is_due OutOfMemory words source sink input told says = tt
+-- a faulty line is one of the input that the source tells
+is_faulty : (command : Command) (source : Change) (input : List ℕ) (line : ℕ) (kind : FaultKind) → source.before.bytes ≡ Some input → Refuses command (BadScript line kind) source → (length input ≤ most_bytes) × IsFault command input line kind
+is_faulty (Input task limits) source input line kind told refused =
+    let same = whole_is_told most_bytes source.before.bytes source.after.bytes input refused.input told refused.whole in
+    (subst (λ (bytes : List ℕ). length bytes ≤ most_bytes) same refused.whole.few, subst (λ (bytes : List ℕ). IsFaultFor task limits bytes line kind) same refused.is_first)
+is_faulty (Load numbers) source input line kind told refused = absurd refused
+
+-- too long is the input that the source tells
+is_long : (command : Command) (source : Change) (input : List ℕ) → source.before.bytes ≡ Some input → Refuses command TooLong source → most_bytes < length input
+is_long (Input task limits) source input told refused = beyond_is_told most_bytes source.before.bytes source.after.bytes input told refused
+is_long (Load numbers) source input told refused = absurd refused
+
+-- where reading failed the source did
+has_failed : (command : Command) (source : Change) → Refuses command ReadFault source → HasFailed source
+has_failed (Input task limits) source refused = refused.failed
+has_failed (Load numbers) source refused = absurd refused
+
+-- what is in order isn't faulty
+not_faulty : (command : Command) (input : List ℕ) (status : Status) (line : ℕ) (kind : FaultKind) → IsInOrder command input status → IsFault command input line kind → ⊥
+not_faulty (Input task limits) input status line kind order faulty = not_both task limits input status line kind order.orderly faulty
+not_faulty (Load numbers) input status line kind order faulty = faulty
+
+-- what is in order isn't too long
+not_long : (command : Command) (source : Change) (input : List ℕ) (status : Status) → source.before.bytes ≡ Some input → IsInOrder command input status → Refuses command TooLong source → ⊥
+not_long (Input task limits) source input status told order refused =
+    omega (arith, order.few, beyond_is_told most_bytes source.before.bytes source.after.bytes input told refused)
+not_long (Load numbers) source input status told order refused = refused
+
+is_due : (status : Status) (words : List (List ℕ)) (source sink : Change) (old new : Left) (input : List ℕ) → source.before.bytes ≡ Some input → Says status words source sink old new → IsDue status words input
+is_due Done words source sink old new input told says = (says.0, says.1, in_order says.0 source input says.2.text Done old new told says.2.made)
+is_due Illegal words source sink old new input told says = (says.0, says.1, in_order says.0 source input says.2.text Illegal old new told says.2.made)
+is_due Usage words source sink old new input told says = tt
+is_due (BadScript line kind) words source sink old new input told says =
+    let faulty = is_faulty says.0 source input line kind told says.2.0 in
+    (says.0, says.1, faulty.0, faulty.1)
+is_due TooLong words source sink old new input told says = is_long says.0 source input told says.2.0
+is_due ReadFault words source sink old new input told says = tt
+is_due WriteFault words source sink old new input told says = (says.0, says.1, says.2.status, in_order says.0 source input says.2.text says.2.status old new told says.2.made)
+is_due OutOfMemory words source sink old new input told says = tt
 
 -- the status is due to the input that the source tells
-pub due : (status : Status) (words : List (List ℕ)) (source sink : Change) → Says status words source sink → IfSome source.before.bytes (λ input. IsDue status words input)
-due status words source sink says = told_or_not source.before.bytes (λ input told. is_due status words source sink input told says)
+pub due : (status : Status) (words : List (List ℕ)) (source sink : Change) (old new : Left) → Says status words source sink old new → IfSome source.before.bytes (λ input. IsDue status words input)
+due status words source sink old new says = told_or_not source.before.bytes (λ input told. is_due status words source sink old new input told says)
   where
     told_or_not : (bytes : Option (List ℕ)) → ((input : List ℕ) → bytes ≡ Some input → IsDue status words input) → IfSome bytes (λ input. IsDue status words input)
     told_or_not None all = tt
     told_or_not (Some input) all = all input refl
 
 -- Usage says that the words are no command line, and any other status but want of memory that they are
-pub usage : (status : Status) (words : List (List ℕ)) (source sink : Change) → Says status words source sink → IsUsage status words
-usage Done words source sink says = record { only = λ same. absurd (cc); due = λ none. absurd (none says.0 says.1) }
-usage Illegal words source sink says = record { only = λ same. absurd (cc); due = λ none. absurd (none says.0 says.1) }
-usage Usage words source sink says = record { only = λ same. says.0; due = λ none. inl refl }
-usage (BadScript line kind) words source sink says = record { only = λ same. absurd (cc); due = λ none. absurd (none says.0 says.1) }
-usage TooLong words source sink says = record { only = λ same. absurd (cc); due = λ none. absurd (none says.0 says.1) }
-usage ReadFault words source sink says = record { only = λ same. absurd (cc); due = λ none. absurd (none says.0 says.1) }
-usage WriteFault words source sink says = record { only = λ same. absurd (cc); due = λ none. absurd (none says.0 says.1) }
-usage OutOfMemory words source sink says = record { only = λ same. absurd (cc); due = λ none. inr refl }
+pub usage : (status : Status) (words : List (List ℕ)) (source sink : Change) (old new : Left) → Says status words source sink old new → IsUsage status words
+usage Done words source sink old new says = record { only = λ same. absurd (cc); due = λ none. absurd (none says.0 says.1) }
+usage Illegal words source sink old new says = record { only = λ same. absurd (cc); due = λ none. absurd (none says.0 says.1) }
+usage Usage words source sink old new says = record { only = λ same. says.0; due = λ none. inl refl }
+usage (BadScript line kind) words source sink old new says = record { only = λ same. absurd (cc); due = λ none. absurd (none says.0 says.1) }
+usage TooLong words source sink old new says = record { only = λ same. absurd (cc); due = λ none. absurd (none says.0 says.1) }
+usage ReadFault words source sink old new says = record { only = λ same. absurd (cc); due = λ none. absurd (none says.0 says.1) }
+usage WriteFault words source sink old new says = record { only = λ same. absurd (cc); due = λ none. absurd (none says.0 says.1) }
+usage OutOfMemory words source sink old new says = record { only = λ same. absurd (cc); due = λ none. inr refl }
+
+-- a command has one status at most for what its source tells
+one_due : (command : Command) (input : List ℕ) (a b : Status) → IsInOrder command input a → IsInOrder command input b → a ≡ b
+one_due (Input task limits) input a b first second = one_status task limits input a b first.orderly second.orderly
+one_due (Load numbers) input a b first second = first ∙ sym second
 
 -- two orders of one input under the commands of the same words have one status
 agree : (words : List (List ℕ)) (command other : Command) (input : List ℕ) (status due : Status) → Names words command → Names words other → IsInOrder command input status → IsInOrder other input due → status ≡ due
 agree words command other input status due names named order expected =
     let same = one_command words command other names named in
-    one_status other.work other.limits input order.text expected.text status due (subst (λ (c : Command). Owes c input order.text status) same order.owed) expected.owed
+    one_due other input status due (subst (λ (c : Command). IsInOrder c input status) same order) expected
 
 -- without a fault of an end, the status is the one that is due, or memory was wanting
-pub complete : (status : Status) (words : List (List ℕ)) (source sink : Change) → Says status words source sink → IsComplete status words source sink
-complete Done words source sink says command input due names told order reads writes =
-    let own = is_due Done words source sink input told says in
+pub complete : (status : Status) (words : List (List ℕ)) (source sink : Change) (old new : Left) → Says status words source sink old new → IsComplete status words source sink
+complete Done words source sink old new says command input due names told order reads writes =
+    let own = is_due Done words source sink old new input told says in
     inl (agree words own.0 command input Done due own.1 names own.2 order)
-complete Illegal words source sink says command input due names told order reads writes =
-    let own = is_due Illegal words source sink input told says in
+complete Illegal words source sink old new says command input due names told order reads writes =
+    let own = is_due Illegal words source sink old new input told says in
     inl (agree words own.0 command input Illegal due own.1 names own.2 order)
-complete Usage words source sink says command input due names told order reads writes = absurd (says.0 command names)
-complete (BadScript line kind) words source sink says command input due names told order reads writes =
-    let own = is_due (BadScript line kind) words source sink input told says in
+complete Usage words source sink old new says command input due names told order reads writes = absurd (says.0 command names)
+complete (BadScript line kind) words source sink old new says command input due names told order reads writes =
+    let own = is_due (BadScript line kind) words source sink old new input told says in
     let same = one_command words own.0 command own.1 names in
-    absurd (not_both command.work command.limits input order.text due line kind order.owed (subst (λ (c : Command). IsFault c input line kind) same own.3))
-complete TooLong words source sink says command input due names told order reads writes =
-    absurd (omega (arith, order.few, is_due TooLong words source sink input told says))
-complete ReadFault words source sink says command input due names told order reads writes = absurd (reads says.2.0.failed)
-complete WriteFault words source sink says command input due names told order reads writes = absurd (writes says.2.failed)
-complete OutOfMemory words source sink says command input due names told order reads writes = inr refl
+    absurd (not_faulty command input due line kind order (subst (λ (c : Command). IsFault c input line kind) same own.3))
+complete TooLong words source sink old new says command input due names told order reads writes =
+    let same = one_command words says.0 command says.1 names in
+    absurd (not_long command source input due told order (subst (λ (c : Command). Refuses c TooLong source) same says.2.0))
+complete ReadFault words source sink old new says command input due names told order reads writes = absurd (reads (has_failed says.0 source says.2.0))
+complete WriteFault words source sink old new says command input due names told order reads writes = absurd (writes says.2.failed)
+complete OutOfMemory words source sink old new says command input due names told order reads writes = inr refl

@@ -1,6 +1,9 @@
 mod Running
 mod Matched
+mod Naming
 mod LinesFit
 mod Answers
 mod Leaving
+mod Loads
 mod Others
+mod Processes

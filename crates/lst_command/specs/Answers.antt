@@ -1,17 +1,19 @@
--- What each status says: of the words, of what was read, and of what was written.
+-- What each status says: of the words, of what was read, of what was written, and of what is left to the caller.
 use Rattle.std.specs.Prelude.{◌≡◌, ◌⊎◌, ℕ, ◌≤◌, ◌<◌, List, [], Option, Some, length, take}
 use Rattle.std.specs.Io.KnownBytes.{Appends}
 use Rattle.lst_io.specs.Faults.{Rose}
 use Rattle.lst_io.specs.Inputs.{IsWholeInput, ReadsWithin, ReadsBeyond}
-use Rattle.lst_rule.specs.declared.store.Store.{Store}
 use Rattle.lst_script.specs.declared.faults.FaultKind.{FaultKind}
-use Rattle.lst_session.specs.declared.crew.Crew.{Crew}
+use Rattle.lst_layout.specs.declared.limits.Limits.{Limits}
+use Rattle.lst_options.specs.declared.load.LoadNumbers.{LoadNumbers}
 use Rattle.lst_command.specs.declared.command.Command.{Command}
+use Rattle.lst_command.specs.declared.command.Command.TheVariants.{Input, Load}
+use Rattle.lst_command.specs.declared.command.Task.{Task}
 use Rattle.lst_command.specs.declared.status.Status.{Status}
 use Rattle.lst_command.specs.declared.status.Status.TheVariants.{Done, Illegal, Usage, BadScript, TooLong, ReadFault, WriteFault, OutOfMemory}
 use Rattle.lst_command.specs.Commands.{Names, NamesNone}
-use Rattle.lst_command.specs.Owed.{Owes, IsFault, IsInOrder, most_bytes}
-use Rattle.lst_command.specs.Lefts.{LeavesFor}
+use Rattle.lst_command.specs.Owed.{OwesFor, OwesLoad, IsFault, IsFaultFor, IsInOrder, most_bytes}
+use Rattle.lst_command.specs.Runs.{Left}
 use Rattle.lst_command.specs.Statuses.{error_line}
 
 -- ---- an end of the program, before a call and after it
@@ -46,66 +48,93 @@ abbrev pub ReadsInput : Change → List ℕ → Type 0
 ReadsInput source input = IsWholeInput most_bytes source.before.bytes source.after.bytes input
 
 -- the whole input, and this is its first faulty line
-pub record ReadsFault (command : Command) (source : Change) (line : ℕ) (kind : FaultKind) : Type 0 where
+pub record ReadsFault (task : Task) (limits : Limits) (source : Change) (line : ℕ) (kind : FaultKind) : Type 0 where
   pub input : List ℕ
   pub whole : ReadsInput source input
-  pub is_first : IsFault command input line kind
+  pub is_first : IsFaultFor task limits input line kind
 
 -- no more bytes than an input may have, before the source failed
 pub record FailsToRead (source : Change) : Type 0 where
   pub part : ReadsWithin most_bytes source.before.bytes source.after.bytes
   pub failed : HasFailed source
 
--- the whole input, which is in order, and what the command owes for it
-pub record Makes (command : Command) (source : Change) (text : List ℕ) (status : Status) : Type 0 where
+-- ---- what was made
+
+-- the whole input was read, which is in order, and this is what the task owes for it: this text and status, and what is left
+pub record MakesOfInput (task : Task) (limits : Limits) (source : Change) (text : List ℕ) (status : Status) (old new : Left) : Type 0 where
   pub input : List ℕ
   pub whole : ReadsInput source input
-  pub owed : Owes command input text status
+  pub owed : OwesFor task limits input text status old new
+
+-- nothing was read, and this is what the load owes
+pub record MakesOfLoad (numbers : LoadNumbers) (source : Change) (text : List ℕ) (status : Status) (new : Left) : Type 0 where
+  pub unread : IsUntouched source
+  pub owed : OwesLoad numbers text new
+  pub ended : status ≡ Done
+
+abbrev pub Makes : Command → Change → List ℕ → Status → Left → Left → Type 0
+Makes (Input task limits) source text status old new = MakesOfInput task limits source text status old new
+Makes (Load numbers) source text status old new = MakesOfLoad numbers source text status new
 
 -- ---- what was written
 
--- all that the command owes
-pub record Writes (command : Command) (source sink : Change) (status : Status) : Type 0 where
+-- all that the command makes
+pub record Writes (command : Command) (source sink : Change) (status : Status) (old new : Left) : Type 0 where
   pub text : List ℕ
-  pub made : Makes command source text status
+  pub made : Makes command source text status old new
   pub written : Appends sink.before.bytes sink.after.bytes text
 
 -- a front of it, before the sink failed
-pub record WritesInPart (command : Command) (source sink : Change) : Type 0 where
+pub record WritesInPart (command : Command) (source sink : Change) (old new : Left) : Type 0 where
   pub text : List ℕ
   pub status : Status
-  pub made : Makes command source text status
+  pub made : Makes command source text status old new
   pub count : ℕ
   pub written : Appends sink.before.bytes sink.after.bytes (take count text)
   pub failed : HasFailed sink
 
+-- nothing, and nothing else is left than before
+pub record WritesNothing (sink : Change) (old new : Left) : Type 0 where
+  pub unwritten : IsUntouched sink
+  pub same : new ≡ old
+
 -- ---- the statuses
 
--- what a status says of the input where no output is owed
-abbrev pub Refuses : Command → Status → Change → Type 0
-Refuses command (BadScript line kind) source = ReadsFault command source line kind
-Refuses command TooLong source = ReadsBeyond most_bytes source.before.bytes source.after.bytes
-Refuses command ReadFault source = FailsToRead source
-Refuses command OutOfMemory source = ReadsWithin most_bytes source.before.bytes source.after.bytes
-Refuses command status source = ⊥
+-- what a status says of the input of a task where no output is owed
+abbrev pub RefusesInput : Task → Limits → Status → Change → Type 0
+RefusesInput task limits (BadScript line kind) source = ReadsFault task limits source line kind
+RefusesInput task limits TooLong source = ReadsBeyond most_bytes source.before.bytes source.after.bytes
+RefusesInput task limits ReadFault source = FailsToRead source
+RefusesInput task limits OutOfMemory source = ReadsWithin most_bytes source.before.bytes source.after.bytes
+RefusesInput task limits status source = ⊥
 
--- what a status says of the command that the words name: its output was written, or in part, or nothing was
-abbrev pub SaysOf : Command → Status → Change → Change → Type 0
-SaysOf command Done source sink = Writes command source sink Done
-SaysOf command Illegal source sink = Writes command source sink Illegal
-SaysOf command WriteFault source sink = WritesInPart command source sink
-SaysOf command status source sink = Refuses command status source × IsUntouched sink
+-- what it says of a load: memory alone may be wanting, and nothing was read
+abbrev pub RefusesLoad : Status → Change → Type 0
+RefusesLoad OutOfMemory source = IsUntouched source
+RefusesLoad status source = ⊥
+
+abbrev pub Refuses : Command → Status → Change → Type 0
+Refuses (Input task limits) status source = RefusesInput task limits status source
+Refuses (Load numbers) status source = RefusesLoad status source
+
+-- What a status says of the command that the words name: its output was written, or in part, or nothing was. What is left to the caller was made of
+-- the very input of which the output was.
+abbrev pub SaysOf : Command → Status → Change → Change → Left → Left → Type 0
+SaysOf command Done source sink old new = Writes command source sink Done old new
+SaysOf command Illegal source sink old new = Writes command source sink Illegal old new
+SaysOf command WriteFault source sink old new = WritesInPart command source sink old new
+SaysOf command status source sink old new = Refuses command status source × WritesNothing sink old new
 
 -- the words name a command, of which the status says this
-abbrev pub SaysOfNamed : Status → List (List ℕ) → Change → Change → Type 0
-SaysOfNamed status words source sink = (command : Command) × Names words command × SaysOf command status source sink
+abbrev pub SaysOfNamed : Status → List (List ℕ) → Change → Change → Left → Left → Type 0
+SaysOfNamed status words source sink old new = (command : Command) × Names words command × SaysOf command status source sink old new
 
 -- what a status says. Usage: that the words are no command line, and that nothing was read or written. OutOfMemory: that memory was wanting for the
--- words, before anything was read, or later. Any other: that the words are a command line, and what was read and written
-abbrev pub Says : Status → List (List ℕ) → Change → Change → Type 0
-Says Usage words source sink = NamesNone words × IsUntouched source × IsUntouched sink
-Says OutOfMemory words source sink = (IsUntouched source × IsUntouched sink) ⊎ SaysOfNamed OutOfMemory words source sink
-Says status words source sink = SaysOfNamed status words source sink
+-- words, before anything was read, or later. Any other: that the words are a command line, and what was read, written and left
+abbrev pub Says : Status → List (List ℕ) → Change → Change → Left → Left → Type 0
+Says Usage words source sink old new = NamesNone words × IsUntouched source × WritesNothing sink old new
+Says OutOfMemory words source sink old new = (IsUntouched source × WritesNothing sink old new) ⊎ SaysOfNamed OutOfMemory words source sink old new
+Says status words source sink old new = SaysOfNamed status words source sink old new
 
 -- Usage comes only where the words are no command line, and there it comes, or memory was wanting for the words
 pub record IsUsage (status : Status) (words : List (List ℕ)) : Type 0 where
@@ -114,7 +143,8 @@ pub record IsUsage (status : Status) (words : List (List ℕ)) : Type 0 where
 
 -- ---- what is due
 
--- what a status says of the input that the source tells: the status is due to it, unless an end failed or memory was wanting
+-- what a status says of the input that the source tells: the status is due to it, unless an end failed or memory was wanting. To a load Done is due, whatever
+-- the input
 abbrev pub IsDue : Status → List (List ℕ) → List ℕ → Type 0
 IsDue Done words input = (command : Command) × Names words command × IsInOrder command input Done
 IsDue Illegal words input = (command : Command) × Names words command × IsInOrder command input Illegal
@@ -127,19 +157,6 @@ IsDue status words input = Unit {0}
 abbrev pub IsComplete : Status → List (List ℕ) → Change → Change → Type 0
 IsComplete status words source sink = (command : Command) (input : List ℕ) (due : Status) → Names words command → source.before.bytes ≡ Some input
     → IsInOrder command input due → ¬ HasFailed source → ¬ HasFailed sink → (status ≡ due) ⊎ (status ≡ OutOfMemory)
-
--- ---- what is left
-
--- the words name a command, and it leaves this for the input that was read
-abbrev pub LeavesOfNamed : List (List ℕ) → Change → Option (Store × Crew) → Option (Store × Crew) → Type 0
-LeavesOfNamed words source old new =
-    (command : Command) × Names words command × (input : List ℕ) × ReadsInput source input × LeavesFor command.work command.limits input old new
-
--- where the work was done, its store and crew are left, and elsewhere nothing changes
-abbrev pub Leaves : Status → List (List ℕ) → Change → Option (Store × Crew) → Option (Store × Crew) → Type 0
-Leaves Done words source old new = LeavesOfNamed words source old new
-Leaves WriteFault words source old new = LeavesOfNamed words source old new
-Leaves status words source old new = new ≡ old
 
 -- ---- the sink of errors
 

@@ -1,20 +1,36 @@
 -- The commands of a command line.
-use Rattle.std.specs.Prelude.{◌≡◌, ◌⊎◌, ℕ, List, ◌∷◌, Option, Some, None, codes}
-use Rattle.lst_options.specs.Options.{NamesLimits}
+use Rattle.std.specs.Prelude.{◌≡◌, ℕ, List, ◌∷◌, Option, Some, None, codes}
+use Rattle.lst_layout.specs.declared.limits.Limits.{Limits}
+use Rattle.lst_layout.specs.Limits.{IsValid}
+use Rattle.lst_options.specs.declared.load.LoadNumbers.{LoadNumbers}
+use Rattle.lst_options.specs.Options.{IsLoadable, NamesLimits, NamesLoad}
 use Rattle.lst_command.specs.declared.command.Command.{Command}
-use Rattle.lst_command.specs.declared.command.Work.{Work}
-use Rattle.lst_command.specs.declared.command.Work.TheVariants.{Run, Check}
+use Rattle.lst_command.specs.declared.command.Command.TheVariants.{Input, Load}
+use Rattle.lst_command.specs.declared.command.Task.{Task}
+use Rattle.lst_command.specs.declared.command.Task.TheVariants.{Run, Work, Check}
 
--- the word of a work
-abbrev pub work_word : Work → List ℕ
-work_word Run = codes "run"
-work_word Check = codes "check"
+-- the word of a task
+abbrev pub task_word : Task → List ℕ
+task_word Run = codes "run"
+task_word Work = codes "work"
+task_word Check = codes "check"
 
--- the words are the word of the command's work, and behind it options that name its limits
-pub record Names (words : List (List ℕ)) (command : Command) : Type 0 where
+-- the words are the word of the task, and behind it options that name these limits
+pub record NamesTask (words : List (List ℕ)) (task : Task) (limits : Limits) : Type 0 where
   pub options : List (List ℕ)
-  pub word : words ≡ work_word command.work ∷ options
-  pub limits : NamesLimits options command.limits
+  pub word : words ≡ task_word task ∷ options
+  pub gives : NamesLimits options limits
+
+-- the words are the word of a load, and behind it options that name its numbers
+pub record NamesLoading (words : List (List ℕ)) (numbers : LoadNumbers) : Type 0 where
+  pub options : List (List ℕ)
+  pub word : words ≡ codes "load" ∷ options
+  pub gives : NamesLoad options numbers
+
+-- the words name this command
+abbrev pub Names : List (List ℕ) → Command → Type 0
+Names words (Input task limits) = NamesTask words task limits
+Names words (Load numbers) = NamesLoading words numbers
 
 -- the words are no command line
 abbrev pub NamesNone : List (List ℕ) → Type 0
@@ -24,3 +40,8 @@ NamesNone words = (command : Command) → ¬ Names words command
 abbrev pub TellsCommand : List (List ℕ) → Option Command → Type 0
 TellsCommand words (Some command) = Names words command
 TellsCommand words None = NamesNone words
+
+-- a command has limits of a store, or numbers of a load
+abbrev pub IsRunnable : Command → Type 0
+IsRunnable (Input task limits) = IsValid limits
+IsRunnable (Load numbers) = IsLoadable numbers

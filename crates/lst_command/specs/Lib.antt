@@ -1,9 +1,9 @@
 pub mod Statuses
 pub mod Commands
-pub mod Owed
 pub mod Runs
-pub mod Lefts
+pub mod Owed
 pub mod Answers
+pub mod Loads
 pub mod Outputs
 pub mod Programs
 pub mod Merges

@@ -1,34 +1,67 @@
--- What a command owes for an input.
-use Rattle.std.specs.Prelude.{◌≡◌, ◌⊎◌, ℕ, ◌≤◌, ◌<◌, List, length, Some, codes}
+-- What a command owes, a task for its input: its output, its status, and what it leaves to its caller.
+use Rattle.std.specs.Prelude.{◌≡◌, ◌⊎◌, ℕ, ◌*◌, ◌≤◌, ◌<◌, List, ◌++◌, length, Some, codes, decimal}
 use Rattle.lst_model.specs.declared.lines.Line.{Line}
+use Rattle.lst_layout.specs.declared.layout.Layout.{Layout}
 use Rattle.lst_layout.specs.declared.limits.Limits.{Limits}
+use Rattle.lst_legal_work.specs.Worked.{IsWorked}
+use Rattle.lst_load.specs.declared.loading.Loaded.{Loaded}
+use Rattle.lst_load.specs.Loaded.{IsLoaded}
 use Rattle.lst_machine.specs.State.{opening}
 use Rattle.lst_machine.specs.Machine.{replies}
+use Rattle.lst_options.specs.declared.load.LoadNumbers.{LoadNumbers}
+use Rattle.lst_replies.specs.declared.reports.Report.{Report}
 use Rattle.lst_replies.specs.Legal.{IsLegalReport}
+use Rattle.lst_replies.specs.ReportTexts.{report_text}
 use Rattle.lst_replies.specs.Texts.{script_text}
 use Rattle.lst_report.specs.Claims.{IsClaim, IsFaultAt}
 use Rattle.lst_report.specs.declared.claims.Claim.{Claim}
+use Rattle.lst_rule.specs.declared.store.Store.{Store}
 use Rattle.lst_script.specs.Scripts.{IsScript, text_fault}
 use Rattle.lst_script.specs.declared.faults.FaultKind.{FaultKind}
+use Rattle.lst_session.specs.declared.crew.Crew.{Crew}
 use Rattle.lst_command.specs.declared.command.Command.{Command}
-use Rattle.lst_command.specs.declared.command.Work.{Work}
-use Rattle.lst_command.specs.declared.command.Work.TheVariants.{Run, Check}
+use Rattle.lst_command.specs.declared.command.Command.TheVariants.{Input, Load}
+use Rattle.lst_command.specs.declared.command.Task.{Task}
+use Rattle.lst_command.specs.declared.command.Task.TheVariants.{Run, Work, Check}
 use Rattle.lst_command.specs.declared.status.Status.{Status}
 use Rattle.lst_command.specs.declared.status.Status.TheVariants.{Done, Illegal}
+use Rattle.lst_command.specs.Runs.{Left, LeftBy}
 
 -- how many bytes an input may have
 abbrev pub most_bytes : ℕ
 most_bytes = 16777216
 
+-- ---- what a run owes
+
 -- what a whole script is answered under these limits
 abbrev pub run_text : Limits → List Line → List ℕ
 run_text limits script = script_text script (replies limits opening script)
 
--- the input is a script, and this is what it is answered
-pub record OwesAnswers (limits : Limits) (input text : List ℕ) : Type 0 where
+-- the input is this script, the text is what it is answered, and this store and crew are left, which tell the machine's state after its last line
+pub record OwesAnswers (limits : Limits) (input text : List ℕ) (left : Left) : Type 0 where
   pub script : List Line
   pub is_script : IsScript limits input script
   pub is_text : text ≡ run_text limits script
+  pub both : Store × Crew
+  pub is_left : left ≡ Some both
+  pub by : LeftBy limits script both
+
+-- ---- what sessions at work owe
+
+-- the input is this script, the text is that of this report, and this store and crew are left: the sessions of the store have worked on the script,
+-- and under the history that the crew tells the report is legal for it
+pub record OwesReport (limits : Limits) (input text : List ℕ) (left : Left) : Type 0 where
+  pub script : List Line
+  pub is_script : IsScript limits input script
+  pub report : Report
+  pub is_text : text ≡ report_text report
+  pub both : Store × Crew
+  pub is_left : left ≡ Some both
+  pub layout : Layout
+  pub limited : layout.limits ≡ limits
+  pub by : IsWorked layout script report both.0 both.1
+
+-- ---- what a check owes
 
 -- the report is legal for the script, and the verdict says so, or it isn't, and the verdict says that
 abbrev pub IsVerdict : Limits → Claim → List ℕ → Status → Type 0
@@ -42,24 +75,63 @@ pub record OwesVerdict (limits : Limits) (input text : List ℕ) (status : Statu
   pub is_claim : IsClaim limits input claim
   pub verdict : IsVerdict limits claim text status
 
--- the input is in order for this work, which comes to this text and, where the text is written, to this status
-abbrev pub OwesFor : Work → Limits → List ℕ → List ℕ → Status → Type 0
-OwesFor Run limits input text status = OwesAnswers limits input text × (status ≡ Done)
-OwesFor Check limits input text status = OwesVerdict limits input text status
+-- ---- what a load owes
 
-abbrev pub Owes : Command → List ℕ → List ℕ → Status → Type 0
-Owes command input text status = OwesFor command.work command.limits input text status
+-- a word and a number behind it, on a line
+abbrev pub number_line : List ℕ → ℕ → List ℕ
+number_line word number = word ++ decimal number ++ codes "\n"
 
--- the input's first faulty line for this work
-abbrev pub IsFaultFor : Work → Limits → List ℕ → ℕ → FaultKind → Type 0
+-- how many rows there are, and what they add up to
+abbrev pub load_text : ℕ → ℕ → List ℕ
+load_text rows total = number_line (codes "rows ") rows ++ number_line (codes "total ") total
+
+-- the text tells as many rows as there are keys, and 1,000 for each, and this store and crew are left: the sessions of the store have worked on the
+-- script that the seed generates, and the table that its commits make has so many rows, with that total
+pub record OwesLoad (numbers : LoadNumbers) (text : List ℕ) (left : Left) : Type 0 where
+  pub is_text : text ≡ load_text numbers.keys (1000 * numbers.keys)
+  pub loaded : Loaded
+  pub both : Store × Crew
+  pub is_left : left ≡ Some both
+  pub by : IsLoaded numbers.seed numbers.keys numbers.sessions loaded both.0 both.1
+
+-- ---- what a task owes
+
+-- The input is in order for this task, which comes to this text and, where the text is written, to this status. Where `old` was left before, `new` is
+-- left now: what the task made, and by a check what there was.
+abbrev pub OwesFor : Task → Limits → List ℕ → List ℕ → Status → Left → Left → Type 0
+OwesFor Run limits input text status old new = OwesAnswers limits input text new × (status ≡ Done)
+OwesFor Work limits input text status old new = OwesReport limits input text new × (status ≡ Done)
+OwesFor Check limits input text status old new = OwesVerdict limits input text status × (new ≡ old)
+
+-- the input's first faulty line for this task
+abbrev pub IsFaultFor : Task → Limits → List ℕ → ℕ → FaultKind → Type 0
 IsFaultFor Run limits input line kind = text_fault limits input ≡ Some (line, kind)
+IsFaultFor Work limits input line kind = text_fault limits input ≡ Some (line, kind)
 IsFaultFor Check limits input line kind = IsFaultAt limits input line kind
 
+-- a load has no input
 abbrev pub IsFault : Command → List ℕ → ℕ → FaultKind → Type 0
-IsFault command input line kind = IsFaultFor command.work command.limits input line kind
+IsFault (Input task limits) input line kind = IsFaultFor task limits input line kind
+IsFault (Load numbers) input line kind = ⊥
 
--- the input isn't too long, is in order, and this status is due to it
-pub record IsInOrder (command : Command) (input : List ℕ) (status : Status) : Type 0 where
+-- ---- when an input is in order
+
+-- the input is a script
+abbrev pub IsAnyScript : Limits → List ℕ → Type 0
+IsAnyScript limits input = (script : List Line) × IsScript limits input script
+
+-- the input is in order for this task, and this status is due to it where the output is written: the text of sessions at work may be one of many
+abbrev pub IsOrderlyFor : Task → Limits → List ℕ → Status → Type 0
+IsOrderlyFor Run limits input status = IsAnyScript limits input × (status ≡ Done)
+IsOrderlyFor Work limits input status = IsAnyScript limits input × (status ≡ Done)
+IsOrderlyFor Check limits input status = (text : List ℕ) × OwesVerdict limits input text status
+
+-- the input isn't too long, is in order for this task, and this status is due to it
+pub record IsInOrderFor (task : Task) (limits : Limits) (input : List ℕ) (status : Status) : Type 0 where
   pub few : length input ≤ most_bytes
-  pub text : List ℕ
-  pub owed : Owes command input text status
+  pub orderly : IsOrderlyFor task limits input status
+
+-- the command is in order with what its source tells, and this status is due to it: a load is, whatever that is, since it reads nothing
+abbrev pub IsInOrder : Command → List ℕ → Status → Type 0
+IsInOrder (Input task limits) input status = IsInOrderFor task limits input status
+IsInOrder (Load numbers) input status = status ≡ Done

@@ -1,5 +1,5 @@
 -- A script that is run line by line, and what it leaves.
-use Rattle.std.specs.Prelude.{◌≡◌, ℕ, List, ◌++◌}
+use Rattle.std.specs.Prelude.{◌≡◌, ℕ, List, ◌++◌, Option}
 use Rattle.lst_layout.specs.declared.limits.Limits.{Limits}
 use Rattle.lst_model.specs.declared.lines.Line.{Line}
 use Rattle.lst_model.specs.Lines.{LineFits}
@@ -19,6 +19,10 @@ IsTaken limits line = LineFits limits.sessions limits.ranges limits.columns line
 pub record HasRun (limits : Limits) (v : View) (text : List ℕ) (rest : List Line) (whole : List ℕ) (last : State) : Type 0 where
   pub written : text ++ script_text rest (replies limits (state_told v) rest) ≡ whole
   pub ends : state_after limits (state_told v) rest ≡ last
+
+-- what a caller has of a call: a store and the crew that hosts all of it, if it has any
+abbrev pub Left : Type 0
+Left = Option (Store × Crew)
 
 -- a store with these limits and its crew, which tells the machine's state after the last line of the script
 pub record LeftBy (limits : Limits) (script : List Line) (left : Store × Crew) : Type 0 where

@@ -2,6 +2,8 @@
 use Rattle.std.specs.Prelude.{ℕ, List, [], ◌++◌, codes, decimal}
 use Rattle.lst_command.specs.declared.status.Status.{Status}
 use Rattle.lst_command.specs.declared.status.Status.TheVariants.{Done, Illegal, Usage, BadScript, TooLong, ReadFault, WriteFault, OutOfMemory}
+use Rattle.lst_script.specs.declared.faults.ScriptFault.{ScriptFault}
+use Rattle.lst_script.specs.declared.faults.ScriptFault.TheVariants as faults
 use Rattle.lst_script.specs.FaultTexts.{fault_text}
 
 abbrev pub status_code : Status → ℕ
@@ -24,3 +26,8 @@ error_line TooLong = codes "lstore: input too long\n"
 error_line ReadFault = codes "lstore: read failed\n"
 error_line WriteFault = codes "lstore: write failed\n"
 error_line OutOfMemory = codes "lstore: out of memory\n"
+
+-- the status of an input that isn't in order, or for which memory was wanting
+abbrev pub fault_status : ScriptFault → Status
+fault_status (faults.Bad line kind) = BadScript line kind
+fault_status faults.OutOfMemory = OutOfMemory

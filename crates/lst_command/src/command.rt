@@ -1,57 +1,94 @@
 //! The command that the words of a command line name.
-ghost use Rattle.std.specs.Prelude.{◌≡◌, ◌↔◌, IsTrue, IfOk, IfSome, Some, None, map, slice_get, string_bytes};
-ghost use Rattle.lst_layout.specs.Limits.{IsValid};
-ghost use Rattle.lst_command.specs.declared.command.Work.{Work as WorkNamed};
-ghost use Rattle.lst_command.specs.Commands.{TellsCommand, work_word};
+ghost use Rattle.std.specs.Prelude.{◌≡◌, ◌↔◌, IsTrue, IfOk, IfSome, Some, None, codes, map, slice_get, string_bytes};
+ghost use Rattle.lst_command.specs.declared.command.Task.{Task as TaskNamed};
+ghost use Rattle.lst_command.specs.Commands.{IsRunnable, TellsCommand, task_word};
 
 use lst_layout::Limits;
 use lst_model::OutOfMemory;
-use lst_options::limits_of_words;
+use lst_options::{LoadNumbers, limits_of_words, load_of_words};
 use std::alloc::Global;
 
 /// What is done with an input.
 #[derive(Clone, Copy, Debug, PartialEq, Eq)]
-pub enum Work {
-    /// The input is a script, which is run: `run`.
+pub enum Task {
+    /// The input is a script, which is run line by line: `run`.
     Run,
+    /// The input is a script, on which all sessions work side by side: `work`.
+    Work,
     /// The input is a script with a report, which is judged: `check`.
     Check,
 }
 
-/// What is to be done, and the limits of the store for which it is done.
+/// What is to be done.
 #[derive(Clone, Copy, Debug, PartialEq, Eq)]
-pub struct Command {
-    pub work: Work,
-    pub limits: Limits,
+pub enum Command {
+    /// A task on an input, and the limits of the store for which it is done.
+    Input { task: Task, limits: Limits },
+    /// A script is generated from these numbers, on which all sessions of a new store work: `load`.
+    Load { numbers: LoadNumbers },
 }
 
 /// The command that words name, or None where they are no command line. The only error is want of memory.
 pub(crate) fn command_of(alloc: Global, words: &[String]) -> Result<Option<Command>, OutOfMemory>
     ensures told { IfOk result (TellsCommand (map string_bytes words.now)) }
-    ensures valid { IfOk result (λ command. IfSome command (λ found. IsValid found.limits)) }
+    ensures valid { IfOk result (λ command. IfSome command IsRunnable) }
 {
-    let Some(work) = work_of(words) else {
-        return Ok(None);
-    };
+    match task_of(words) {
+        Some(task) => task_named(alloc, task, words),
+        None => load_named(alloc, words),
+    }
+}
+
+/// The command that words name whose first is the word of this task.
+fn task_named(alloc: Global, task: Task, words: &[String]) -> Result<Option<Command>, OutOfMemory>
+    requires { slice_get (map string_bytes words.now) 0 ≡ Some (task_word task) }
+    ensures told { IfOk result (TellsCommand (map string_bytes words.now)) }
+    ensures valid { IfOk result (λ command. IfSome command IsRunnable) }
+{
     match limits_of_words(alloc, words)? {
-        Some(limits) => Ok(Some(Command { work, limits })),
+        Some(limits) => Ok(Some(Command::Input { task, limits })),
         None => Ok(None),
     }
 }
 
-/// The work that the first word names.
-fn work_of(words: &[String]) -> Option<Work>
-    ensures some { IfSome result (λ work. slice_get (map string_bytes words.now) 0 ≡ Some (work_word work)) }
-    ensures none { result ≡ None → (work : WorkNamed) → ¬ (slice_get (map string_bytes words.now) 0 ≡ Some (work_word work)) }
+/// The command that words name whose first is the word of no task.
+fn load_named(alloc: Global, words: &[String]) -> Result<Option<Command>, OutOfMemory>
+    requires { (task : TaskNamed) → ¬ (slice_get (map string_bytes words.now) 0 ≡ Some (task_word task)) }
+    ensures told { IfOk result (TellsCommand (map string_bytes words.now)) }
+    ensures valid { IfOk result (λ command. IfSome command IsRunnable) }
+{
+    if !begins_with_load(words) {
+        return Ok(None);
+    }
+    match load_of_words(alloc, words)? {
+        Some(numbers) => Ok(Some(Command::Load { numbers })),
+        None => Ok(None),
+    }
+}
+
+/// Whether the first word is that of a load.
+fn begins_with_load(words: &[String]) -> bool
+    ensures { IsTrue result ↔ (slice_get (map string_bytes words.now) 0 ≡ Some (codes "load")) }
+{
+    !words.is_empty() && is_word(&words[0], b"load")
+}
+
+/// The task that the first word names.
+fn task_of(words: &[String]) -> Option<Task>
+    ensures some { IfSome result (λ task. slice_get (map string_bytes words.now) 0 ≡ Some (task_word task)) }
+    ensures none { result ≡ None → (task : TaskNamed) → ¬ (slice_get (map string_bytes words.now) 0 ≡ Some (task_word task)) }
 {
     if words.is_empty() {
         return None;
     }
     if is_word(&words[0], b"run") {
-        return Some(Work::Run);
+        return Some(Task::Run);
+    }
+    if is_word(&words[0], b"work") {
+        return Some(Task::Work);
     }
     if is_word(&words[0], b"check") {
-        return Some(Work::Check);
+        return Some(Task::Check);
     }
     None
 }

@@ -63,7 +63,7 @@ fn answer(
 }
 
 /// The layout of a store with these limits.
-fn layout(limits: &Limits) -> Layout
+pub(crate) fn layout(limits: &Limits) -> Layout
     requires { IsValid limits.now }
     ensures { result.limits ≡ limits.now }
 {

@@ -6,6 +6,7 @@ ghost use Rattle.lst_machine.specs.Others.{without_merges};
 ghost use Rattle.lst_layout.specs.declared.limits.Limits.{Limits};
 ghost use Rattle.lst_command.specs.Owed.{run_text};
 ghost use Rattle.lst_command.specs.Merges.{other_text};
+ghost use Rattle.lst_command.specs.Loads.{LoadsReadNothing};
 
 /// An input is one script at most, so a run has one output alone. The contract is a law; the body does nothing.
 pub fn input_is_one_script()
@@ -16,4 +17,10 @@ pub fn input_is_one_script()
 /// body does nothing.
 pub fn merges_change_no_other_text()
     ensures { (limits : Limits) (script : List Line) → run_text limits (without_merges script) ≡ other_text limits script }
+{}
+
+/// Where words name a load, the status is `Done`, `WriteFault` or `OutOfMemory`, and nothing was read. The contract is a law; the body does
+/// nothing.
+pub fn a_load_reads_nothing()
+    ensures { LoadsReadNothing }
 {}

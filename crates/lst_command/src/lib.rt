@@ -7,11 +7,14 @@ mod execution;
 mod laws;
 mod messages;
 mod output;
+mod printing;
 mod shell;
 mod status;
 
-pub use command::{Command, Work};
-pub use ending::program;
-pub use laws::{input_is_one_script, merges_change_no_other_text};
+pub use command::{Command, Task};
+pub use ending::{ended, program};
+pub use laws::{a_load_reads_nothing, input_is_one_script, merges_change_no_other_text};
+pub use lst_options::LoadNumbers;
+pub use lst_work::{FreeGate, Gate};
 pub use shell::lstore;
 pub use status::Status;

@@ -1,4 +1,4 @@
-//! What a command makes of an input, before any of it is written.
+//! What a command makes, before any of it is written.
 
 use crate::status::Status;
 use lst_model::Text;

@@ -1,55 +1,78 @@
 //! The top call: words and bytes in, bytes and a status out.
 ghost use Rattle.std.specs.Prelude.{◌≡◌, ℕ, List, IsTrue, codes, IfOk, IfErr, IfSome, None, Some, map, string_bytes};
 ghost use Rattle.lst_layout.specs.Limits.{IsValid};
-ghost use Rattle.lst_command.specs.Answers.{Says, IsUsage, IsDue, IsComplete, Leaves, Reports, Refuses, change};
-ghost use Rattle.lst_command.specs.declared.command.Work.{Work as WorkOf};
+ghost use Rattle.lst_command.specs.Answers.{Says, IsUsage, IsDue, IsComplete, Reports, Refuses, RefusesInput, change};
+ghost use Rattle.lst_command.specs.declared.command.Command.{Command as CommandOf};
+ghost use Rattle.lst_command.specs.declared.command.Task.{Task as TaskOf};
 ghost use Rattle.lst_command.specs.declared.status.Status.{Status as StatusOf};
-ghost use Rattle.lst_command.specs.Commands.{Names};
-ghost use Rattle.lst_command.specs.Outputs.{HasSaid, IsOutputFor, IsOutputOf, IsRefusalFor, IsVerdictOn};
+ghost use Rattle.lst_command.specs.Commands.{IsRunnable, Names};
+ghost use Rattle.lst_command.specs.Outputs.{HasMade, HasSaid, IsLoadOutput, IsOutputFor, IsOutputOf, IsRefusalFor, IsVerdictOn};
+ghost use Rattle.lst_command.specs.Owed.{load_text};
+ghost use Rattle.lst_options.specs.Options.{IsLoadable};
+ghost use Rattle.lst_command.specs.Statuses.{fault_status};
 ghost use Rattle.lst_legal.specs.Judged.{AreSessionsBelow};
+ghost use Rattle.lst_replies.specs.ReportTexts.{report_text};
 
-use crate::command::{Command, Work, command_of};
-use crate::execution::{Ran, execute};
+use crate::command::{Command, Task, command_of};
+use crate::execution::{Ran, execute, layout};
 use crate::messages::report;
 use crate::output::Output;
+use crate::printing::print_loaded;
 use crate::status::Status;
 use lst_io::{Failed, ReadAllFault, Sink, Source, read_all, write_all};
 use lst_layout::Limits;
+use lst_load::{Loaded, load};
 use lst_model::{OutOfMemory, Text};
-use lst_report::{Claim, legal, read_claim};
+use lst_options::LoadNumbers;
+use lst_report::{Claim, Report, legal, print_report, read_claim};
 use lst_rule::Store;
 use lst_script::{ScriptFault, parse};
 use lst_session::Crew;
+use lst_work::{Gate, work};
 use std::alloc::Global;
+use std::sync::Wait;
+use std::thread::Threads;
 
 /// How many bytes an input may have.
 const MOST_BYTES: u64 = 16_777_216;
 
-/// Runs the command that the words name: reads its input from `source` to the end, writes its output to `sink` as a whole,
-/// and leaves a line on `errors` where it ends with another status than `Done` or `Illegal`.
+/// Runs the command that the words name: reads its input from `source` to the end, unless the command is `load`, writes its output to `sink` as a
+/// whole, and leaves a line on `errors` where it ends with another status than `Done` or `Illegal`.
 ///
-/// The command is `run` or `check`, with the options of a store behind it, which name limits. The input has at most 16,777,216 bytes. For `run`
-/// it is a script, and the output is what the machine of one thread answers to each line under the limits. For `check` it is a script, the line
-/// `report` and a report: the output is `legal`, with `Done`, exactly where the report is legal for the script under the limits, and `illegal`, with
-/// `Illegal`, where it isn't. The words are looked at first, then the whole input is
+/// The command is `run`, `work` or `check`, with the options of a store behind it, which name limits, or `load`, with a seed and numbers of keys and
+/// sessions as its options. The input has at most 16,777,216 bytes.
+/// For `run` it is a script, and the output is what the machine of one thread answers to each line under the limits. For `work` it is a script
+/// too, on which all sessions of a store work side by side, and the output is a report of it: which one is up to their steps, but it is legal for
+/// the script. For `check` it is a script, the line `report` and a report: the output is `legal`, with `Done`, exactly where the report is legal for
+/// the script under the limits, and `illegal`, with `Illegal`, where it isn't. The words are looked at first, then the whole input is
 /// read, then its lines are, then they are run, and then the output is written at once. Want of memory may come at any of these but the last,
 /// so at the words too: then nothing is read.
 ///
+/// For `load` nothing is read. All sessions of a new store work on the script that the seed generates, and the output is two lines: `rows` with the
+/// number of keys, which is that of the rows, and `total` with 1,000 times as much, which is what they add up to. It ends with `Done`, unless the
+/// sink fails or memory is wanting.
+///
 /// With `Done` and with `WriteFault` of a run, `left` receives a store with those limits and the crew that hosts all of it, which tells the machine's
-/// state after the last line. They are those of the run, which is read in the body and said in no clause. With any other status `left` stays
-/// as it is.
-pub fn lstore<S: Source, K: Sink, E: Sink>(
+/// state after the last line; of sessions at work the store and the crew in which they are gathered, under whose history the very report that was
+/// written is legal. Of a load it receives the store and the crew in which its sessions are gathered. With any other status, and of a check, `left`
+/// stays as it is.
+///
+/// A worker calls the gate before each of its lines, and after each that was answered, which no clause says. Nothing is promised of when the call returns: a session that commits
+/// waits while another one does.
+pub fn lstore<R: Threads + Wait + Sync, S: Source, K: Sink, E: Sink, G: Gate + Sync>(
+    rt: &R,
     alloc: Global,
     words: &[String],
     source: &mut S,
     sink: &mut K,
     errors: &mut E,
+    gate: &G,
     left: &mut Option<(Store, Crew)>,
 ) -> Status
-    // What the status says of the words, of what was read and of what was written.
+    // What the status says of the words, of what was read, of what was written and of what is left to the caller.
     ensures answer { Says result (map string_bytes words.now)
         (change (S.left source.old) (S.faults source.old) (S.left source.new) (S.faults source.new))
-        (change (K.taken sink.old) (K.faults sink.old) (K.taken sink.new) (K.faults sink.new)) }
+        (change (K.taken sink.old) (K.faults sink.old) (K.taken sink.new) (K.faults sink.new)) left.old left.new }
     ensures usage { IsUsage result (map string_bytes words.now) }
 
     // Where the source tells its bytes they decide, unless an end fails or memory is wanting.
@@ -60,54 +83,50 @@ pub fn lstore<S: Source, K: Sink, E: Sink>(
 
     // The line on the sink of errors.
     ensures errors { Reports result (change (E.taken errors.old) (E.faults errors.old) (E.taken errors.new) (E.faults errors.new)) }
-
-    // What is left to the caller.
-    ensures left { Leaves result (map string_bytes words.now)
-        (change (S.left source.old) (S.faults source.old) (S.left source.new) (S.faults source.new)) left.old left.new }
 {
-    let status = run(alloc, words, source, sink, left);
+    let status = by_words(rt, alloc, words, source, sink, gate, left);
     report(&status, errors);
     status
 }
 
 /// The work of the words, without the line on the sink of errors.
-fn run<S: Source, K: Sink>(
+fn by_words<R: Threads + Wait + Sync, S: Source, K: Sink, G: Gate + Sync>(
+    rt: &R,
     alloc: Global,
     words: &[String],
     source: &mut S,
     sink: &mut K,
+    gate: &G,
     left: &mut Option<(Store, Crew)>,
 ) -> Status
     ensures says { Says result (map string_bytes words.now)
         (change (S.left source.old) (S.faults source.old) (S.left source.new) (S.faults source.new))
-        (change (K.taken sink.old) (K.faults sink.old) (K.taken sink.new) (K.faults sink.new)) }
-    ensures left { Leaves result (map string_bytes words.now)
-        (change (S.left source.old) (S.faults source.old) (S.left source.new) (S.faults source.new)) left.old left.new }
+        (change (K.taken sink.old) (K.faults sink.old) (K.taken sink.new) (K.faults sink.new)) left.old left.new }
 {
     match command_of(alloc, words) {
-        Ok(Some(command)) => work(alloc, &command, source, sink, left),
+        Ok(Some(command)) => by_command(rt, alloc, &command, source, sink, gate, left),
         Ok(None) => Status::Usage,
         Err(OutOfMemory) => Status::OutOfMemory,
     }
 }
 
 /// The work of a command.
-#[tactic(auto, using(crate::proofs::Leaving::says_written, crate::proofs::Leaving::says_part, crate::proofs::Leaving::says_refused, crate::proofs::Leaving::leaves_written, crate::proofs::Leaving::leaves_part, crate::proofs::Leaving::leaves_refused))]
-fn work<S: Source, K: Sink>(
+#[tactic(auto, using(crate::proofs::Leaving::says_written, crate::proofs::Leaving::says_part, crate::proofs::Leaving::says_refused))]
+fn by_command<R: Threads + Wait + Sync, S: Source, K: Sink, G: Gate + Sync>(
+    rt: &R,
     alloc: Global,
     command: &Command,
     source: &mut S,
     sink: &mut K,
+    gate: &G,
     left: &mut Option<(Store, Crew)>,
 ) -> Status
-    requires { IsValid command.now.limits }
+    requires { IsRunnable command.now }
     ensures says { (words : List (List ℕ)) → Names words command.now → Says result words
         (change (S.left source.old) (S.faults source.old) (S.left source.new) (S.faults source.new))
-        (change (K.taken sink.old) (K.faults sink.old) (K.taken sink.new) (K.faults sink.new)) }
-    ensures left { (words : List (List ℕ)) → Names words command.now → Leaves result words
-        (change (S.left source.old) (S.faults source.old) (S.left source.new) (S.faults source.new)) left.old left.new }
+        (change (K.taken sink.old) (K.faults sink.old) (K.taken sink.new) (K.faults sink.new)) left.old left.new }
 {
-    match output(alloc, command, source) {
+    match output(rt, alloc, command, source, gate) {
         Ok(Output { text, status, both }) => {
             leave(left, both);
             match write_all(sink, text.as_bytes()) {
@@ -129,12 +148,78 @@ fn leave(left: &mut Option<(Store, Crew)>, both: Option<(Store, Crew)>)
     }
 }
 
-/// The output of a command for the input that the source gives, or the status of what is in the way.
-#[tactic(auto, using(crate::proofs::Leaving::made_output, crate::proofs::Leaving::made_refusal))]
-fn output<S: Source>(alloc: Global, command: &Command, source: &mut S) -> Result<Output, Status>
-    requires { IsValid command.now.limits }
+/// The output of a command, or the status of what is in the way.
+#[tactic(auto, using(crate::proofs::Leaving::load_made, crate::proofs::Leaving::load_refusal))]
+fn output<R: Threads + Wait + Sync, S: Source, G: Gate + Sync>(
+    rt: &R,
+    alloc: Global,
+    command: &Command,
+    source: &mut S,
+    gate: &G,
+) -> Result<Output, Status>
+    requires { IsRunnable command.now }
     ensures output { IfOk result (IsOutputOf command.now (change (S.left source.old) (S.faults source.old) (S.left source.new) (S.faults source.new))) }
     ensures refusal { IfErr result (λ status. Refuses command.now status
+        (change (S.left source.old) (S.faults source.old) (S.left source.new) (S.faults source.new))) }
+{
+    match command {
+        Command::Input { task, limits } => input_output(rt, alloc, *task, limits, source, gate),
+        Command::Load { numbers } => load_output(rt, alloc, numbers, gate),
+    }
+}
+
+/// The output of a load, or the status of what is in the way: want of memory.
+fn load_output<R: Threads + Wait + Sync, G: Gate + Sync>(
+    rt: &R,
+    alloc: Global,
+    numbers: &LoadNumbers,
+    gate: &G,
+) -> Result<Output, Status>
+    requires { IsLoadable numbers.now }
+    ensures output { IfOk result (IsLoadOutput numbers.now) }
+    ensures refusal { IfErr result (λ status. status ≡ StatusOf.OutOfMemory) }
+{
+    match load(
+        rt,
+        alloc,
+        numbers.seed,
+        numbers.keys,
+        numbers.sessions,
+        gate,
+    ) {
+        Ok((loaded, store, crew)) => loaded_output(alloc, &loaded, (store, crew)),
+        Err(OutOfMemory) => Err(Status::OutOfMemory),
+    }
+}
+
+/// The output of what a load tells, with the store and the crew that it is of.
+fn loaded_output(alloc: Global, loaded: &Loaded, left: (Store, Crew)) -> Result<Output, Status>
+    ensures output { IfOk result (HasMade (load_text loaded.now.rows loaded.now.total) left) }
+    ensures refusal { IfErr result (λ status. status ≡ StatusOf.OutOfMemory) }
+{
+    match print_loaded(alloc, loaded) {
+        Ok(text) => Ok(Output {
+            text,
+            status: Status::Done,
+            both: Some(left),
+        }),
+        Err(OutOfMemory) => Err(Status::OutOfMemory),
+    }
+}
+
+/// The output of a task for the input that the source gives, or the status of what is in the way.
+#[tactic(auto, using(crate::proofs::Leaving::made_output, crate::proofs::Leaving::made_refusal))]
+fn input_output<R: Threads + Wait + Sync, S: Source, G: Gate + Sync>(
+    rt: &R,
+    alloc: Global,
+    task: Task,
+    limits: &Limits,
+    source: &mut S,
+    gate: &G,
+) -> Result<Output, Status>
+    requires { IsValid limits.now }
+    ensures output { IfOk result (IsOutputOf (CommandOf.Input task limits.now) (change (S.left source.old) (S.faults source.old) (S.left source.new) (S.faults source.new))) }
+    ensures refusal { IfErr result (λ status. RefusesInput task limits.now status
         (change (S.left source.old) (S.faults source.old) (S.left source.new) (S.faults source.new))) }
 {
     let input = match read_all(alloc, source, MOST_BYTES) {
@@ -143,31 +228,49 @@ fn output<S: Source>(alloc: Global, command: &Command, source: &mut S) -> Result
         Err(ReadAllFault::TooLong) => return Err(Status::TooLong),
         Err(ReadAllFault::OutOfMemory) => return Err(Status::OutOfMemory),
     };
-    make(alloc, command, &input)
+    make(rt, alloc, task, limits, &input, gate)
 }
 
-/// The output of a command for an input.
-fn make(alloc: Global, command: &Command, input: &Text) -> Result<Output, Status>
-    requires { IsValid command.now.limits }
-    ensures output { IfOk result (IsOutputFor command.now.work command.now.limits input.now) }
-    ensures refusal { IfErr result (IsRefusalFor command.now.work command.now.limits input.now) }
+/// The output of a task for an input.
+fn make<R: Threads + Wait + Sync, G: Gate + Sync>(
+    rt: &R,
+    alloc: Global,
+    task: Task,
+    limits: &Limits,
+    input: &Text,
+    gate: &G,
+) -> Result<Output, Status>
+    requires { IsValid limits.now }
+    ensures output { IfOk result (IsOutputFor task limits.now input.now) }
+    ensures refusal { IfErr result (IsRefusalFor task limits.now input.now) }
 {
-    match command.work {
-        Work::Run => run_input(alloc, &command.limits, input),
-        Work::Check => check_input(alloc, &command.limits, input),
+    match task {
+        Task::Run => run_input(alloc, limits, input),
+        Task::Work => work_input(rt, alloc, limits, input, gate),
+        Task::Check => check_input(alloc, limits, input),
+    }
+}
+
+/// The status of an input that isn't in order, or for which memory was wanting.
+fn of_fault(fault: ScriptFault) -> Status
+    ensures { result ≡ fault_status fault }
+{
+    match fault {
+        ScriptFault::Bad { line, kind } => Status::BadScript { line, kind },
+        ScriptFault::OutOfMemory => Status::OutOfMemory,
     }
 }
 
 /// The output of a run.
+#[tactic(auto, using(crate::proofs::Leaving::run_fault))]
 fn run_input(alloc: Global, limits: &Limits, input: &Text) -> Result<Output, Status>
     requires { IsValid limits.now }
-    ensures output { IfOk result (IsOutputFor WorkOf.Run limits.now input.now) }
-    ensures refusal { IfErr result (IsRefusalFor WorkOf.Run limits.now input.now) }
+    ensures output { IfOk result (IsOutputFor TaskOf.Run limits.now input.now) }
+    ensures refusal { IfErr result (IsRefusalFor TaskOf.Run limits.now input.now) }
 {
     let script = match parse(alloc, input.as_bytes(), limits) {
         Ok(script) => script,
-        Err(ScriptFault::Bad { line, kind }) => return Err(Status::BadScript { line, kind }),
-        Err(ScriptFault::OutOfMemory) => return Err(Status::OutOfMemory),
+        Err(fault) => return Err(of_fault(fault)),
     };
     match execute(alloc, script.items(), limits) {
         Ok(ran) => Ok(output_of(ran)),
@@ -177,9 +280,7 @@ fn run_input(alloc: Global, limits: &Limits, input: &Text) -> Result<Output, Sta
 
 /// The output of what was run.
 fn output_of(ran: Ran) -> Output
-    ensures text { result.text ≡ ran.text }
-    ensures status { result.status ≡ StatusOf.Done }
-    ensures both { result.both ≡ Some ran.left }
+    ensures { HasMade ran.text ran.left result }
 {
     Output {
         text: ran.text,
@@ -188,17 +289,54 @@ fn output_of(ran: Ran) -> Output
     }
 }
 
+/// The output of sessions at work.
+#[tactic(auto, using(crate::proofs::Leaving::work_fault, crate::proofs::Leaving::work_output, crate::proofs::Leaving::work_refusal))]
+fn work_input<R: Threads + Wait + Sync, G: Gate + Sync>(
+    rt: &R,
+    alloc: Global,
+    limits: &Limits,
+    input: &Text,
+    gate: &G,
+) -> Result<Output, Status>
+    requires { IsValid limits.now }
+    ensures output { IfOk result (IsOutputFor TaskOf.Work limits.now input.now) }
+    ensures refusal { IfErr result (IsRefusalFor TaskOf.Work limits.now input.now) }
+{
+    let script = match parse(alloc, input.as_bytes(), limits) {
+        Ok(script) => script,
+        Err(fault) => return Err(of_fault(fault)),
+    };
+    match work(rt, alloc, &layout(limits), &script, gate) {
+        Ok((told, store, crew)) => report_output(alloc, &told, (store, crew)),
+        Err(OutOfMemory) => Err(Status::OutOfMemory),
+    }
+}
+
+/// The output of a report, with the store and the crew that it is of.
+fn report_output(alloc: Global, told: &Report, left: (Store, Crew)) -> Result<Output, Status>
+    ensures output { IfOk result (HasMade (report_text told.now) left) }
+    ensures refusal { IfErr result (λ status. status ≡ StatusOf.OutOfMemory) }
+{
+    match print_report(alloc, told) {
+        Ok(text) => Ok(Output {
+            text,
+            status: Status::Done,
+            both: Some(left),
+        }),
+        Err(OutOfMemory) => Err(Status::OutOfMemory),
+    }
+}
+
 /// The output of a check.
-#[tactic(auto, using(crate::proofs::Leaving::check_output, crate::proofs::Leaving::check_refusal))]
+#[tactic(auto, using(crate::proofs::Leaving::check_fault, crate::proofs::Leaving::check_output, crate::proofs::Leaving::check_refusal))]
 fn check_input(alloc: Global, limits: &Limits, input: &Text) -> Result<Output, Status>
     requires { IsValid limits.now }
-    ensures output { IfOk result (IsOutputFor WorkOf.Check limits.now input.now) }
-    ensures refusal { IfErr result (IsRefusalFor WorkOf.Check limits.now input.now) }
+    ensures output { IfOk result (IsOutputFor TaskOf.Check limits.now input.now) }
+    ensures refusal { IfErr result (IsRefusalFor TaskOf.Check limits.now input.now) }
 {
     match read_claim(alloc, input.as_bytes(), limits) {
         Ok(claim) => judge(alloc, limits, &claim),
-        Err(ScriptFault::Bad { line, kind }) => Err(Status::BadScript { line, kind }),
-        Err(ScriptFault::OutOfMemory) => Err(Status::OutOfMemory),
+        Err(fault) => Err(of_fault(fault)),
     }
 }
 

@@ -21,7 +21,7 @@ pub enum Status {
     ReadFault,
     /// The sink failed.
     WriteFault,
-    /// A request for memory was refused.
+    /// Memory was wanting.
     OutOfMemory,
 }
 

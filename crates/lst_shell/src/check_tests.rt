@@ -5,13 +5,20 @@ use lst_command::Status;
 use lst_script::FaultKind;
 use std::alloc::Global;
 use std::process::Abort;
+use std::sync::Wait;
 use std::test::Fail;
+use std::thread::Threads;
 
 /// A report of one commit behind its script.
 const ONE_COMMIT: &str =
     "0 begin\n0 insert 7 10 20\n0 commit\nreport\n0 begun 0\n0 ok\n0 committed 1\nhistory 1\n1 0 1 0\n";
 
-fn is_legal(rt: &impl Abort, alloc: Global, words: &str, input: &str) -> Result<(), Fail> {
+fn is_legal(
+    rt: &(impl Abort + Threads + Wait + Sync),
+    alloc: Global,
+    words: &str,
+    input: &str,
+) -> Result<(), Fail> {
     shows(
         rt,
         alloc,
@@ -24,7 +31,12 @@ fn is_legal(rt: &impl Abort, alloc: Global, words: &str, input: &str) -> Result<
     )
 }
 
-fn is_illegal(rt: &impl Abort, alloc: Global, words: &str, input: &str) -> Result<(), Fail> {
+fn is_illegal(
+    rt: &(impl Abort + Threads + Wait + Sync),
+    alloc: Global,
+    words: &str,
+    input: &str,
+) -> Result<(), Fail> {
     shows(
         rt,
         alloc,
@@ -38,7 +50,7 @@ fn is_illegal(rt: &impl Abort, alloc: Global, words: &str, input: &str) -> Resul
 }
 
 fn is_faulty(
-    rt: &impl Abort,
+    rt: &(impl Abort + Threads + Wait + Sync),
     alloc: Global,
     input: &str,
     line: u64,

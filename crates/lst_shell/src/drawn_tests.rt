@@ -1,11 +1,13 @@
-//! Drawn scripts on the store and on the plain engine: each line is answered alike.
+//! Drawn scripts on the store, on the plain engine and on the machine that runs from its definition: each line is answered alike.
 ghost use Rattle.std.specs.Prelude.{◌≡◌, ◌<◌, IfOk};
 ghost use Rattle.lst_model.specs.Lines.{CallFits, IsPatch, LineFits};
 ghost use Rattle.lst_plain.specs.Plains.{limits_of};
+ghost use Rattle.lst_machine.specs.Machines.{limits_of as machine_limits};
 ghost use Rattle.lst_session.specs.Crews.{IsCrewOf};
 
 use arrayvec::ArrayVec;
 use lst_layout::Limits;
+use lst_machine::Machine;
 use lst_model::{Call, Line, Patch, Reply, Row};
 use lst_plain::Plain;
 use lst_rule::Store;
@@ -26,7 +28,7 @@ const NARROW: Limits = Limits {
     indexed: 2,
 };
 
-/// The same with more spare frames, so that fewer merges lack one.
+/// The same with more spare frames, so that fewer merges lack one, and with an index on each column.
 const SPARE: Limits = Limits {
     columns: 2,
     ranges: 1,
@@ -34,10 +36,10 @@ const SPARE: Limits = Limits {
     sessions: 3,
     txns: 12,
     spare: 8,
-    indexed: 2,
+    indexed: 3,
 };
 
-/// Limits at which records run out first.
+/// Limits at which records run out first. No column has an index.
 const WIDE: Limits = Limits {
     columns: 2,
     ranges: 1,
@@ -48,31 +50,42 @@ const WIDE: Limits = Limits {
     indexed: 0,
 };
 
+/// Limits of two ranges, with an index on the second column.
+const BROAD: Limits = Limits {
+    columns: 2,
+    ranges: 2,
+    tails: 500,
+    sessions: 3,
+    txns: 600,
+    spare: 2,
+    indexed: 2,
+};
+
 /// Draws numbers, and calls of two columns, from a seed.
 #[derive(Drop)]
-struct Drawer {
-    seed: u64,
-    keys: u64,
+pub(crate) struct Drawer {
+    pub(crate) seed: u64,
+    pub(crate) keys: u64,
 }
 
-/// Sets the first column, and the second where there is a number for it.
-fn first_and(first: u64, second: Option<u64>) -> Patch
+/// Sets the first column, to null where there is no number, and the second where there is a cell for it.
+fn first_and(first: Option<u64>, second: Option<Option<u64>>) -> Patch
     ensures { IsPatch 2 result }
 {
-    let mut cells = ArrayVec::new();
-    cells.push(Some(first));
-    cells.push(second);
-    Patch::of_numbers(cells)
+    let mut patch = Patch::of_numbers(ArrayVec::new());
+    patch.push(Some(first));
+    patch.push(second);
+    patch
 }
 
 /// Sets the second column alone.
-fn second_alone(second: u64) -> Patch
+fn second_alone(second: Option<u64>) -> Patch
     ensures { IsPatch 2 result }
 {
-    let mut cells = ArrayVec::new();
-    cells.push(None);
-    cells.push(Some(second));
-    Patch::of_numbers(cells)
+    let mut patch = Patch::of_numbers(ArrayVec::new());
+    patch.push(None);
+    patch.push(Some(second));
+    patch
 }
 
 impl Drawer {
@@ -107,20 +120,28 @@ impl Drawer {
     fn draw_row(&mut self) -> Row
         ensures { CallFits 2 (Call.Insert 0 result) }
     {
-        let mut cells = ArrayVec::new();
-        cells.push(self.draw(9));
-        cells.push(self.draw(9));
-        Row::of_numbers(cells)
+        let mut row = Row::of_numbers(ArrayVec::new());
+        row.push(self.draw_cell());
+        row.push(self.draw_cell());
+        row
+    }
+
+    /// A number below 9, or null.
+    fn draw_cell(&mut self) -> Option<u64> {
+        match self.draw(10) {
+            9 => None,
+            number => Some(number),
+        }
     }
 
     fn draw_patch(&mut self) -> Patch
         ensures { CallFits 2 (Call.Update 0 result) }
     {
-        let cell = self.draw(9);
+        let cell = self.draw_cell();
         match self.draw(3) {
             0 => first_and(cell, None),
             1 => second_alone(cell),
-            _ => first_and(cell, Some(9)),
+            _ => first_and(cell, Some(Some(9))),
         }
     }
 
@@ -130,7 +151,7 @@ impl Drawer {
         if self.draw(2) == 0 { 0 } else { 1 }
     }
 
-    fn draw_call(&mut self) -> Call
+    pub(crate) fn draw_call(&mut self) -> Call
         ensures { CallFits 2 result }
     {
         match self.draw(24) {
@@ -166,92 +187,182 @@ impl Drawer {
         }
     }
 
-    /// A call of one of three sessions, or a merge in the one range.
-    fn draw_line(&mut self) -> Line
-        ensures { LineFits 3 1 2 result }
+    /// One of two ranges, or the one that there is.
+    fn draw_range(&mut self, ranges: u32) -> u32
+        requires { 0 < ranges }
+        ensures { result < ranges }
     {
-        if self.draw(9) == 0 {
-            Line::Merge {
-                range: 0,
-                column: self.draw_column(),
-            }
+        if ranges > 1 && self.draw(2) == 1 {
+            1
         } else {
-            Line::Call {
+            0
+        }
+    }
+
+    /// A call of one of three sessions, a merge, or the end of a phase.
+    fn draw_line(&mut self, ranges: u32) -> Line
+        requires { 0 < ranges }
+        ensures { LineFits 3 ranges 2 result }
+    {
+        match self.draw(45) {
+            0 => Line::Phase,
+            1 | 2 | 3 | 4 | 5 => Line::Merge {
+                range: self.draw_range(ranges),
+                column: self.draw_column(),
+            },
+            _ => Line::Call {
                 session: self.draw_session(),
                 call: self.draw_call(),
-            }
+            },
         }
     }
 }
 
-/// Asks both for the answer to a drawn line.
+/// The answers to one line: the store's, the plain engine's and the machine's.
+#[derive(Drop)]
+struct Answered {
+    line: Line,
+    stored: Reply,
+    plain: Reply,
+    machine: Reply,
+}
+
+/// Asks all three for the answer to a drawn line.
 fn answers(
     alloc: Global,
     store: &Store,
     crew: &mut Crew,
     plain: &mut Plain,
+    machine: &mut Machine,
+    ranges: u32,
     drawer: &mut Drawer,
-) -> Result<(Reply, Reply), Fail>
+) -> Result<Answered, Fail>
+    requires some { 0 < ranges }
     requires crew { IsCrewOf store.now crew.old }
-    requires sessions { (crew.old.seat.view.limits.sessions ≡ 3) × (crew.old.seat.view.limits.ranges ≡ 1) × (crew.old.seat.view.limits.columns ≡ 2) }
-    requires plain { ((limits_of plain.old).sessions ≡ 3) × ((limits_of plain.old).ranges ≡ 1) × ((limits_of plain.old).columns ≡ 2) }
+    requires sessions { (crew.old.seat.view.limits.sessions ≡ 3) × (crew.old.seat.view.limits.ranges ≡ ranges) × (crew.old.seat.view.limits.columns ≡ 2) }
+    requires plain { ((limits_of plain.old).sessions ≡ 3) × ((limits_of plain.old).ranges ≡ ranges) × ((limits_of plain.old).columns ≡ 2) }
+    requires machine { ((machine_limits machine.old).sessions ≡ 3) × ((machine_limits machine.old).ranges ≡ ranges) × ((machine_limits machine.old).columns ≡ 2) }
     ensures crew { IsCrewOf store.now crew.new }
-    ensures sessions { IfOk result (λ _. (crew.new.seat.view.limits.sessions ≡ 3) × (crew.new.seat.view.limits.ranges ≡ 1) × (crew.new.seat.view.limits.columns ≡ 2)) }
-    ensures plain { ((limits_of plain.new).sessions ≡ 3) × ((limits_of plain.new).ranges ≡ 1) × ((limits_of plain.new).columns ≡ 2) }
+    ensures sessions { IfOk result (λ _. (crew.new.seat.view.limits.sessions ≡ 3) × (crew.new.seat.view.limits.ranges ≡ ranges) × (crew.new.seat.view.limits.columns ≡ 2)) }
+    ensures plain { ((limits_of plain.new).sessions ≡ 3) × ((limits_of plain.new).ranges ≡ ranges) × ((limits_of plain.new).columns ≡ 2) }
+    ensures machine { ((machine_limits machine.new).sessions ≡ 3) × ((machine_limits machine.new).ranges ≡ ranges) × ((machine_limits machine.new).columns ≡ 2) }
 {
-    let line = drawer.draw_line();
+    let line = drawer.draw_line(ranges);
     let stored = crew_line(alloc, store, crew, &line)?;
-    let wanted = plain.line(&line)?;
-    Ok((stored, wanted))
+    let plain = plain.line(&line)?;
+    let machine = machine.line(&line)?;
+    Ok(Answered {
+        line,
+        stored,
+        plain,
+        machine,
+    })
 }
 
-/// Compares both over a drawn script of this many lines, and answers how many of them were refused.
+/// What the replies to drawn scripts have been.
+#[derive(Drop)]
+struct Counts {
+    refused: u32,
+    rows: u32,
+    keys: u32,
+    merged: u32,
+    merged_beyond: u32,
+    no_frame: u32,
+}
+
+impl Counts {
+    fn new() -> Counts {
+        Counts {
+            refused: 0,
+            rows: 0,
+            keys: 0,
+            merged: 0,
+            merged_beyond: 0,
+            no_frame: 0,
+        }
+    }
+
+    fn count(&mut self, line: &Line, reply: &Reply) {
+        let kind = match (line, reply) {
+            (_, Reply::Refused { .. }) => &mut self.refused,
+            (_, Reply::Rows { .. }) => &mut self.rows,
+            (_, Reply::Keys { .. }) => &mut self.keys,
+            (Line::Merge { range: 1, .. }, Reply::Merged { .. }) => &mut self.merged_beyond,
+            (_, Reply::Merged { .. }) => &mut self.merged,
+            (_, Reply::NoFrame { .. }) => &mut self.no_frame,
+            _ => return,
+        };
+        *kind = kind.wrapping_add(1);
+    }
+}
+
+/// Compares the three over a drawn script of this many lines, and counts the replies.
 fn compare(
     rt: &(impl Abort + AllocGlobal),
     limits: &Limits,
     keys: u64,
     seed: u64,
     lines: u32,
-) -> Result<u32, Fail>
-    requires { (limits.now.sessions ≡ 3) × (limits.now.ranges ≡ 1) × (limits.now.columns ≡ 2) }
+    counts: &mut Counts,
+) -> Result<(), Fail>
+    requires { (limits.now.sessions ≡ 3) × (0 < limits.now.ranges) × (limits.now.columns ≡ 2) }
 {
     let Ok(layout) = limits.check() else {
         return Err(Fail::from("the limits are in range"));
     };
     let (store, mut crew) = open_crew(rt.alloc(), &layout)?;
     let mut plain = Plain::new(rt.alloc(), &layout)?;
+    let mut machine = Machine::new(rt.alloc(), &layout)?;
     let mut drawer = Drawer { seed, keys };
-    let mut refused = 0u32;
     for _ in 0..lines {
-        let (stored, wanted) = answers(rt.alloc(), &store, &mut crew, &mut plain, &mut drawer)?;
-        assert_eq!(rt; stored, wanted);
-        if let Reply::Refused { .. } = stored {
-            refused = refused.wrapping_add(1);
-        }
+        let answers = answers(
+            rt.alloc(),
+            &store,
+            &mut crew,
+            &mut plain,
+            &mut machine,
+            limits.ranges,
+            &mut drawer,
+        )?;
+        assert_eq!(rt; answers.plain, answers.machine);
+        assert_eq!(rt; answers.stored, answers.plain);
+        counts.count(&answers.line, &answers.stored);
     }
-    Ok(refused)
+    Ok(())
 }
 
 #[test]
-fn drawn_scripts_are_answered_as_the_plain_engine_answers_them(
+fn drawn_scripts_are_answered_as_the_engines_of_one_thread_answer_them(
     rt: HostRuntime,
 ) -> Result<(), Fail> {
-    let mut refused = 0u32;
+    let mut counts = Counts::new();
     for seed in 0..200u64 {
-        refused = refused.wrapping_add(compare(&rt, &NARROW, 6, seed, 90)?);
+        compare(&rt, &NARROW, 6, seed, 90, &mut counts)?;
     }
     for seed in 200..300u64 {
-        refused = refused.wrapping_add(compare(&rt, &SPARE, 6, seed, 90)?);
+        compare(&rt, &SPARE, 6, seed, 90, &mut counts)?;
     }
-    assert!(rt; refused > 3000);
+    assert!(rt; counts.refused > 3000 && counts.rows > 0 && counts.keys > 0);
+    assert!(rt; counts.merged > 0 && counts.no_frame > 0);
     Ok(())
 }
 
 #[test]
 fn drawn_scripts_fill_the_table(rt: HostRuntime) -> Result<(), Fail> {
     for seed in 0..6u64 {
-        let refused = compare(&rt, &WIDE, 400, seed, 2400)?;
-        assert!(rt; refused > 200);
+        let mut counts = Counts::new();
+        compare(&rt, &WIDE, 400, seed, 2400, &mut counts)?;
+        assert!(rt; counts.refused > 200);
     }
+    Ok(())
+}
+
+#[test]
+fn drawn_scripts_go_beyond_one_range(rt: HostRuntime) -> Result<(), Fail> {
+    let mut counts = Counts::new();
+    for seed in 0..2u64 {
+        compare(&rt, &BROAD, 500, seed, 7000, &mut counts)?;
+    }
+    assert!(rt; counts.merged > 0 && counts.merged_beyond > 0 && counts.keys > 0);
     Ok(())
 }

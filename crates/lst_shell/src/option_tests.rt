@@ -5,11 +5,13 @@ use lst_command::Status;
 use lst_script::FaultKind;
 use std::alloc::Global;
 use std::process::Abort;
+use std::sync::Wait;
 use std::test::Fail;
+use std::thread::Threads;
 
 /// A run with these words at which nothing fails.
 fn answers(
-    rt: &impl Abort,
+    rt: &(impl Abort + Threads + Wait + Sync),
     alloc: Global,
     line: &str,
     input: &str,
@@ -28,7 +30,11 @@ fn answers(
 }
 
 /// Words that are no command line: nothing is read, so a source that fails at once isn't noticed.
-fn is_refused(rt: &impl Abort, alloc: Global, line: &str) -> Result<(), Fail> {
+fn is_refused(
+    rt: &(impl Abort + Threads + Wait + Sync),
+    alloc: Global,
+    line: &str,
+) -> Result<(), Fail> {
     let fails = Fails {
         read: 1,
         write: 1,
@@ -48,7 +54,7 @@ fn is_refused(rt: &impl Abort, alloc: Global, line: &str) -> Result<(), Fail> {
 
 /// A run that ends at a faulty line.
 fn stops(
-    rt: &impl Abort,
+    rt: &(impl Abort + Threads + Wait + Sync),
     alloc: Global,
     words: &str,
     input: &str,

@@ -1,13 +1,15 @@
 //! The program over memory: what it answers, where it stops, and how it fails.
 
-use lst_command::{Status, lstore};
+use lst_command::{FreeGate, Gate, Status, lstore};
 use lst_io::{MemSink, MemSource};
 use lst_model::{Call, KeyList, Line, Reply, Text};
 use lst_report::print_line;
 use lst_script::FaultKind;
 use std::alloc::Global;
 use std::process::Abort;
+use std::sync::Wait;
 use std::test::Fail;
+use std::thread::Threads;
 
 /// Which call of the source, of the sink and of the sink of errors fails, counted from 1; none where it is 0.
 #[derive(Clone, Copy)]
@@ -40,9 +42,52 @@ fn words_of(alloc: Global, line: &str) -> Result<Vec<String>, Fail> {
     Ok(words)
 }
 
-/// A run over memory with these words: how it ends, and what the sink and the sink of errors took.
+/// What a call over memory came to.
+#[derive(Drop)]
+pub(crate) struct Shown {
+    pub status: Status,
+    pub sink: MemSink,
+    pub errors: MemSink,
+    pub has_left: bool,
+}
+
+/// A call over memory with these words and this gate.
+pub(crate) fn called<R: Threads + Wait + Sync, G: Gate + Sync>(
+    rt: &R,
+    alloc: Global,
+    line: &str,
+    input: &[u8],
+    fails: Fails,
+    gate: &G,
+) -> Result<Shown, Fail> {
+    let words = words_of(alloc, line)?;
+    let step = 7 + input.len() / 256;
+    let text = Text::from_bytes(input.to_vec(alloc)?);
+    let mut source = MemSource::new(text, failing(alloc, fails.read)?, step);
+    let mut sink = MemSink::new(alloc, failing(alloc, fails.write)?, 5)?;
+    let mut errors = MemSink::new(alloc, failing(alloc, fails.report)?, 5)?;
+    let mut left = None;
+    let status = lstore(
+        rt,
+        alloc,
+        words.as_slice(),
+        &mut source,
+        &mut sink,
+        &mut errors,
+        gate,
+        &mut left,
+    );
+    Ok(Shown {
+        status,
+        sink,
+        errors,
+        has_left: left.is_some(),
+    })
+}
+
+/// A call over memory with these words: how it ends, and what the sink and the sink of errors took.
 pub(crate) fn shows(
-    rt: &impl Abort,
+    rt: &(impl Abort + Threads + Wait + Sync),
     alloc: Global,
     line: &str,
     input: &[u8],
@@ -51,35 +96,26 @@ pub(crate) fn shows(
     output: &str,
     message: &str,
 ) -> Result<(), Fail> {
-    let words = words_of(alloc, line)?;
-    let step = 7 + input.len() / 256;
-    let text = Text::from_bytes(input.to_vec(alloc)?);
-    let mut source = MemSource::new(text, failing(alloc, fails.read)?, step);
-    let mut sink = MemSink::new(alloc, failing(alloc, fails.write)?, 5)?;
-    let mut errors = MemSink::new(alloc, failing(alloc, fails.report)?, 5)?;
-    let mut left = None;
-    let ended = lstore(
-        alloc,
-        words.as_slice(),
-        &mut source,
-        &mut sink,
-        &mut errors,
-        &mut left,
-    );
-    assert_eq!(rt; ended, status);
-    assert_eq!(rt; sink.taken(), output.as_bytes());
-    assert_eq!(rt; errors.taken(), message.as_bytes());
+    let shown = called(rt, alloc, line, input, fails, &FreeGate)?;
+    assert_eq!(rt; shown.status, status);
+    assert_eq!(rt; shown.sink.taken(), output.as_bytes());
+    assert_eq!(rt; shown.errors.taken(), message.as_bytes());
     Ok(())
 }
 
 /// A run at which nothing fails.
-fn answers(rt: &impl Abort, alloc: Global, input: &str, output: &str) -> Result<(), Fail> {
+fn answers(
+    rt: &(impl Abort + Threads + Wait + Sync),
+    alloc: Global,
+    input: &str,
+    output: &str,
+) -> Result<(), Fail> {
     answers_with(rt, alloc, "run", input, output)
 }
 
 /// The same with these words.
 fn answers_with(
-    rt: &impl Abort,
+    rt: &(impl Abort + Threads + Wait + Sync),
     alloc: Global,
     line: &str,
     input: &str,
@@ -99,7 +135,7 @@ fn answers_with(
 
 /// A run after one row was put.
 fn answers_after_a_row(
-    rt: &impl Abort,
+    rt: &(impl Abort + Threads + Wait + Sync),
     alloc: Global,
     input: &str,
     output: &str,
@@ -113,7 +149,7 @@ fn answers_after_a_row(
 
 /// A run that ends at a faulty line.
 fn stops(
-    rt: &impl Abort,
+    rt: &(impl Abort + Threads + Wait + Sync),
     alloc: Global,
     input: &str,
     line: u64,
@@ -166,6 +202,12 @@ const LINEAGE: &str =
 
 const LINEAGE_REPLIES: &str =
     "0 begun 0\n0 ok\n0 ok\n0 committed 1\n1 begun 1\n0 begun 1\n0 ok\n0 committed 2\n3 begun 2\n3 ok\n3 aborted\n2 begun 2\n2 ok\nmerged 4\nidle 4\n1 row 10 1\n0 begun 2\n0 row 11 1\n2 committed 3\nmerged 5\n";
+
+const RUSH: &str =
+    "# Two customers want the last piece of an article at the same moment. Column 0 is the stock, column 1 who has the piece.\n0 begin\n0 insert 7 1 0\n0 commit\nphase\n# On threads the two may meet: then one of them is told so.\n1 begin\n1 update 7 0 1\n1 commit\n2 begin\n2 update 7 0 2\n2 commit\nphase\n# Who has it?\n3 begin\n3 get 7\n3 commit\n";
+
+const RUSH_REPLIES: &str =
+    "0 begun 0\n0 ok\n0 committed 1\n1 begun 1\n1 ok\n1 committed 2\n2 begun 2\n2 ok\n2 committed 3\n3 begun 3\n3 row 0 2\n3 ended 3\n";
 
 const FOUND: &str =
     "# run --index 1\n# Stock found by a value: the key is the article; column 0 is the number in store, column 1 the shelf, which has an index.\n0 begin\n0 insert 11 40 3\n0 insert 12 15 7\n0 insert 13 8 3\n0 commit\n# What lies on shelf 3, and how much there is of everything.\n1 begin\n1 find 1 3\n1 sum 0\n# Beside it article 11 is moved, and article 14 comes to the shelf.\n0 begin\n0 update 11 _ 7\n0 insert 14 5 3\n0 find 1 3\n0 commit\n# The reader finds what it saw when it began; who begins now finds the new state.\n1 find 1 3\n1 find 1 7\n1 commit\n1 begin\n1 find 1 3\n1 find 1 7\n# A merge changes no answer. No row has shelf 9, and column 0 has no index.\nmerge 0 1\n1 find 1 3\n1 find 1 9\n1 find 0 40\n1 commit\n";
@@ -422,6 +464,11 @@ fn accounts_are_answered_as_the_guide_says(rt: HostRuntime) -> Result<(), Fail> 
 #[test]
 fn a_report_is_answered_as_the_guide_says(rt: HostRuntime) -> Result<(), Fail> {
     answers(&rt, rt.alloc(), REPORT, REPORT_REPLIES)
+}
+
+#[test]
+fn two_customers_want_the_last_piece(rt: HostRuntime) -> Result<(), Fail> {
+    answers(&rt, rt.alloc(), RUSH, RUSH_REPLIES)
 }
 
 #[test]

@@ -10,4 +10,4 @@ execute-requires-clause-taken c = subst (λ (script : List Line). All (IsTaken c
     (script_taken c.args.limits.now c.as_bytes.result.now c.in-Ok.script c.in-Ok.ensures.ok)
 
 pub returns-in-Ok-execute-clause-output : goal.returns-in-Ok-execute-clause-output
-returns-in-Ok-execute-clause-output c = run_output c.args.limits.now c.args.input.now _ _ _ _ _ _ c.output_of.ensures.text c.output_of.ensures.status c.output_of.ensures.both c.as_bytes.ensures c.items.ensures c.in-Ok.ensures.ok c.in-Ok-execute.ensures.text c.in-Ok-execute.ensures.left
+returns-in-Ok-execute-clause-output c = run_output c.args.limits.now c.args.input.now _ _ _ _ _ _ c.output_of.ensures c.as_bytes.ensures c.items.ensures c.in-Ok.ensures.ok c.in-Ok-execute.ensures.text c.in-Ok-execute.ensures.left

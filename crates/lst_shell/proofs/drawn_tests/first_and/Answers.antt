@@ -4,7 +4,7 @@ use Rattle.lst_shell.proofs.drawn_tests.first_and.Goals as goal
 
 pub returns : goal.returns
 returns c =
-    let first = c.push.ensures.items ∙ ap (λ changes. changes ++ Some c.args.first ∷ []) c.new-cells.ensures in
-    let both = c.push-2.ensures.items ∙ ap (λ changes. changes ++ c.args.second ∷ []) first in
-    let patch : c.of_numbers.result ≡ Some (Some c.args.first) ∷ option_map Some c.args.second ∷ [] = c.of_numbers.ensures ∙ ap (map (option_map Some)) both in
-    rw patch (record { width = refl; sets = (0, Some (Some c.args.first), omega arith, refl, refl) })
+    let none : c.of_numbers-patch.result ≡ [] = c.of_numbers-patch.ensures ∙ ap (map (option_map Some)) c.new.ensures in
+    let first = c.push.ensures ∙ ap (λ changes. changes ++ Some c.args.first ∷ []) none in
+    let both : c.push-2.new.self ≡ Some c.args.first ∷ c.args.second ∷ [] = c.push-2.ensures ∙ ap (λ changes. changes ++ c.args.second ∷ []) first in
+    rw both (record { width = refl; sets = (0, Some c.args.first, omega arith, refl, refl) })

@@ -4,7 +4,7 @@ use Rattle.lst_shell.proofs.drawn_tests.second_alone.Goals as goal
 
 pub returns : goal.returns
 returns c =
-    let first = c.push.ensures.items ∙ ap (λ changes. changes ++ None ∷ []) c.new-cells.ensures in
-    let both = c.push-2.ensures.items ∙ ap (λ changes. changes ++ Some c.args.second ∷ []) first in
-    let patch : c.of_numbers.result ≡ None ∷ Some (Some c.args.second) ∷ [] = c.of_numbers.ensures ∙ ap (map (option_map Some)) both in
-    rw patch (record { width = refl; sets = (1, Some (Some c.args.second), omega arith, refl, refl) })
+    let none : c.of_numbers-patch.result ≡ [] = c.of_numbers-patch.ensures ∙ ap (map (option_map Some)) c.new.ensures in
+    let first = c.push.ensures ∙ ap (λ changes. changes ++ None ∷ []) none in
+    let both : c.push-2.new.self ≡ None ∷ Some c.args.second ∷ [] = c.push-2.ensures ∙ ap (λ changes. changes ++ Some c.args.second ∷ []) first in
+    rw both (record { width = refl; sets = (1, Some c.args.second, omega arith, refl, refl) })

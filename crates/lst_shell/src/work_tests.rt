@@ -1,0 +1,181 @@
+//! Sessions at work: what `work` writes for a script is a report that `check` judges to be legal.
+
+use crate::tests::{Fails, NOTHING, called, shows};
+use lst_command::{FreeGate, Gate, Status};
+use lst_script::FaultKind;
+use std::alloc::Global;
+use std::process::Abort;
+use std::sync::Wait;
+use std::sync::atomic::{AtomicU64, Ordering};
+use std::test::Fail;
+use std::thread::Threads;
+
+/// Two sessions that write the same rows, with merges beside them, in two phases.
+const TWO_PHASES: &str =
+    "0 begin\n0 insert 1 10 20\n0 insert 2 30 40\n0 commit\n1 begin\n1 insert 1 11 21\n1 insert 3 50 60\n1 commit\n1 begin\n1 get 1\n1 count\n1 commit\nmerge 0 0\nmerge 0 1\nphase\n0 begin\n0 update 1 12 _\n0 get 1\n0 commit\n0 begin\n0 update 3 _ 61\n0 delete 2\n0 abort\n0 begin\n0 sum 1\n0 scan\n0 commit\nmerge 0 0\n1 begin\n1 update 1 _ 22\n1 update 2 31 _\n1 commit\n1 asof 1\n1 get 1\n1 scan\n1 commit\nmerge 0 1\n1 begin\n1 delete 1\n1 sum 0\n1 commit\nmerge 0 0\n";
+
+/// More writes and merges than a range of eight tails and one spare frame can take.
+const TIGHT: &str =
+    "0 begin\n0 insert 1 1 1\n0 insert 2 2 2\n0 commit\nmerge 0 0\n1 begin\n1 insert 3 3 3\n1 update 1 9 _\n1 get 2\n1 commit\nmerge 0 1\nmerge 0 0\n0 begin\n0 update 1 4 _\n0 update 3 _ 5\n0 commit\nmerge 0 0\nphase\nmerge 0 1\n1 begin\n1 update 2 6 _\n1 update 1 _ 7\n1 sum 0\n1 commit\nmerge 0 0\n0 begin\n0 get 1\n0 update 2 8 8\n0 update 3 8 8\n0 delete 1\n0 commit\n0 begin\n0 scan\n0 commit\n0 begin\nmerge 0 1\nmerge 0 0\n";
+
+/// Lets the lines that it names pass one after another, in this order, and all others freely.
+#[derive(Drop)]
+struct InOrder<'a, R: Wait + Sync> {
+    rt: &'a R,
+    lines: &'a [u64],
+    next: AtomicU64,
+}
+
+impl<'a, R: Wait + Sync> Gate for InOrder<'a, R> {
+    fn at(&self, _session: u32, line: u64, after: bool) {
+        let Some(place) = self.lines.iter().position(|named| *named == line) else {
+            return;
+        };
+        let place = place as u64;
+        if after {
+            self.next.store(place.wrapping_add(1), Ordering::SeqCst);
+            return;
+        }
+        for _ in self.rt.forever() {
+            if self.next.load(Ordering::SeqCst) == place {
+                return;
+            }
+        }
+    }
+}
+
+/// What sessions at work write for a script, under a gate: it is judged to be legal.
+fn report_of<R: Abort + Threads + Wait + Sync, G: Gate + Sync>(
+    rt: &R,
+    alloc: Global,
+    options: &str,
+    script: &str,
+    gate: &G,
+) -> Result<Vec<u8>, Fail> {
+    let words = format!(in alloc; "work {options}")?;
+    let worked = called(rt, alloc, words.as_str(), script.as_bytes(), NOTHING, gate)?;
+    assert_eq!(rt; worked.status, Status::Done);
+    assert!(rt; worked.has_left && worked.errors.taken().is_empty());
+    let report = worked.sink.taken().to_vec(alloc)?;
+    let mut claim = script.as_bytes().to_vec(alloc)?;
+    claim.extend_from_slice(b"report\n")?;
+    claim.extend_from_slice(report.as_slice())?;
+    let words = format!(in alloc; "check {options}")?;
+    shows(
+        rt,
+        alloc,
+        words.as_str(),
+        claim.as_slice(),
+        NOTHING,
+        Status::Done,
+        "legal\n",
+        "",
+    )?;
+    Ok(report)
+}
+
+/// Two sessions at work, while these lines pass in this order: what they write, which is judged to be legal.
+fn writes_in_order(
+    rt: &(impl Abort + Threads + Wait + Sync),
+    alloc: Global,
+    script: &str,
+    lines: &[u64],
+    wanted: &str,
+) -> Result<(), Fail> {
+    let gate = InOrder {
+        rt,
+        lines,
+        next: AtomicU64::new(0),
+    };
+    let report = report_of(rt, alloc, "--sessions 2", script, &gate)?;
+    assert_eq!(rt; report.as_slice(), wanted.as_bytes());
+    Ok(())
+}
+
+#[test]
+fn two_sessions_at_work_write_a_legal_report(rt: HostRuntime) -> Result<(), Fail> {
+    for _ in 0..20u32 {
+        report_of(&rt, rt.alloc(), "--sessions 2", TWO_PHASES, &FreeGate)?;
+    }
+    Ok(())
+}
+
+#[test]
+fn a_line_that_is_held_back_sees_what_was_done_before_it(rt: HostRuntime) -> Result<(), Fail> {
+    let alloc = rt.alloc();
+    let script = "0 begin\n0 insert 7 10 20\n0 commit\n1 begin\n1 get 7\n1 commit\n";
+    writes_in_order(
+        &rt,
+        alloc,
+        script,
+        &[3, 4],
+        "0 begun 0\n0 ok\n0 committed 1\n1 begun 1\n1 row 10 20\n1 ended 1\nhistory 1\n1 0 1 0\n",
+    )?;
+    writes_in_order(
+        &rt,
+        alloc,
+        script,
+        &[6, 3],
+        "0 begun 0\n0 ok\n0 committed 1\n1 begun 0\n1 none\n1 ended 0\nhistory 1\n1 0 1 0\n",
+    )?;
+    writes_in_order(
+        &rt,
+        alloc,
+        "0 begin\n0 insert 7 1 1\n0 commit\n1 begin\n1 insert 7 2 2\n1 abort\n",
+        &[2, 5, 3],
+        "0 begun 0\n0 ok\n0 committed 1\n1 begun 0\n1 conflict open 0 1\n1 aborted\nhistory 1\n1 0 1 0\n",
+    )
+}
+
+#[test]
+fn merges_over_tight_limits_give_a_legal_report(rt: HostRuntime) -> Result<(), Fail> {
+    let options = "--sessions 2 --ranges 1 --tails 8 --txns 3 --spare 1";
+    for _ in 0..20u32 {
+        report_of(&rt, rt.alloc(), options, TIGHT, &FreeGate)?;
+    }
+    Ok(())
+}
+
+#[test]
+fn the_edges_of_work_are_those_of_run(rt: HostRuntime) -> Result<(), Fail> {
+    let alloc = rt.alloc();
+    shows(
+        &rt,
+        alloc,
+        "work",
+        b"",
+        NOTHING,
+        Status::Done,
+        "history 0\n",
+        "",
+    )?;
+    let status = Status::BadScript {
+        line: 2,
+        kind: FaultKind::BadSession,
+    };
+    shows(
+        &rt,
+        alloc,
+        "work --sessions 1",
+        b"0 begin\n1 begin\n",
+        NOTHING,
+        status,
+        "",
+        "lstore: line 2: no such session\n",
+    )?;
+    let fails = Fails {
+        read: 0,
+        write: 2,
+        report: 0,
+    };
+    shows(
+        &rt,
+        alloc,
+        "work",
+        b"0 begin\n",
+        fails,
+        Status::WriteFault,
+        "0 beg",
+        "lstore: write failed\n",
+    )
+}
