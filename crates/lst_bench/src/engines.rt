@@ -29,6 +29,14 @@ const LIMITS: Limits = Limits {
     indexed: 1,
 };
 
+/// The next number of a seed, below this one.
+pub(crate) fn drawn(seed: &mut u64, below: u64) -> u64 {
+    *seed = seed
+        .wrapping_mul(6364136223846793005)
+        .wrapping_add(1442695040888963407);
+    if below == 0 { 0 } else { (*seed >> 33) % below }
+}
+
 /// Asks an engine for the answers to drawn lines, or draws the lines alone.
 #[derive(Drop)]
 struct Asker {
@@ -41,7 +49,8 @@ struct Asker {
     ghost sized: { ((limits_of plain).sessions ≡ 4) × ((limits_of plain).ranges ≡ 4) × ((limits_of plain).columns ≡ 2) },
 }
 
-fn row(key: Key, value: u64) -> Row
+/// A row of a number and its key.
+pub(crate) fn row(key: Key, value: u64) -> Row
     ensures { CallFits 2 (Call.Insert key result) }
 {
     let mut cells = ArrayVec::new();
@@ -51,7 +60,7 @@ fn row(key: Key, value: u64) -> Row
 }
 
 /// The patch of a row's first cell.
-fn patch(value: u64) -> Patch
+pub(crate) fn patch(value: u64) -> Patch
     ensures { IsPatch 2 result }
 {
     let mut cells = ArrayVec::new();
@@ -63,15 +72,7 @@ fn patch(value: u64) -> Patch
 impl Asker {
     /// A number below this one.
     fn draw(&mut self, below: u64) -> u64 {
-        self.seed = self
-            .seed
-            .wrapping_mul(6364136223846793005)
-            .wrapping_add(1442695040888963407);
-        if below == 0 {
-            0
-        } else {
-            (self.seed >> 33) % below
-        }
+        drawn(&mut self.seed, below)
     }
 
     /// Passes a call of a session, and asks for its answer if the engine is to answer.

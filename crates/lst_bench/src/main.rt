@@ -6,17 +6,23 @@ ghost use Rattle.std.specs.Prelude.{◌<◌};
 mod engines;
 mod making;
 mod packs;
+mod phases;
 mod reports;
 mod runs;
+mod works;
 
 use engines::engine;
 use lst_layout::{Layout, Limits};
 use lst_seat::open_store;
 use packs::{deed_of, packs};
+use phases::phases;
 use reports::{Task, reports};
 use runs::{clocks, finds, head_runs, heads, time_runs, turns};
 use std::alloc::Global;
 use std::io;
+use std::sync::Wait;
+use std::thread::Threads;
+use works::{task_of, works};
 
 /// A store of one session that may begin 65,535 transactions.
 const LIMITS: Limits = Limits {
@@ -30,13 +36,23 @@ const LIMITS: Limits = Limits {
 };
 
 /// What the kind of run came to, or None for want of memory. A kind that there isn't comes to 0.
-fn answer(alloc: Global, layout: &Layout, kind: &str, count: u32) -> Option<u64> {
+fn answer<R: Threads + Wait + Sync>(
+    rt: &R,
+    alloc: Global,
+    layout: &Layout,
+    kind: &str,
+    count: u32,
+) -> Option<u64> {
+    if let Some(task) = task_of(kind) {
+        return works(rt, alloc, task, count).ok();
+    }
     if let Some((deed, form)) = deed_of(kind) {
         return Some(packs(deed, form, count));
     }
     let task = match kind {
         "drawn" => return engine(alloc, false, count).ok(),
         "plain" => return engine(alloc, true, count).ok(),
+        "phases" => return phases(alloc, count).ok(),
         "made" => Task::Make,
         "printed" => Task::Print,
         "read" => Task::Read,
@@ -76,7 +92,7 @@ fn main(rt: HostRuntime) -> io::Result<()> {
         let Ok(count) = count.parse::<u32>() else {
             continue;
         };
-        let Some(answer) = answer(rt.alloc(), &layout, kind, count) else {
+        let Some(answer) = answer(&rt, rt.alloc(), &layout, kind, count) else {
             println!(rt; "out of memory")?;
             return Ok(());
         };

@@ -1,0 +1,167 @@
+//! Scripts on which sessions work side by side, each on keys of its own, or all on one key.
+ghost use Rattle.std.specs.Prelude.{◌≡◌, ◌<◌, ◌≤◌, IfOk, OnOk};
+ghost use Rattle.std.specs.List.{All};
+ghost use Rattle.lst_model.specs.Lines.{CallFits, LineFits};
+
+use crate::engines::{drawn, patch, row};
+use lst_layout::Limits;
+use lst_model::{Call, Line, OutOfMemory};
+use lst_script::Script;
+use lst_work::{FreeGate, work};
+use std::alloc::Global;
+use std::sync::Wait;
+use std::thread::Threads;
+
+/// Each has a row from the first commit on. They are put in order, so 256 of them are in each range of records.
+const KEYS: u64 = 1024;
+
+/// The limits of the store.
+const LIMITS: Limits = Limits {
+    columns: 2,
+    ranges: 4,
+    tails: 16_384,
+    sessions: 4,
+    txns: 65_535,
+    spare: 8,
+    indexed: 0,
+};
+
+/// What is done with a script of such a kind.
+#[derive(Clone, Copy)]
+pub struct Task {
+    /// How many sessions work.
+    sessions: u32,
+    /// How many keys each session has. Sessions have different keys, unless this is 1: then all have the one key.
+    keys: u64,
+    /// Whether it is run, or drawn alone.
+    runs: bool,
+    ghost few: { sessions ≤ 4 },
+}
+
+/// The task of a kind of run, or None where there is none of this name.
+pub fn task_of(kind: &str) -> Option<Task> {
+    let (sessions, keys, runs) = match kind {
+        "lines_1" => (1, KEYS, false),
+        "lines_2" => (2, KEYS / 2, false),
+        "lines_4" => (4, KEYS / 4, false),
+        "works_1" => (1, KEYS, true),
+        "works_2" => (2, KEYS / 2, true),
+        "works_4" => (4, KEYS / 4, true),
+        "rivals_2" => (2, 1, true),
+        _ => return None,
+    };
+    Some(Task {
+        sessions,
+        keys,
+        runs,
+    })
+}
+
+/// A script that is being drawn.
+#[derive(Drop)]
+struct Drawing {
+    lines: Vec<Line>,
+    seed: u64,
+}
+
+impl Drawing {
+    /// Adds a call of a session.
+    fn ask(&mut self, session: u32, call: Call) -> Result<(), OutOfMemory>
+        requires call { (session < 4) × CallFits 2 call }
+        requires fits { All (LineFits 4 4 2) self.old.lines.items }
+        ensures fits { OnOk result (All (LineFits 4 4 2) self.new.lines.items) }
+    {
+        self.lines.push(Line::Call { session, call })?;
+        Ok(())
+    }
+
+    /// The first phase, which puts each key.
+    fn fill(&mut self) -> Result<(), OutOfMemory>
+        requires fits { All (LineFits 4 4 2) self.old.lines.items }
+        ensures fits { OnOk result (All (LineFits 4 4 2) self.new.lines.items) }
+    {
+        self.ask(0, Call::Begin)?;
+        for key in 0..KEYS {
+            self.ask(
+                0,
+                Call::Insert {
+                    key,
+                    row: row(key, 0),
+                },
+            )?;
+        }
+        self.ask(0, Call::Commit)?;
+        self.lines.push(Line::Phase)?;
+        Ok(())
+    }
+
+    /// A key of a session.
+    fn key(&mut self, session: u32, keys: u64) -> u64
+        ensures { self.new.lines ≡ self.old.lines }
+    {
+        let first = if keys == 1 { 0 } else { u64::from(session) };
+        first
+            .wrapping_mul(keys)
+            .wrapping_add(drawn(&mut self.seed, keys))
+    }
+
+    /// A transaction of six lines. One in ten is rolled back.
+    fn transact(&mut self, session: u32, keys: u64) -> Result<(), OutOfMemory>
+        requires session { session < 4 }
+        requires fits { All (LineFits 4 4 2) self.old.lines.items }
+        ensures fits { OnOk result (All (LineFits 4 4 2) self.new.lines.items) }
+    {
+        self.ask(session, Call::Begin)?;
+        let key = self.key(session, keys);
+        let patch = patch(key);
+        self.ask(session, Call::Update { key, patch })?;
+        for _ in 0..3 {
+            let key = self.key(session, keys);
+            self.ask(session, Call::Get { key })?;
+        }
+        if drawn(&mut self.seed, 10) == 0 {
+            return self.ask(session, Call::Abort);
+        }
+        self.ask(session, Call::Commit)
+    }
+}
+
+/// The script of a task, with about so many lines behind its first phase.
+fn script(alloc: Global, task: Task, lines: u32) -> Result<Script, OutOfMemory>
+    ensures { IfOk result (All (LineFits 4 4 2)) }
+{
+    let mut drawing = Drawing {
+        lines: Vec::new(alloc),
+        seed: 1,
+    };
+    drawing.fill()?;
+    let mut session = 0;
+    for _ in 0..lines / 6 {
+        drawing.transact(session, task.keys)?;
+        session = if session + 1 < task.sessions {
+            session + 1
+        } else {
+            0
+        };
+    }
+    Ok(Script::from_items(drawing.lines))
+}
+
+/// Draws the script of a task, with about so many lines behind its first phase, and answers how many lines it has; or how many commits there
+/// were once the sessions had worked on it, each in a thread of its own.
+pub fn works<R: Threads + Wait + Sync>(
+    rt: &R,
+    alloc: Global,
+    task: Task,
+    lines: u32,
+) -> Result<u64, OutOfMemory> {
+    let Ok(layout) = LIMITS.check() else {
+        return Ok(0);
+    };
+    let script = script(alloc, task, lines)?;
+    if !task.runs {
+        return Ok(script.items().len() as u64);
+    }
+    let (report, _, _) = work(rt, alloc, &layout, &script, &FreeGate)?;
+    Ok(report.history.len() as u64)
+}
