@@ -1,7 +1,8 @@
 -- Numbers of some bits in words.
 use Rattle.std.proofs.Common.{◌≡◌, ℕ, zero, suc, ◌+◌, ◌-◌, ◌*◌, ◌/◌, ◌%◌, ◌^◌, ◌<◌, ◌≤◌, List, slice_index, refl, ap, ◌∙◌, arith, subst, sym, ⊎_elim, ◌⊎◌}
 use Rattle.std.proofs.Math.Nat.{mul-le-mul_right, div-div-eq-div-mul, pow-le-pow_right, one-le-pow}
-use Rattle.std.proofs.lemmas.Nat.{div-mul-add, pow-add, div-add-mod'}
+use Rattle.std.proofs.lemmas.Nat.{div-mul-add, pow-add, div-add-mod', field_of}
+use Rattle.std.proofs.Math.Pow.{mod-mod-pow}
 use Rattle.std.proofs.Math.Arith.{digits_mod}
 use Rattle.lst_pack.specs.Forms.{number_at, IsWidth}
 
@@ -21,6 +22,29 @@ number_in_word words from width per turn k whole some low =
     let m : (turn * per + k) * width % 64 ≡ k * width = ap (λ n. n % 64) e ∙ digits_mod turn b in
     ap (λ n. slice_index words (from + n) / 2 ^ ((turn * per + k) * width % 64) % 2 ^ width) d ∙ ap (λ n. slice_index words (from + turn) / 2 ^ n % 2 ^ width) m
 
+-- some bits of a number stand in its low eight too, where these reach so far
+bits_in_byte : (n skipped width above : ℕ) → above + width + skipped ≡ 8 → n / 2 ^ skipped % 2 ^ width ≡ n % 2 ^ 8 / 2 ^ skipped % 2 ^ width
+bits_in_byte n skipped width above eight =
+    sym (mod-mod-pow (n / 2 ^ skipped) above width) ∙ ap (λ m. m % 2 ^ width) (sym (field_of n (above + width) skipped)) ∙ ap (λ m. n % 2 ^ m / 2 ^ skipped % 2 ^ width) eight
+
+-- the number at place k of a byte that holds `per` of them
+pub number_in_byte : (words : List ℕ) (from width per place k : ℕ) → per * width ≡ 8 → 0 < width → k < per
+    → number_at words from width (place * per + k) ≡ number_at words from 8 place / 2 ^ (k * width) % 2 ^ width
+number_in_byte words from width per place k whole some low =
+    let p = ap (λ n. place * n) whole in
+    let e : (place * per + k) * width ≡ place * 8 + k * width = omega (arith, p) in
+    let h : k + 1 ≤ per = omega arith in
+    let most = mul-le-mul_right width h in
+    let b : k * width + width ≤ 8 = omega (arith, most, whole) in
+    let d : (place * per + k) * width / 64 ≡ place * 8 / 64 = ap (λ n. n / 64) e ∙ (let g : (place * 8 + k * width) / 64 ≡ place * 8 / 64 = omega (arith, b) in g) in
+    let m : (place * per + k) * width % 64 ≡ place * 8 % 64 + k * width = ap (λ n. n % 64) e ∙ (let g : (place * 8 + k * width) % 64 ≡ place * 8 % 64 + k * width = omega (arith, b) in g) in
+    let word = slice_index words (from + place * 8 / 64) in
+    ap (λ n. slice_index words (from + n) / 2 ^ ((place * per + k) * width % 64) % 2 ^ width) d
+    ∙ ap (λ n. word / 2 ^ n % 2 ^ width) m
+    ∙ ap (λ n. word / n % 2 ^ width) (pow-add 2 (place * 8 % 64) (k * width))
+    ∙ ap (λ n. n % 2 ^ width) (sym (div-div-eq-div-mul word (2 ^ (place * 8 % 64)) (2 ^ (k * width))))
+    ∙ bits_in_byte (word / 2 ^ (place * 8 % 64)) (k * width) width (8 - (k * width + width)) (omega (arith, b))
+
 -- how many numbers of this width a word holds
 pub per_word : (width : ℕ) → IsWidth width → ((64 / width) * width ≡ 64) × (0 < width) × (width ≤ 32)
 per_word width is = grind arith
@@ -32,6 +56,22 @@ at_width P one two four eight sixteen thirty width is =
     ⊎_elim (λ (e : width ≡ 4). subst P (sym e) four) (λ (rest : (width ≡ 8) ⊎ ((width ≡ 16) ⊎ (width ≡ 32))).
     ⊎_elim (λ (e : width ≡ 8). subst P (sym e) eight) (λ (rest : (width ≡ 16) ⊎ (width ≡ 32)).
     ⊎_elim (λ (e : width ≡ 16). subst P (sym e) sixteen) (λ (e : width ≡ 32). subst P (sym e) thirty) rest) rest) rest) rest) is
+
+-- how many numbers of a narrow width a byte holds
+pub at_narrow : (P : ℕ → Type 0) → P 1 → P 2 → P 4 → (width : ℕ) → (width ≡ 1) ⊎ ((width ≡ 2) ⊎ (width ≡ 4)) → P width
+at_narrow P one two four width is =
+    ⊎_elim (λ (e : width ≡ 1). subst P (sym e) one) (λ (rest : (width ≡ 2) ⊎ (width ≡ 4)).
+    ⊎_elim (λ (e : width ≡ 2). subst P (sym e) two) (λ (e : width ≡ 4). subst P (sym e) four) rest) is
+
+pub per_byte : (width : ℕ) → (width ≡ 1) ⊎ ((width ≡ 2) ⊎ (width ≡ 4)) → ((8 / width) * width ≡ 8) × (0 < width)
+per_byte = at_narrow (λ width. ((8 / width) * width ≡ 8) × (0 < width)) (refl, omega arith) (refl, omega arith) (refl, omega arith)
+
+pub one_in_byte : (width : ℕ) → (width ≡ 1) ⊎ ((width ≡ 2) ⊎ (width ≡ 4)) → 1 * 2 ^ width % 256 ≡ 2 ^ width
+one_in_byte = at_narrow (λ width. 1 * 2 ^ width % 256 ≡ 2 ^ width) refl refl refl
+
+pub byte_within : (width : ℕ) → (width ≡ 1) ⊎ ((width ≡ 2) ⊎ (width ≡ 4)) → (place k : ℕ) → place < 32 * width → k < 8 / width → place * (8 / width) + k < 256
+byte_within = at_narrow (λ width. (place k : ℕ) → place < 32 * width → k < 8 / width → place * (8 / width) + k < 256)
+    (λ place k a b. omega arith) (λ place k a b. omega arith) (λ place k a b. omega arith)
 
 -- a one moved up by the width stays within a word
 pub one_moved : (width : ℕ) → IsWidth width → 1 * 2 ^ width % 18446744073709551616 ≡ 2 ^ width

@@ -8,6 +8,7 @@ mod packing;
 mod single;
 mod survey;
 mod whole;
+mod widths;
 
 pub use checks::is_packed;
 pub use forms::Form;

@@ -118,6 +118,24 @@ fn a_hundred_and_twenty_eight_runs_are_written_and_one_more_is_not(rt: HostRunti
 }
 
 #[test]
+fn runs_of_one_place_and_more_are_read(rt: HostRuntime) {
+    let mut values = [0; 256];
+    let mut run: u64 = 0;
+    let mut left: u64 = 1;
+    for place in 0..256 {
+        values[place] = run << 40;
+        left = left.wrapping_sub(1);
+        if left == 0 {
+            run = run.wrapping_add(1);
+            left = run.wrapping_add(1);
+        }
+    }
+    // 22 runs of 1 to 22 places, and one of 3.
+    let (words, [word, ..]) = packed(&rt, &values);
+    assert_eq!(rt; (words, word), (47, 3 + 8 * 23));
+}
+
+#[test]
 fn differences_take_the_least_width_that_holds_them(rt: HostRuntime) {
     for (top, count, first) in [
         (1u64, 6, 12),

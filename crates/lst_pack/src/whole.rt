@@ -1,6 +1,8 @@
 //! All values of a packed page.
-ghost use Rattle.std.specs.Prelude.{◌≡◌, ℕ, ◌+◌, ◌*◌, ◌<◌, ◌≤◌, List, length, slice_index};
+ghost use Rattle.std.specs.Prelude.{◌≡◌, ℕ, ◌+◌, ◌*◌, ◌^◌, ◌⊎◌, ◌<◌, ◌≤◌, List, length, slice_index};
 ghost use Rattle.lst_pack.specs.Forms.{run_value, code_at, difference_at, IsDictionary, AreRuns, IsInRun, IsReference, Packs, IsPacked};
+
+use crate::widths::{read_bytes, read_halves, read_narrow, read_wide};
 
 /// Writes the 256 values of the page with which `words` begin.
 ///
@@ -36,16 +38,17 @@ fn unpack_plain(words: &[u64], out: &mut [u64; 256])
     }
 }
 
-// A word of 16 codes at a time.
+// The codes are read first, each into a byte.
 fn unpack_dictionary(words: &[u64], size: usize, out: &mut [u64; 256])
     requires long { 17 + size ≤ length words.now }
     requires dictionary { IsDictionary words.now size }
     ensures { (place : ℕ) → place < 256 → slice_index out.new place ≡ slice_index words.now (1 + code_at words.now size place) }
 {
+    let mut codes = [0; 256];
+    read_narrow::<4, 128>(words, 1 + size, &mut codes);
     for turn in 0..16 {
-        let word = words[1 + size + turn];
         for k in 0..16 {
-            out[turn * 16 + k] = words[1 + ((word >> (k * 4)) % 16) as usize];
+            out[turn * 16 + k] = words[1 + codes[turn * 16 + k] as usize];
         }
     }
 }
@@ -59,10 +62,40 @@ fn unpack_runs(words: &[u64], runs: usize, out: &mut [u64; 256])
     for run in 0..runs {
         let value = words[1 + 2 * run];
         let end = words[2 + 2 * run] as usize;
+        fill_run(start, end, value, out);
+        start = end;
+    }
+}
+
+// Eight places at a time while these are within the page. So places past the end may be written, where the next run is to stand.
+fn fill_run(start: usize, end: usize, value: u64, out: &mut [u64; 256])
+    requires some { start < end }
+    requires end { end ≤ 256 }
+    ensures before { (place : ℕ) → place < start → slice_index out.new place ≡ slice_index out.old place }
+    ensures run { (place : ℕ) → start ≤ place → place < end → slice_index out.new place ≡ value }
+{
+    if end <= 248 {
+        fill_eight(start, value, out);
+        let mut place = start + 8;
+        while place < end {
+            fill_eight(place, value, out);
+            place += 8;
+        }
+    } else {
         for place in start..end {
             out[place] = value;
         }
-        start = end;
+    }
+}
+
+#[inline(always)]
+fn fill_eight(from: usize, value: u64, out: &mut [u64; 256])
+    requires { from + 8 ≤ 256 }
+    ensures before { (place : ℕ) → place < from → slice_index out.new place ≡ slice_index out.old place }
+    ensures eight { (place : ℕ) → from ≤ place → place < from + 8 → slice_index out.new place ≡ value }
+{
+    for k in 0..8 {
+        out[from + k] = value;
     }
 }
 
@@ -72,26 +105,68 @@ fn unpack_reference(words: &[u64], width: u64, out: &mut [u64; 256])
     ensures { (place : ℕ) → place < 256 → slice_index out.new place ≡ slice_index words.now 1 + difference_at words.now width place }
 {
     match width {
-        1 => unpack_differences::<1>(words, out),
-        2 => unpack_differences::<2>(words, out),
-        4 => unpack_differences::<4>(words, out),
-        8 => unpack_differences::<8>(words, out),
-        16 => unpack_differences::<16>(words, out),
-        _ => unpack_differences::<32>(words, out),
+        1 => unpack_narrow::<1, 32>(words, out),
+        2 => unpack_narrow::<2, 64>(words, out),
+        4 => unpack_narrow::<4, 128>(words, out),
+        8 => unpack_bytes(words, out),
+        16 => unpack_halves(words, out),
+        _ => unpack_wide(words, out),
     }
 }
 
-// A word of differences of `WIDTH` bits at a time.
-fn unpack_differences<const WIDTH: usize>(words: &[u64], out: &mut [u64; 256])
+fn unpack_narrow<const WIDTH: usize, const COUNT: usize>(words: &[u64], out: &mut [u64; 256])
+    requires width { (WIDTH ≡ 1) ⊎ ((WIDTH ≡ 2) ⊎ (WIDTH ≡ 4)) }
+    requires count { COUNT ≡ 32 * WIDTH }
     requires long { 2 + 4 * WIDTH ≤ length words.now }
     requires reference { IsReference words.now WIDTH }
     ensures { (place : ℕ) → place < 256 → slice_index out.new place ≡ slice_index words.now 1 + difference_at words.now WIDTH place }
 {
+    let mut differences = [0; 256];
+    read_narrow::<WIDTH, COUNT>(words, 2, &mut differences);
+    add_base(words[1], &differences, out);
+}
+
+fn unpack_bytes(words: &[u64], out: &mut [u64; 256])
+    requires long { 34 ≤ length words.now }
+    requires reference { IsReference words.now 8 }
+    ensures { (place : ℕ) → place < 256 → slice_index out.new place ≡ slice_index words.now 1 + difference_at words.now 8 place }
+{
+    let mut differences = [0; 256];
+    read_bytes(words, 2, &mut differences);
+    add_base(words[1], &differences, out);
+}
+
+fn add_base(base: u64, differences: &[u8; 256], out: &mut [u64; 256])
+    requires fits { (place : ℕ) → place < 256 → base + slice_index differences.now place < 2 ^ 64 }
+    ensures { (place : ℕ) → place < 256 → slice_index out.new place ≡ base + slice_index differences.now place }
+{
+    for place in 0..256 {
+        out[place] = base + differences[place] as u64;
+    }
+}
+
+fn unpack_halves(words: &[u64], out: &mut [u64; 256])
+    requires long { 66 ≤ length words.now }
+    requires reference { IsReference words.now 16 }
+    ensures { (place : ℕ) → place < 256 → slice_index out.new place ≡ slice_index words.now 1 + difference_at words.now 16 place }
+{
+    let mut differences = [0; 256];
+    read_halves(words, 2, &mut differences);
     let base = words[1];
-    for turn in 0..4 * WIDTH {
-        let word = words[2 + turn];
-        for k in 0..64 / WIDTH {
-            out[turn * (64 / WIDTH) + k] = base + ((word >> (k * WIDTH)) % (1 << WIDTH));
-        }
+    for place in 0..256 {
+        out[place] = base + differences[place] as u64;
+    }
+}
+
+fn unpack_wide(words: &[u64], out: &mut [u64; 256])
+    requires long { 130 ≤ length words.now }
+    requires reference { IsReference words.now 32 }
+    ensures { (place : ℕ) → place < 256 → slice_index out.new place ≡ slice_index words.now 1 + difference_at words.now 32 place }
+{
+    let mut differences = [0; 256];
+    read_wide(words, 2, &mut differences);
+    let base = words[1];
+    for place in 0..256 {
+        out[place] = base + differences[place] as u64;
     }
 }

@@ -8,9 +8,3 @@ invariant-loop-run l = record {
   here : (0 < l.run → l.start ≡ slice_index l.words (2 * l.run)) × (l.run ≡ 0 → l.start ≡ 0) × (l.start ≤ 256);
   done : (place run : ℕ) → place < l.start → IsInRun l.words l.runs place run → slice_index l.out place ≡ run_value l.words run;
 }
-
-abbrev pub invariant-loop-place : goal.invariant-loop-place
-invariant-loop-place l = record {
-  done : (place run : ℕ) → place < l.start → IsInRun l.words l.runs place run → slice_index l.out place ≡ run_value l.words run;
-  same : (place : ℕ) → l.start ≤ place → place < l.place → slice_index l.out place ≡ l.value;
-}

@@ -1,0 +1,5 @@
+use Rattle.std.proofs.Common.{◌≡◌, ℕ, ◌+◌, ◌<◌, slice_index}
+use Rattle.lst_pack.proofs.whole.unpack_halves.Given as goal
+
+abbrev pub invariant-loop-place : goal.invariant-loop-place
+invariant-loop-place l = (p : ℕ) → p < l.place → slice_index l.out p ≡ l.base + slice_index l.differences p
