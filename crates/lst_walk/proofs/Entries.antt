@@ -1,8 +1,9 @@
 -- The entry of a right page, and what is seen of the record's chain, in one state.
 use Rattle.std.proofs.Common.{◌≡◌, ◌≢◌, ℕ, ◌+◌, ◌*◌, ◌%◌, ◌<◌, ◌≤◌, List, [], ◌++◌, Bool, true, false, eqb, refl, sym, subst, ap, ◌∙◌, arith, ⊎_elim, true≢false, append_assoc, length, nat_lt, ◌&&◌, ltb-true, eqb-true}
-use Rattle.std.specs.Prelude.{None}
+use Rattle.std.specs.Prelude.{Some, None, cond}
 use Rattle.lst_layout.specs.declared.limits.Limits.{Limits}
 use Rattle.lst_model.specs.declared.acts.Act.{Act}
+use Rattle.lst_model.specs.Cells.{number_of}
 use Rattle.lst_model.specs.CellLaws.{length-cells_of}
 use Rattle.lst_model.specs.Histories.{row_from}
 use Rattle.lst_model.specs.Soundness.{FitInTurn}
@@ -190,3 +191,10 @@ module _ (c : Core) (sound : Sound c) (k : Known) (s : ℕ)
   entry_cell short fits timely = entry_is_answer column (rec % 256) k.begin p n (λ m. w.cells (base + m) 2) tail_of seen_at (settled_tails l w (range_of rec)) high lower walked timely l.columns short here
       (subst (λ (xs : List Act). FitInTurn None xs) (sym made) fits)
       ∙ ap (λ (xs : List Act). column_of column (row_from None xs)) made
+
+-- ---- a number and its null bit
+
+-- the number of a cell that isn't 0 isn't that of a null
+pub cell_some : (null : Bool) (number : ℕ) → 0 < number → number ≡ number_of (cond null None (Some number)) → Some number ≡ cond null None (Some number)
+cell_some true number some is = absurd (omega arith)
+cell_some false number some is = refl

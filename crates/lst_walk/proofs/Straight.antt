@@ -1,10 +1,11 @@
 -- A row of which the pages tell every column at the record's newest version: one column after the other.
 use Rattle.std.proofs.Common.{◌≡◌, ℕ, zero, suc, ◌+◌, ◌/◌, ◌%◌, ◌<◌, ◌≤◌, List, [], ◌∷◌, ◌++◌, true, refl, sym, subst, ap, ◌∙◌, arith, length, length-append, map, replicate, slice_index, slice_set}
-use Rattle.std.specs.Prelude.{Option, Some, None, is_some, slice_get, unwrap_or}
+use Rattle.std.specs.Prelude.{Bool, cond, Option, Some, None, is_some, slice_get, unwrap_or}
 use Rattle.std.specs.List.{list_all}
 use Rattle.lst_layout.specs.declared.place.Place.TheVariants.{HeadWord}
 use Rattle.lst_layout.specs.declared.limits.Limits.{Limits}
-use Rattle.lst_model.specs.Cells.{Cell}
+use Rattle.lst_model.specs.Cells.{Cell, number_of}
+use Rattle.lst_pages.specs.declared.entries.Entry as page_entries
 use Rattle.lst_model.specs.Histories.{row_from}
 use Rattle.lst_core_state.specs.declared.known.Known.{Known}
 use Rattle.lst_pack.specs.Forms.{Packs}
@@ -21,6 +22,8 @@ use Rattle.lst_walk.specs.Readers.{IsReader}
 use Rattle.lst_walk.specs.Packed.{packed_words, Skims, skims_same, skims_on}
 use Rattle.lst_walk.specs.Pages.{ReadsPage, Takes}
 use Rattle.lst_walk.specs.declared.pages.Entry.{Entry}
+use Rattle.lst_walk.specs.Taking.{TakesAll}
+use Rattle.lst_walk.specs.Filling.{RowPages}
 use Rattle.lst_walk.specs.Walks.{RowWalk, Serves}
 use Rattle.lst_walk.specs.Whole.{TellsCell, PagedRow, PagedBy, PagedWalk}
 use Rattle.lst_walk.proofs.Reading.{watched_on}
@@ -29,7 +32,7 @@ use Rattle.lst_walk.proofs.Lists.{column_some}
 use Rattle.lst_walk.proofs.Walking.{row_stays}
 use Rattle.lst_walk.proofs.Paging.{reads_later}
 use Rattle.lst_walk.proofs.Loading.{packed_same}
-use Rattle.lst_walk.proofs.Rowing.{takes_later, serves_from, takes_earlier, column_told, column_set, walk_whole, walk_walked}
+use Rattle.lst_walk.proofs.Rowing.{rows_start, takes_later, serves_from, takes_earlier, column_told, column_set, walk_whole, walk_walked}
 use mathlib.Core.Logic.{dite}
 use native.Mathlib.Decide.{ℕ_discrete}
 
@@ -148,15 +151,52 @@ paged_walk_next store a b d s rec n k cells more cell some few walk reader skims
   goes = λ v p. subst (λ (xs : List Cell). PagedRow store v d s rec n (k + 1) xs) (sym is) (paged_next store v b d s rec n k cells cell some few (walk.goes v p) tells reader skims);
 }
 
+-- ---- the walk, where the pages don't tell the row
+
+-- looks at pages leave the walk at its start
+pub paged_stays : (store : Store) (v : View) (a b : Sitting) (s rec n : ℕ) → PagedRow store v a s rec n 0 [] → Skims a.view b.view s → IsReader store b s → PagedRow store v b s rec n 0 []
+paged_stays store v a b s rec n p skims reader = record {
+  host = p.host;
+  opened = p.opened;
+  rest = p.rest;
+  count = p.count;
+  columns = p.columns;
+  patch = p.patch;
+  is = p.is;
+  walk = row_stays store v a b s rec n p.patch p.walk skims.watched reader;
+  row = λ some. absurd (omega arith);
+  headed = p.headed;
+  word = p.word;
+  head = p.head;
+  is_head = p.is_head;
+  later = watched_on p.headed a.view b.view s p.later skims.watched;
+  quiet = skims.finds ∙ p.quiet;
+  reads = λ column low. absurd (omega arith);
+}
+
+pub walked_start : (store : Store) (v : View) (a b : Sitting) (s rec n : ℕ) (entries : List Entry) (patch : List (Option Cell)) → patch ≡ replicate store.layout.limits.columns None → PagedRow store v a s rec n 0 [] → TakesAll store a.view b s rec store.layout.limits.columns entries → RowPages store v b s rec n entries patch
+walked_start store v a b s rec n entries patch is p all =
+    let all_none : p.rest ≡ store.layout.limits.columns = (let c = p.columns in omega arith) in
+    let same : p.patch ≡ patch = p.is ∙ (ap (λ (m : ℕ). replicate m None) all_none ∙ sym is) in
+    rows_start store v p.headed a b s rec n entries patch p.host p.opened (subst (λ (q : List (Option Cell)). RowWalk store v a s rec n q) same p.walk) p.word p.head p.is_head
+    (record { watched = p.later; finds = p.quiet ∙ sym (ap (λ (k : Known). k.finds) p.head.view.now) }) all
+
 -- ---- a cell that a page tells
 
-pub tells_cell : (v w x : View) (s rec n column : ℕ) (entry : Entry) (cell : Cell) (t : Takes v w s rec column entry) → n ≤ entry.until → entry.is_present ≡ true → Watched w x s
-    → ((words : ℕ → ℕ) → HasInHand (knows w s).pages.session entry.frame words → (values : List ℕ) → Packs (packed_words w s entry.frame) values → cell ≡ frames.cell_in words (slice_index values (rec % 256)) (rec % 256)) → TellsCell v x s rec n column cell
+-- the page's value of a present entry is the number of its cell
+told_number : (v w : View) (s rec column : ℕ) (entry : Entry) (t : Takes v w s rec column entry) → 0 < entry.until → entry.is_present ≡ true → slice_index t.page.right.entries.values (rec % 256) ≡ number_of (frames.cell_in t.words (slice_index t.page.right.entries.values (rec % 256)) (rec % 256))
+told_number v w s rec column entry t some there =
+    let cell : Cell = frames.cell_in t.words (slice_index t.page.right.entries.values (rec % 256)) (rec % 256) in
+    let e = t.page.right.entries.each (rec % 256) (omega arith) in
+    e.number cell (ap (λ (x : page_entries.Entry). x.cell) (sym e.told) ∙ ap (λ (b : Bool). cond b (Some cell) None) (sym (t.usable some).present ∙ there))
+
+pub tells_cell : (v w x : View) (s rec n column : ℕ) (entry : Entry) (cell : Cell) (t : Takes v w s rec column entry) → 0 < n → n ≤ entry.until → entry.is_present ≡ true → Watched w x s
+    → ((words : ℕ → ℕ) → HasInHand (knows w s).pages.session entry.frame words → (values : List ℕ) → Packs (packed_words w s entry.frame) values → slice_index values (rec % 256) ≡ number_of (frames.cell_in words (slice_index values (rec % 256)) (rec % 256)) → cell ≡ frames.cell_in words (slice_index values (rec % 256)) (rec % 256)) → TellsCell v x s rec n column cell
 unfolding takes_later
-tells_cell v w x s rec n column entry cell t usable there more is = record {
+tells_cell v w x s rec n column entry cell t some usable there more is = record {
   entry = entry;
   takes = takes_later v w x s rec column entry more t;
   usable = usable;
   present = there;
-  is = is t.words t.in_hand t.page.right.entries.values (taken_packs v w s rec column entry t);
+  is = is t.words t.in_hand t.page.right.entries.values (taken_packs v w s rec column entry t) (told_number v w s rec column entry t (omega arith) there);
 }

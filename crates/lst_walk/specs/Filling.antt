@@ -81,8 +81,3 @@ pub record FillWalk (store : Store) (a seat : Sitting) (s rec n k : ℕ) (entrie
   pub goes : (v : View) → RowPages store v a s rec n entries old → GoesOn store v seat s rec n entries now used
   pub same : used ≡ false → now ≡ old
   pub done : (column : ℕ) → column < k → slice_get now column ≡ Some None → (entry_at entries column).until < n
-
--- the walk for a row, of which some column isn't set
-pub record RowOnWalk (store : Store) (v : View) (seat : Sitting) (s rec n : ℕ) (entries : List Entry) (patch : List (Option Cell)) : Type 0 where
-  pub pages : RowPages store v seat s rec n entries patch
-  pub unset : list_all is_some patch ≡ false

@@ -1,5 +1,6 @@
 -- A row of which the pages tell every column at the record's newest version.
-use Rattle.std.specs.Prelude.{◌≡◌, ℕ, ◌+◌, ◌/◌, ◌%◌, ◌<◌, ◌≤◌, List, ◌++◌, true, Option, Some, None, [], length, map, replicate, is_some, slice_index}
+use Rattle.std.specs.Prelude.{◌≡◌, ℕ, ◌+◌, ◌/◌, ◌%◌, ◌<◌, ◌≤◌, List, ◌++◌, true, false, Bool, cond, Option, Some, None, [], length, map, replicate, is_some, slice_index}
+use Rattle.std.specs.List.{list_all}
 use Rattle.lst_layout.specs.declared.place.Place.TheVariants.{HeadWord}
 use Rattle.lst_model.specs.Cells.{Cell}
 use Rattle.lst_model.specs.Histories.{row_from}
@@ -14,6 +15,7 @@ use Rattle.lst_walk.specs.Readers.{IsReader}
 use Rattle.lst_walk.specs.Packed.{Skims}
 use Rattle.lst_walk.specs.Pages.{Takes, ReadsPage, SavesRow}
 use Rattle.lst_walk.specs.declared.pages.Entry.{Entry}
+use Rattle.lst_walk.specs.Filling.{RowPages}
 use Rattle.lst_walk.specs.Walks.{IsRowOf, WalksRow, RowWalk}
 
 -- between v and w the session took the page of the column in hand, and at the number n its entry tells this cell
@@ -56,3 +58,19 @@ pub record PagedWalk (store : Store) (a seat : Sitting) (s rec n k : ℕ) (cells
   pub skims : Skims a.view seat.view s
   pub count : length cells ≡ k
   pub goes : (v : View) → PagedRow store v a s rec n 0 [] → PagedRow store v seat s rec n k cells
+
+-- what a call from v to w for the record's row answers
+pub record RowBy (v w : View) (s rec : ℕ) (found : Option (List Cell)) : Type 0 where
+  pub watched : Watched v w s
+  pub row : IsRowOf v s rec found
+  pub walk : WalksRow v w s rec found
+  pub saves : 0 < (knows v s).pages.session.pin → SavesRow v w s rec
+
+-- the row that a call put in its place, where it answers that there is one
+abbrev pub row_where : Bool → List Cell → Option (List Cell)
+row_where is_there row = cond is_there (Some row) None
+
+-- the walk for a row from the number n on, for each view at which the call for it may have begun; it is at the number m. Some column isn't set
+pub record RowOnWalk (store : Store) (a seat : Sitting) (s rec n m : ℕ) (entries : List Entry) (patch : List (Option Cell)) : Type 0 where
+  pub goes : (v : View) → PagedRow store v a s rec n 0 [] → RowPages store v seat s rec m entries patch
+  pub unset : list_all is_some patch ≡ false

@@ -9,7 +9,8 @@ ghost use Rattle.lst_walk.specs.Packed.{packed_words, Skims};
 ghost use Rattle.lst_walk.specs.Pages.{Takes};
 ghost use Rattle.lst_walk.specs.Taking.{TakesAll, entry_at};
 ghost use Rattle.lst_sights.specs.Watching.{HasInHand};
-ghost use Rattle.lst_model.specs.Cells.{has_bit};
+ghost use Rattle.lst_model.specs.Cells.{has_bit, number_of};
+ghost use Rattle.lst_layout.specs.Frames.{null_place, null_bit};
 ghost use Rattle.lst_pages.specs.Frames.{cell_in};
 
 use crate::packed::Packed;
@@ -41,7 +42,8 @@ pub(crate) fn entry_of(store: &Store, seat: &mut Seat, s: u32, rec: RecordId, co
     ensures none { (knows seat.old.view s).pages.session.pin ≡ 0 → result.until ≡ 0 }
 {
     if seat.pinned(s).is_some() {
-        taken(store, seat, s, rec, column)
+        let begin = seat.begin(s);
+        taken(store, seat, s, rec, column, begin)
     } else {
         Entry {
             frame: 0,
@@ -51,12 +53,21 @@ pub(crate) fn entry_of(store: &Store, seat: &mut Seat, s: u32, rec: RecordId, co
     }
 }
 
-/// The same of a session with a pin.
-pub(crate) fn taken(store: &Store, seat: &mut Seat, s: u32, rec: RecordId, column: u32) -> Entry
+/// The same of a session with a pin, whose open transaction has this begin.
+#[inline(always)]
+pub(crate) fn taken(
+    store: &Store,
+    seat: &mut Seat,
+    s: u32,
+    rec: RecordId,
+    column: u32,
+    begin: u64,
+) -> Entry
     requires reader { IsReader store.now seat.old s }
     requires pinned { 0 < (knows seat.old.view s).pages.session.pin }
     requires rec { rec.number < record_count store.now.layout.limits }
     requires column { column < store.now.layout.limits.columns }
+    requires begin { begin ≡ (knows seat.old.view s).begin }
     ensures reader { IsReader store.now seat.new s }
     ensures skims { Skims seat.old.view seat.new.view s }
     ensures takes { Takes seat.old.view seat.new.view s rec.number column result }
@@ -67,7 +78,7 @@ pub(crate) fn taken(store: &Store, seat: &mut Seat, s: u32, rec: RecordId, colum
     let (time, is_present) = unpack_time(stamp);
     Entry {
         frame,
-        until: until(tps, time, seat.begin(s)),
+        until: until(tps, time, begin),
         is_present,
     }
 }
@@ -179,6 +190,48 @@ pub(crate) fn present_cell(
     }
 }
 
+/// The same where the page has the number 0 for null: the null word is loaded only where the number is 0.
+#[inline(always)]
+pub(crate) fn numbered_cell(
+    store: &Store,
+    seat: &mut Seat,
+    s: u32,
+    frame: u32,
+    slot: u32,
+) -> Option<u64>
+    requires reader { IsReader store.now seat.old s }
+    requires frame { frame < frame_count seat.old.view.limits }
+    requires packed { IsPacked (packed_words seat.old.view s frame) }
+    requires slot { slot < 256 }
+    ensures reader { IsReader store.now seat.new s }
+    ensures skims { Skims seat.old.view seat.new.view s }
+    ensures cell { (words : ℕ → ℕ) → HasInHand (knows seat.old.view s).pages.session frame words → (values : List ℕ) → Packs (packed_words seat.old.view s frame) values → slice_index values slot ≡ number_of (cell_in words (slice_index values slot) slot) → result ≡ cell_in words (slice_index values slot) slot }
+{
+    let number = value(store, seat, s, frame, slot);
+    if number > 0 {
+        return Some(number);
+    }
+    if is_null(store, seat, s, frame, slot) {
+        None
+    } else {
+        Some(0)
+    }
+}
+
+/// Whether the null bit of a slot is set, of the page in a frame that is in hand.
+fn is_null(store: &Store, seat: &mut Seat, s: u32, frame: u32, slot: u32) -> bool
+    requires reader { IsReader store.now seat.old s }
+    requires frame { frame < frame_count seat.old.view.limits }
+    requires slot { slot < 256 }
+    ensures reader { IsReader store.now seat.new s }
+    ensures skims { Skims seat.old.view seat.new.view s }
+    ensures same { knows seat.new.view s ≡ knows seat.old.view s }
+    ensures null { (words : ℕ → ℕ) → HasInHand (knows seat.old.view s).pages.session frame words → result ≡ has_bit (words (null_place slot)) (null_bit slot) }
+{
+    let nulls = load_frame(store, seat, s, frame, FRAME_NULLS + slot / 64);
+    is_bit(nulls, slot % 64)
+}
+
 /// Whether a bit of a word is set.
 fn is_bit(word: u64, bit: u32) -> bool
     requires { bit < 64 }
@@ -188,6 +241,7 @@ fn is_bit(word: u64, bit: u32) -> bool
 }
 
 /// The value at a slot of the page in a frame that is in hand.
+#[inline(always)]
 pub(crate) fn value(store: &Store, seat: &mut Seat, s: u32, frame: u32, slot: u32) -> u64
     requires reader { IsReader store.now seat.old s }
     requires frame { frame < frame_count seat.old.view.limits }

@@ -1,5 +1,5 @@
 //! A record's row.
-ghost use Rattle.std.specs.Prelude.{◌≡◌, ℕ, ◌+◌, ◌*◌, ◌<◌, ◌≤◌, true, length, map, slice_index, unwrap_or, is_some, None, Bool};
+ghost use Rattle.std.specs.Prelude.{◌≡◌, ℕ, ◌+◌, ◌*◌, ◌<◌, ◌≤◌, [], true, length, map, slice_index, unwrap_or, is_some, None, Bool};
 ghost use Rattle.std.specs.List.{list_all};
 ghost use Rattle.lst_model.specs.Cells.{overlaid, cell_of, cells_of, patched};
 ghost use Rattle.lst_core_state.specs.Cells.{record_count};
@@ -14,6 +14,7 @@ ghost use Rattle.lst_walk.specs.Packed.{Skims};
 ghost use Rattle.lst_walk.specs.Taking.{entry_at};
 ghost use Rattle.lst_walk.specs.Pages.{touches_by, is_told, SavesRow};
 ghost use Rattle.lst_walk.specs.Walks.{IsRowOf, WalksRow, Visited, Acted, Leaves};
+ghost use Rattle.lst_walk.specs.Whole.{PagedRow, RowBy, row_where};
 ghost use Rattle.lst_walk.specs.Filling.{RowPages, GoesOn, Fills, SetsAll, FillsColumn, SetsColumn};
 
 use crate::pages::{Entry, cell_of, entries_of, newest};
@@ -52,6 +53,7 @@ pub(crate) enum Filled {
 /// and the start word not stamped, it stores the commit time there. Where the session has a pin, the pages of all columns are taken in hand first,
 /// and at each number that the walk comes to, each column that isn't set yet is filled by its page's entry, if the number is at most the
 /// page's TPS, and the entry's time at most the begin. Where that holds of every column at the head, no word of a tail record is loaded.
+#[inline(always)]
 pub fn row(store: &Store, seat: &mut Seat, s: u32, rec: RecordId) -> Option<Row>
     requires seat { IsSeatOf store.now seat.old }
     requires host { hosts seat.old.view s ≡ true }
@@ -64,13 +66,54 @@ pub fn row(store: &Store, seat: &mut Seat, s: u32, rec: RecordId) -> Option<Row>
     ensures walk { WalksRow seat.old.view seat.new.view s rec.number result }
     ensures saves { 0 < (knows seat.old.view s).pages.session.pin → SavesRow seat.old.view seat.new.view s rec.number }
 {
-    seat.consider();
-    let range = rec.number / 256;
-    let mut number = head(store, seat, s, rec);
-    let mut told = Row::of_numbers(ArrayVec::new());
-    if paged(store, seat, s, rec, number, &mut told) {
-        return Some(told);
+    let mut row = Row::of_numbers(ArrayVec::new());
+    if put_row(store, seat, s, rec, &mut row) {
+        Some(row)
+    } else {
+        None
     }
+}
+
+/// What `row` answers, put into a row that has no cells. Whether there is a row is answered.
+#[inline(always)]
+pub fn put_row(store: &Store, seat: &mut Seat, s: u32, rec: RecordId, row: &mut Row) -> bool
+    requires seat { IsSeatOf store.now seat.old }
+    requires host { hosts seat.old.view s ≡ true }
+    requires own { s < seat.old.view.limits.sessions }
+    requires opened { (knows seat.old.view s).is_open ≡ true }
+    requires rec { rec.number < record_count store.now.layout.limits }
+    requires empty { row.old ≡ [] }
+    ensures seat { IsSeatOf store.now seat.new }
+    ensures watched { Watched seat.old.view seat.new.view s }
+    ensures row { IsRowOf seat.old.view s rec.number (row_where result row.new) }
+    ensures walk { WalksRow seat.old.view seat.new.view s rec.number (row_where result row.new) }
+    ensures saves { 0 < (knows seat.old.view s).pages.session.pin → SavesRow seat.old.view seat.new.view s rec.number }
+{
+    seat.consider();
+    let number = head(store, seat, s, rec);
+    if paged(store, seat, s, rec, number, row) {
+        return true;
+    }
+    match walked(store, seat, s, rec, number) {
+        Some(found) => {
+            *row = found;
+            true
+        }
+        None => false,
+    }
+}
+
+/// The row of a record, by a walk from the number of its newest version on. Apart from `row`, whose frame is small without its arrays.
+#[inline(never)]
+fn walked(store: &Store, seat: &mut Seat, s: u32, rec: RecordId, number: u32) -> Option<Row>
+    requires reader { IsReader store.now seat.old s }
+    requires rec { rec.number < record_count store.now.layout.limits }
+    requires walk { (v : View) × PagedRow store.now v seat.old s rec.number number 0 [] }
+    ensures reader { IsReader store.now seat.new s }
+    ensures told { (v : View) → PagedRow store.now v seat.old s rec.number number 0 [] → RowBy v seat.new.view s rec.number result }
+{
+    let range = rec.number / 256;
+    let mut number = number;
     let mut cells = [None; 8];
     let patch = &mut cells[..store.layout().limits.columns as usize];
     let entries = entries_of(store, seat, s, rec);

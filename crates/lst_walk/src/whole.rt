@@ -7,11 +7,13 @@ ghost use Rattle.lst_walk.specs.Readers.{IsReader};
 ghost use Rattle.lst_walk.specs.Packed.{Skims};
 ghost use Rattle.lst_walk.specs.Whole.{TellsCell, PagedRow, PagedBy};
 
-use crate::pages::{present_cell, taken};
+use crate::pages::{numbered_cell, taken};
 use lst_model::Row;
 use lst_rule::{RecordId, Seat, Store};
 
-/// The cell that the page of a column tells of a record at this number, where there is a row. None comes where the page doesn't tell it.
+/// The cell that the page of a column tells of a record at this number, where there is a row. None comes where the page doesn't tell it to the open
+/// transaction, which has this begin.
+#[inline(always)]
 fn page_cell(
     store: &Store,
     seat: &mut Seat,
@@ -19,18 +21,21 @@ fn page_cell(
     rec: RecordId,
     number: u32,
     column: u32,
+    begin: u64,
 ) -> Option<Option<u64>>
     requires reader { IsReader store.now seat.old s }
     requires pinned { 0 < (knows seat.old.view s).pages.session.pin }
     requires rec { rec.number < record_count store.now.layout.limits }
+    requires number { 0 < number }
     requires column { column < store.now.layout.limits.columns }
+    requires begin { begin ≡ (knows seat.old.view s).begin }
     ensures reader { IsReader store.now seat.new s }
     ensures skims { Skims seat.old.view seat.new.view s }
     ensures told { IfSome result (λ cell. TellsCell seat.old.view seat.new.view s rec.number number column cell) }
 {
-    let entry = taken(store, seat, s, rec, column);
+    let entry = taken(store, seat, s, rec, column, begin);
     if number as u64 <= entry.until && entry.is_present {
-        Some(present_cell(store, seat, s, entry.frame, rec.number % 256))
+        Some(numbered_cell(store, seat, s, entry.frame, rec.number % 256))
     } else {
         None
     }
@@ -38,6 +43,7 @@ fn page_cell(
 
 /// Whether the pages of all columns tell of a record at the number of its newest version that there is a row. Its cells are added to `row`, which
 /// has none. No word of a tail record is loaded.
+#[inline(always)]
 pub(crate) fn paged(
     store: &Store,
     seat: &mut Seat,
@@ -60,8 +66,9 @@ pub(crate) fn paged(
     if seat.pinned(s).is_none() {
         return false;
     }
+    let begin = seat.begin(s);
     for column in 0..store.layout().limits.columns {
-        match page_cell(store, seat, s, rec, number, column) {
+        match page_cell(store, seat, s, rec, number, column, begin) {
             Some(cell) => row.push(cell),
             None => return false,
         }

@@ -1,4 +1,5 @@
-use Rattle.std.proofs.Common.{arith, ap, not, ◌∙◌}
+use Rattle.std.proofs.Common.{arith, ap, sym, not, ◌∙◌}
+use Rattle.lst_core_state.specs.declared.known.Known.{Known}
 use Rattle.lst_layout.specs.declared.layout.Layout.{Layout}
 use Rattle.lst_rule.specs.Rule.{knows}
 use Rattle.lst_sights.proofs.Watching.{same_pins}
@@ -30,3 +31,9 @@ returns-then-number-eq0-clause-skims c = skims_same c.args.seat.now.view c.args.
 
 pub returns-then-is_none-clause-skims : goal.returns-then-is_none-clause-skims
 returns-then-is_none-clause-skims c = skims_same c.args.seat.now.view c.args.s
+
+pub page_cell-requires-clause-number : goal.page_cell-requires-clause-number
+page_cell-requires-clause-number c = let n = c.if-number-eq0.false in omega arith
+
+pub page_cell-requires-clause-begin : goal.page_cell-requires-clause-begin
+page_cell-requires-clause-begin c = c.begin-begin.ensures ∙ sym (ap (λ (k : Known). k.begin) c.loop-column.invariant.skims.watched.watches.is)
