@@ -12,5 +12,7 @@ pub mod Indexes
 pub mod Naming
 pub mod Folded
 pub mod Sheets
+pub mod Told
+pub mod Loading
 pub mod Lining
 pub mod Sessioning

@@ -4,14 +4,14 @@ use Rattle.std.specs.Prelude.{Option, Some, None, unwrap_or, slice_set}
 use Rattle.std.proofs.lemmas.List.{take_more, take_all, get_or-set_same, get_or-set_other, length-set}
 use Rattle.std.proofs.lemmas.List.Sums.{sum_by-cons, sum_by-append}
 use lib.Lanes.{sum_l}
-use Rattle.lst_layout.specs.declared.TheConstants.{RANGE_RECORDS, FRAME_VALUES, FRAME_TIMES, FRAME_WORDS}
+use Rattle.lst_layout.specs.declared.TheConstants.{RANGE_RECORDS, FRAME_TIMES}
 use Rattle.lst_layout.specs.declared.limits.Limits.{Limits}
 use Rattle.lst_layout.specs.declared.place.Place.{Place}
 use Rattle.lst_layout.specs.declared.place.Place.TheVariants.{HeadWord, FrameWord}
 use Rattle.lst_layout.specs.Addresses as layout
 use Rattle.lst_layout.specs.Areas.{frame_count}
 use Rattle.lst_layout.specs.Words.{shown}
-use Rattle.lst_layout.proofs.Functions.{listed_same, get-listed, length-listed}
+use Rattle.lst_layout.proofs.Functions.{get-listed, length-listed}
 use Rattle.std.proofs.lemmas.Grind.{same_number_lists}
 use Rattle.lst_bits.specs.Times.{time_of, is_present}
 use Rattle.lst_kernel.specs.Entries.{is_seen, seen_values, lane_of}
@@ -37,19 +37,18 @@ use Rattle.lst_rule.specs.Learned.{Possible}
 use Rattle.lst_rule.specs.Seats.{Sitting}
 use Rattle.lst_rule.specs.Stores.{IsSeatOf, Looked}
 use Rattle.lst_rule.specs.PageSteps.{FrameLoaded}
-use Rattle.lst_rule.specs.Frames.{LoadsFrame, FrameFound}
 use Rattle.lst_rule.specs.Runs.{LoadsRun, FrameRun, HeadRun}
 use Rattle.lst_rule.proofs.Paging.{hand_is_readable}
 use Rattle.lst_sights.specs.Loads.{ChainFound}
 use Rattle.lst_sights.specs.Watching.{Watched, IsWatched}
 use Rattle.lst_sights.proofs.Watching.{watched_same, watches_join, watchers_keep}
 use Rattle.lst_walk.specs.Readers.{IsReader}
-use Rattle.lst_walk.specs.Packed.{Skims, skims_on}
+use Rattle.lst_walk.specs.Packed.{Skims, skims_on, packed_of, packed_words}
 use Rattle.lst_walk.specs.Pages.{IsPageOf}
 use Rattle.lst_walk.specs.Patches.{cell_in}
 use Rattle.lst_walk.specs.Walks.{IsCellOf, CellWalk, Serves}
 use Rattle.lst_walk.proofs.Reading.{reader_on, looked_watched, looked_possible}
-use Rattle.lst_walk.proofs.Loading.{frame_skims as one_frame_skims}
+use Rattle.lst_walk.proofs.Loading.{frame_skims}
 use Rattle.lst_walk.proofs.Meanings.{head_found}
 use Rattle.lst_walk.proofs.Walking.{cell_start}
 use Rattle.lst_walk.proofs.Paging.{page_shows, page_absent}
@@ -74,14 +73,6 @@ module _ (s : ℕ) (at : ℕ → View) (place : ℕ → Place) (x : ℕ → ℕ)
       subst (λ (j : ℕ). Watched (at 0) (at j) s) next (watches_join (at 0) (at i) (at (i + 1)) s before
       (looked_watched (at i) (at (i + 1)) s (x i) (place i) (hosted_by (at 0) (at i) s before host) (subst (λ (l : Limits). layout.IsWithin l (place i)) (sym before.learns.limits) (inside i (omega arith))) (is i) (each i (omega arith))))
 
-pub frame_skims : (v w : View) (s f : ℕ) (found : ℕ → ℕ) → hosts v s ≡ true → f < frame_count v.limits → LoadsFrame v w s f FRAME_WORDS found → FrameFound v w s f FRAME_WORDS found → Skims v w s
-frame_skims v w s f found host low loads is = record {
-  watched = subst (λ (u : View). Watched u w s) loads.first (subst (λ (u : View). Watched (loads.between 0) u s) loads.last
-      (looks_watched s loads.between (λ i. FrameWord f i) found FRAME_WORDS (λ i short. (loads.each i short).looked) (subst (λ (u : View). hosts u s ≡ true) (sym loads.first) host)
-      (λ i short. (subst (λ (u : View). f < frame_count u.limits) (sym loads.first) low, short)) (λ i. tt) FRAME_WORDS (omega arith)));
-  finds = ap (λ (k : Known). k.finds) is.view.now;
-}
-
 pub times_skim : (v w : View) (s f : ℕ) (found : ℕ → ℕ) → hosts v s ≡ true → f < frame_count v.limits → LoadsRun (Times f) found v s RANGE_RECORDS w → FrameRun v w s f FRAME_TIMES found → Skims v w s
 times_skim v w s f found host low loads is = record {
   watched = subst (λ (u : View). Watched u w s) loads.first (subst (λ (u : View). Watched (loads.between 0) u s) loads.last
@@ -103,37 +94,17 @@ heads_skim v w s range found host low loads is = record {
 pub hand_low : (v : View) (s range column frame : ℕ) → Possible v → hosts v s ≡ true → s < v.limits.sessions → IsInHand v s range column frame → frame < frame_count v.limits
 hand_low v s range column frame p host low has = (hand_is_readable v p.words p.known p.merger p.allowed s host low frame has.1.page has.1.in_hand).frame
 
--- its words were loaded
-module _ (v w : View) (s range column frame : ℕ) (words : List ℕ) (low : s < v.limits.sessions) (has : IsInHand v s range column frame) (found : FrameFound v w s frame FRAME_WORDS (slice_index words)) where
-  pub same_words : (i : ℕ) → i < FRAME_WORDS → slice_index words i ≡ slice_index has.1.page.words i
-  same_words i short = found.in_hand low has.1.page has.1.in_hand i short
+-- its packed words
+pub hand_packed : (v : View) (s range column frame : ℕ) → Possible v → hosts v s ≡ true → s < v.limits.sessions → IsInHand v s range column frame → IsPacked (packed_words v s frame)
+hand_packed v s range column frame p host low has = let r = hand_is_readable v p.words p.known p.merger p.allowed s host low frame has.1.page has.1.in_hand in
+    (r.right.entries.values, subst (λ (ws : List ℕ). Packs ws r.right.entries.values) (sym (ap packed_of has.1.in_hand)) r.right.entries.packed)
 
-  pub same_packed : packed_in (slice_index words) ≡ packed_in (slice_index has.1.page.words)
-  same_packed = listed_same (slice_index words) (slice_index has.1.page.words) FRAME_VALUES FRAME_VALUES (RANGE_RECORDS + 1) (λ i short. same_words (FRAME_VALUES + i) (omega arith))
-
-  pub words_packed : Possible v → hosts v s ≡ true → IsPacked (packed_in (slice_index words))
-  words_packed p host = let r = hand_is_readable v p.words p.known p.merger p.allowed s host low frame has.1.page has.1.in_hand in (r.right.entries.values, subst (λ (ws : List ℕ). Packs ws r.right.entries.values) (sym same_packed) r.right.entries.packed)
-
-  module _ (stamps : List ℕ) (stamps_is : stamps ≡ stamps_of (slice_index words)) where
-    abbrev pub page_loaded : HasPage w s range column (slice_index words 0) stamps
-    page_loaded = record {
-      frame = frame;
-      keeps = record {
-        page = has.1.page;
-        in_hand = ap (λ (k : Known). hand_of k.pages.session frame) found.view.now ∙ has.1.in_hand;
-        names = has.1.names;
-        tps = same_words 0 (omega arith);
-      };
-      some = (let a : slice_index words 0 ≡ tps_in (slice_index has.1.page.words) = same_words 0 (omega arith) in let b = has.1.tps in let c = has.2 in omega arith);
-      are = stamps_is ∙ listed_same (slice_index words) (slice_index has.1.page.words) FRAME_TIMES FRAME_TIMES RANGE_RECORDS (λ i short. same_words (FRAME_TIMES + i) (omega arith));
-    }
-
-    -- and unpacked
-    pub values_unpacked : (values : List ℕ) → ((others : List ℕ) → Packs (packed_in (slice_index words)) others → values ≡ others) → HasValues page_loaded values
-    values_unpacked values unpacked others packs = unpacked others (subst (λ (ws : List ℕ). Packs ws others) (sym same_packed) packs)
+-- it stays in hand where nothing is learnt
+abbrev pub hand_kept : (v w : View) (s range column frame : ℕ) → knows w s ≡ knows v s → IsInHand v s range column frame → IsInHand w s range column frame
+hand_kept v w s range column frame same has = (has.0, record { page = has.1.page; in_hand = ap (λ (k : Known). hand_of k.pages.session frame) same ∙ has.1.in_hand; names = has.1.names; tps = has.1.tps }, has.2)
 
 pub stamps_skim : (v a w : View) (s frame tps : ℕ) (found : ℕ → ℕ) → hosts v s ≡ true → frame < frame_count v.limits → FrameLoaded v a s frame 0 tps → LoadsRun (Times frame) found a s RANGE_RECORDS w → FrameRun a w s frame FRAME_TIMES found → Skims v w s
-stamps_skim v a w s frame tps found host low lineage loads run = let va : Skims v a s = one_frame_skims v a s frame 0 tps lineage host low (omega arith) in
+stamps_skim v a w s frame tps found host low lineage loads run = let va : Skims v a s = frame_skims v a s frame 0 tps lineage host low (omega arith) in
     skims_on v a w s va (times_skim a w s frame found (hosted_by v a s va.watched host) (subst (λ (l : Limits). frame < frame_count l) (sym va.watched.learns.limits) low) loads run)
 
 stamps_are : (stamps : List ℕ) (words : ℕ → ℕ) → length stamps ≡ RANGE_RECORDS → ((i : ℕ) → i < RANGE_RECORDS → slice_index stamps i ≡ words (FRAME_TIMES + i)) → stamps ≡ stamps_of words
@@ -156,6 +127,11 @@ module _ (v a w : View) (s range column frame tps : ℕ) (stamps : List ℕ) (lo
     some = (let a : tps ≡ tps_in (slice_index has.1.page.words) = lineage.in_hand low has.1.page has.1.in_hand in let b = has.1.tps in let c = has.2 in omega arith);
     are = stamps_are stamps (slice_index has.1.page.words) wide (λ i short. found.in_hand low_a has.1.page in_hand_a i short);
   }
+
+  -- and its values were unpacked
+  pub stamps_values : (values : List ℕ) → ((others : List ℕ) → Packs (packed_words v s frame) others → values ≡ others) → HasValues stamps_loaded values
+  unfolding stamps_loaded
+  stamps_values values unpacked others packs = unpacked others (subst (λ (ws : List ℕ). Packs ws others) (sym (ap packed_of has.1.in_hand)) packs)
 
 -- ---- what the page tells
 

@@ -1,33 +1,50 @@
-//! Sums and counts over the records of a range by the page of a column: its words are loaded by one call, and the indirection words of the
-//! range by another. The page tells of each record whose newest version is at most its TPS, where the entry's time is at most the begin. The
-//! other records are walked.
-ghost use Rattle.std.specs.Prelude.{◌≡◌, ℕ, ◌+◌, ◌*◌, ◌/◌, ◌^◌, ◌<◌, ◌≤◌, List, IfSome, length, slice_index, nat_le, ◌&&◌};
+//! Sums and counts over the records of a range by the page of a column: of its words those are loaded that its form takes, and its time words by
+//! one call, and the indirection words of the range by another. The page tells of each record whose newest version is at most its TPS, where the
+//! entry's time is at most the begin. The other records are walked.
+ghost use Rattle.std.specs.Prelude.{◌≡◌, ℕ, ◌+◌, ◌*◌, ◌/◌, ◌^◌, ◌<◌, ◌≤◌, List, IfSome, length, slice_index, nat_le, ◌&&◌, true};
 ghost use Rattle.lst_model.specs.Tables.{sum_of, count_of};
 ghost use Rattle.lst_bits.specs.Times.{time_of};
-ghost use Rattle.lst_pages.specs.Frames.{packed_in};
+ghost use Rattle.lst_layout.specs.Areas.{frame_count};
+ghost use Rattle.lst_pack.specs.declared.forms.Form.{Form};
+ghost use Rattle.lst_pack.specs.Forms.{Packs, IsPacked, form_word, form_words};
 ghost use Rattle.lst_rule.specs.Rule.{knows};
 ghost use Rattle.lst_sights.specs.Watching.{Watched};
 ghost use Rattle.lst_walk.specs.Readers.{IsReader};
-ghost use Rattle.lst_walk.specs.Packed.{Skims};
+ghost use Rattle.lst_walk.specs.Packed.{Skims, packed_words};
 ghost use Rattle.lst_scan.specs.Savings.{SavesPart};
 ghost use Rattle.lst_scan.specs.Scans.{table_seen, Places, between};
-ghost use Rattle.lst_scan.specs.Paged.{IsInHand, HasPage, HasValues, entries_add, stamps_of};
+ghost use Rattle.lst_scan.specs.Paged.{IsInHand, HasPage, HasValues, entries_add};
 
 use crate::records::cell;
 use lst_kernel::{count_where, sum_where};
-use lst_layout::{FRAME_NULLS, FRAME_TIMES, FRAME_VALUES, FRAME_WORDS};
+use lst_layout::FRAME_VALUES;
 use lst_pack::unpack;
-use lst_rule::{
-    RecordId, Seat, Store, load_frame, load_frame_words, load_heads, load_times, step_look_page,
-};
+use lst_rule::{RecordId, Seat, Store, load_frame, load_heads, load_times, step_look_page};
 
-const VALUES: usize = FRAME_VALUES as usize;
+/// What a sum loads of a range, and makes of that. One serves range after range, since an array is cleared where it is made.
+#[derive(Drop)]
+pub(crate) struct Sheet {
+    /// The packed words of a page.
+    packed: [u64; 257],
+    /// Its values.
+    values: [u64; 256],
+    /// Its time words, with 0 at the records that are walked.
+    times: [u64; 256],
+    /// The indirection words of the range.
+    heads: [u64; 256],
+}
 
-const TIMES: usize = FRAME_TIMES as usize;
-
-const NULLS: usize = FRAME_NULLS as usize;
-
-const WORDS: usize = FRAME_WORDS as usize;
+impl Sheet {
+    /// A sheet of zeros.
+    pub(crate) fn blank() -> Self {
+        Self {
+            packed: [0; 257],
+            values: [0; 256],
+            times: [0; 256],
+            heads: [0; 256],
+        }
+    }
+}
 
 /// The frame of the page of a range and a column, which is taken in hand. None comes where the session has no pin, and where no tail record
 /// is merged into the page.
@@ -47,18 +64,60 @@ pub(crate) fn frame_of(store: &Store, seat: &mut Seat, s: u32, range: u32, c: u3
     if tps > 0 { Some(frame) } else { None }
 }
 
-/// The words of a frame in which its values are packed.
-fn packed_words(words: &[u64; WORDS]) -> &[u64]
-    ensures { result.now ≡ packed_in (slice_index words.now) }
+/// How many words a packed page takes, by its first word.
+fn words_for(first: u64) -> u32
+    requires form { (form : Form) × (first ≡ form_word form) × (form_words form ≤ 257) }
+    ensures { (form : Form) → first ≡ form_word form → result ≡ form_words form }
 {
-    &words[VALUES..TIMES]
+    let number = (first / 8) as u32;
+    match first % 8 {
+        1 => 2,
+        2 => 17 + number,
+        3 => 1 + 2 * number,
+        4 => 2 + 4 * number,
+        _ => 257,
+    }
 }
 
-/// The time words of a frame.
-fn time_words(words: &[u64; WORDS]) -> &[u64]
-    ensures { result.now ≡ stamps_of (slice_index words.now) }
+/// Loads those packed words of a frame in hand that its form takes.
+fn load_packed(store: &Store, seat: &mut Seat, s: u32, frame: u32, out: &mut [u64; 257])
+    requires reader { IsReader store.now seat.old s }
+    requires frame { frame < frame_count seat.old.view.limits }
+    requires packed { IsPacked (packed_words seat.old.view s frame) }
+    ensures reader { IsReader store.now seat.new s }
+    ensures skims { Skims seat.old.view seat.new.view s }
+    ensures same { knows seat.new.view s ≡ knows seat.old.view s }
+    ensures packed { (values : List ℕ) → Packs (packed_words seat.old.view s frame) values → Packs out.new values }
 {
-    &words[TIMES..NULLS]
+    let first = load_frame(store, seat, s, frame, FRAME_VALUES);
+    out[0] = first;
+    for place in 1..words_for(first) {
+        out[place as usize] = load_frame(store, seat, s, frame, FRAME_VALUES + place);
+    }
+}
+
+/// Unpacks the values of the page in this frame, which is in hand, and loads its time words. Its TPS is given back.
+fn open_page(
+    store: &Store,
+    seat: &mut Seat,
+    s: u32,
+    c: u32,
+    range: u32,
+    frame: u32,
+    sheet: &mut Sheet,
+) -> u64
+    requires reader { IsReader store.now seat.old s }
+    requires frame { IsInHand seat.old.view s range c frame }
+    ensures reader { IsReader store.now seat.new s }
+    ensures skims { Skims seat.old.view seat.new.view s }
+    ensures page { (page : HasPage seat.new.view s range c result sheet.new.times) × HasValues page sheet.new.values }
+{
+    seat.consider();
+    load_packed(store, seat, s, frame, &mut sheet.packed);
+    unpack(&sheet.packed, &mut sheet.values);
+    let tps = load_frame(store, seat, s, frame, 0);
+    load_times(store, seat, s, frame, &mut sheet.times);
+    tps
 }
 
 /// Whether a page with this TPS tells of a record, by its indirection word and the time word of its entry.
@@ -66,6 +125,24 @@ fn is_told(head: u64, stamp: u64, tps: u64, begin: u64) -> bool
     ensures { result ≡ (nat_le (head / 2) tps && nat_le (time_of stamp) begin) }
 {
     head / 2 <= tps && stamp / 2 <= begin
+}
+
+/// The greatest of 256 words.
+fn greatest(words: &[u64; 256]) -> u64
+    ensures { (i : ℕ) → i < 256 → slice_index words.now i ≤ result }
+{
+    let mut most = 0;
+    for word in words {
+        most = most.max(*word);
+    }
+    most
+}
+
+/// Whether a page with this TPS tells of all records of a range, by the indirection words and the page's time words.
+fn are_told(heads: &[u64; 256], times: &[u64; 256], tps: u64, begin: u64) -> bool
+    ensures { result ≡ true → (i : ℕ) → i < 256 → (slice_index heads.now i / 2 ≤ tps) × (time_of (slice_index times.now i) ≤ begin) }
+{
+    greatest(heads) / 2 <= tps && greatest(times) / 2 <= begin
 }
 
 /// The numbers of a column, 0 for null, added over the rows of one range, by the page in this frame, which is in hand.
@@ -76,6 +153,7 @@ pub(crate) fn sum_by_page(
     c: u32,
     range: u32,
     frame: u32,
+    sheet: &mut Sheet,
 ) -> u128
     requires reader { IsReader store.now seat.old s }
     requires range { range < store.now.layout.limits.ranges }
@@ -88,14 +166,18 @@ pub(crate) fn sum_by_page(
     ensures few { result ≤ 2 ^ 73 }
 {
     seat.consider();
-    let mut words = [0; WORDS];
-    load_frame_words(store, seat, s, frame, &mut words);
-    let mut values = [0; 256];
-    unpack(packed_words(&words), &mut values);
-    let mut times = [0; 256];
-    let stamps = time_words(&words);
-    let walked = sum_untold(store, seat, s, c, range, words[0], stamps, &mut times);
-    with_entries(walked, &values, &times, seat.begin(s))
+    let tps = open_page(store, seat, s, c, range, frame, sheet);
+    let walked = sum_untold(
+        store,
+        seat,
+        s,
+        c,
+        range,
+        tps,
+        &mut sheet.heads,
+        &mut sheet.times,
+    );
+    with_entries(walked, &sheet.values, &sheet.times, seat.begin(s))
 }
 
 /// A sum, with that of the values of a page's entries that a reader sees who began at this time.
@@ -107,8 +189,8 @@ fn with_entries(walked: u128, values: &[u64; 256], times: &[u64; 256], begin: u6
     walked + sum_where(values, times, begin)
 }
 
-/// The same over the rows of those records alone that the page doesn't tell, by its TPS and its time words. The time words of the others are
-/// put into `times`, with 0 at the records that were walked.
+/// The same over the rows of those records alone that the page doesn't tell, by its TPS and its time words. At the records that were walked the
+/// time words become 0. The indirection words of the range are loaded into `heads`.
 fn sum_untold(
     store: &Store,
     seat: &mut Seat,
@@ -116,30 +198,29 @@ fn sum_untold(
     c: u32,
     range: u32,
     tps: u64,
-    stamps: &[u64],
+    heads: &mut [u64; 256],
     times: &mut [u64; 256],
 ) -> u128
     requires reader { IsReader store.now seat.old s }
     requires range { range < store.now.layout.limits.ranges }
     requires column { c < store.now.layout.limits.columns }
-    requires page { HasPage seat.old.view s range c tps stamps.now }
+    requires page { HasPage seat.old.view s range c tps times.old }
     ensures reader { IsReader store.now seat.new s }
     ensures watched { Watched seat.old.view seat.new.view s }
-    ensures sum { (page : HasPage seat.old.view s range c tps stamps.now) (values : List ℕ) → HasValues page values → (place : ℕ → ℕ) → Places (knows seat.old.view s) place → result + entries_add (knows seat.old.view s).begin (slice_index values) times.new 256 ≡ sum_of (between place (256 * range) (256 * range + 256) (table_seen (knows seat.old.view s))) c }
+    ensures sum { (page : HasPage seat.old.view s range c tps times.old) (values : List ℕ) → HasValues page values → (place : ℕ → ℕ) → Places (knows seat.old.view s) place → result + entries_add (knows seat.old.view s).begin (slice_index values) times.new 256 ≡ sum_of (between place (256 * range) (256 * range + 256) (table_seen (knows seat.old.view s))) c }
     ensures saves { SavesPart seat.old.view seat.new.view s c (256 * range) (256 * range + 256) }
     ensures few { result ≤ 2 ^ 72 }
 {
     seat.consider();
-    let mut heads = [0; 256];
-    load_heads(store, seat, s, range, &mut heads);
+    load_heads(store, seat, s, range, heads);
     let begin = seat.begin(s);
+    if are_told(heads, times, tps, begin) {
+        return 0;
+    }
     let mut total: u128 = 0;
     for slot in 0..256 {
         seat.consider();
-        let stamp = stamps[slot as usize];
-        if is_told(heads[slot as usize], stamp, tps, begin) {
-            times[slot as usize] = stamp;
-        } else {
+        if !is_told(heads[slot as usize], times[slot as usize], tps, begin) {
             times[slot as usize] = 0;
             let number = 256 * range + slot;
             let found = cell(store, seat, s, RecordId { number }, c);
@@ -149,8 +230,17 @@ fn sum_untold(
     total
 }
 
-/// The number of rows of one range, by the page of the first column in this frame, which is in hand.
-pub(crate) fn count_by_page(store: &Store, seat: &mut Seat, s: u32, range: u32, frame: u32) -> u64
+/// The number of rows of one range, by the page of the first column in this frame, which is in hand. Its time words are loaded into `times`, and
+/// the indirection words of the range into `heads`.
+pub(crate) fn count_by_page(
+    store: &Store,
+    seat: &mut Seat,
+    s: u32,
+    range: u32,
+    frame: u32,
+    heads: &mut [u64; 256],
+    times: &mut [u64; 256],
+) -> u64
     requires reader { IsReader store.now seat.old s }
     requires range { range < store.now.layout.limits.ranges }
     requires frame { IsInHand seat.old.view s range 0 frame }
@@ -161,43 +251,40 @@ pub(crate) fn count_by_page(store: &Store, seat: &mut Seat, s: u32, range: u32, 
 {
     seat.consider();
     let tps = load_frame(store, seat, s, frame, 0);
-    let mut stamps = [0; 256];
-    load_times(store, seat, s, frame, &mut stamps);
-    let mut times = [0; 256];
-    let walked = count_untold(store, seat, s, range, tps, &stamps, &mut times);
-    walked + u64::from(count_where(&times, seat.begin(s)))
+    load_times(store, seat, s, frame, times);
+    let walked = count_untold(store, seat, s, range, tps, heads, times);
+    walked + u64::from(count_where(times, seat.begin(s)))
 }
 
-/// The number of rows on those records alone that the page doesn't tell, by its TPS and its time words. The time words of the others are put
-/// into `times`, with 0 at the records that were walked.
+/// The number of rows on those records alone that the page doesn't tell, by its TPS and its time words. At the records that were walked the time
+/// words become 0. The indirection words of the range are loaded into `heads`.
 fn count_untold(
     store: &Store,
     seat: &mut Seat,
     s: u32,
     range: u32,
     tps: u64,
-    stamps: &[u64; 256],
+    heads: &mut [u64; 256],
     times: &mut [u64; 256],
 ) -> u64
     requires reader { IsReader store.now seat.old s }
     requires range { range < store.now.layout.limits.ranges }
-    requires page { HasPage seat.old.view s range 0 tps stamps.now }
+    requires page { HasPage seat.old.view s range 0 tps times.old }
     ensures reader { IsReader store.now seat.new s }
     ensures watched { Watched seat.old.view seat.new.view s }
     ensures count { (place : ℕ → ℕ) → Places (knows seat.old.view s) place → result + entries_add (knows seat.old.view s).begin (λ slot. 1) times.new 256 ≡ count_of (between place (256 * range) (256 * range + 256) (table_seen (knows seat.old.view s))) }
     ensures few { result ≤ 256 }
 {
     seat.consider();
-    let mut heads = [0; 256];
-    load_heads(store, seat, s, range, &mut heads);
+    load_heads(store, seat, s, range, heads);
     let begin = seat.begin(s);
+    if are_told(heads, times, tps, begin) {
+        return 0;
+    }
     let mut rows: u64 = 0;
     for slot in 0..256 {
         seat.consider();
-        let stamp = stamps[slot as usize];
-        if is_told(heads[slot as usize], stamp, tps, begin) {
-            times[slot as usize] = stamp;
-        } else {
+        if !is_told(heads[slot as usize], times[slot as usize], tps, begin) {
             times[slot as usize] = 0;
             let number = 256 * range + slot;
             if cell(store, seat, s, RecordId { number }, 0).is_some() {

@@ -8,7 +8,7 @@ ghost use Rattle.lst_core_state.specs.Cells.{record_count};
 ghost use Rattle.lst_scan.specs.Savings.{SavesPart};
 ghost use Rattle.lst_scan.specs.Scans.{table_seen, Places, between};
 
-use crate::paged::{count_by_page, frame_of, sum_by_page};
+use crate::paged::{Sheet, count_by_page, frame_of, sum_by_page};
 use crate::records::{cell_by, is_row_by, page_at};
 use lst_rule::{RecordId, Seat, Store};
 
@@ -38,15 +38,16 @@ pub(crate) fn sum_part(store: &Store, seat: &mut Seat, s: u32, c: u32, from: u32
     ensures saves { SavesPart seat.old.view seat.new.view s c (256 * from) (256 * to) }
 {
     seat.consider();
+    let mut sheet = Sheet::blank();
     let mut total: u128 = 0;
     for range in from..to {
-        total += sum_range(store, seat, s, c, range);
+        total += sum_range(store, seat, s, c, range, &mut sheet);
     }
     total
 }
 
-/// The same over the rows of one range.
-fn sum_range(store: &Store, seat: &mut Seat, s: u32, c: u32, range: u32) -> u128
+/// The same over the rows of one range. What is loaded of it goes into the sheet.
+fn sum_range(store: &Store, seat: &mut Seat, s: u32, c: u32, range: u32, sheet: &mut Sheet) -> u128
     requires reader { IsReader store.now seat.old s }
     requires column { c < store.now.layout.limits.columns }
     requires range { range < store.now.layout.limits.ranges }
@@ -58,7 +59,7 @@ fn sum_range(store: &Store, seat: &mut Seat, s: u32, c: u32, range: u32) -> u128
 {
     seat.consider();
     match frame_of(store, seat, s, range, c) {
-        Some(frame) => sum_by_page(store, seat, s, c, range, frame),
+        Some(frame) => sum_by_page(store, seat, s, c, range, frame, sheet),
         None => sum_by_records(store, seat, s, c, range),
     }
 }
@@ -93,15 +94,24 @@ pub(crate) fn count(store: &Store, seat: &mut Seat, s: u32) -> u64
     ensures count { result ≡ count_of (table_seen (knows seat.old.view s)) }
 {
     seat.consider();
+    let mut heads = [0; 256];
+    let mut times = [0; 256];
     let mut rows: u64 = 0;
     for range in 0..store.layout().limits.ranges {
-        rows += count_range(store, seat, s, range);
+        rows += count_range(store, seat, s, range, &mut heads, &mut times);
     }
     rows
 }
 
-/// The number of those of one range.
-fn count_range(store: &Store, seat: &mut Seat, s: u32, range: u32) -> u64
+/// The number of those of one range. What is loaded of it goes into `heads` and `times`.
+fn count_range(
+    store: &Store,
+    seat: &mut Seat,
+    s: u32,
+    range: u32,
+    heads: &mut [u64; 256],
+    times: &mut [u64; 256],
+) -> u64
     requires reader { IsReader store.now seat.old s }
     requires range { range < store.now.layout.limits.ranges }
     ensures reader { IsReader store.now seat.new s }
@@ -111,7 +121,7 @@ fn count_range(store: &Store, seat: &mut Seat, s: u32, range: u32) -> u64
 {
     seat.consider();
     match frame_of(store, seat, s, range, 0) {
-        Some(frame) => count_by_page(store, seat, s, range, frame),
+        Some(frame) => count_by_page(store, seat, s, range, frame, heads, times),
         None => count_by_records(store, seat, s, range),
     }
 }

@@ -31,7 +31,7 @@ returns-clause-count c = let r = c.requires.reader in
     (hand_low c.args.seat.now.view c.args.s c.args.range 0 c.args.frame c.consider.ensures r.host r.own c.requires.frame) c.load_frame-tps.ensures.loaded c.load_times.ensures.loads c.load_times.ensures.found in
     let begin_is : c.begin.result ≡ (knows c.load_times.new.seat.view c.args.s).begin = c.begin.ensures ∙ ap (λ (k : Known). k.begin) c.count_untold-walked.ensures.watched.watches.is in
     let lanes : c.from.result ≡ entries_add (knows c.load_times.new.seat.view c.args.s).begin (λ (slot : ℕ). 1) c.count_untold-walked.new.times 256 =
-    c.from.ensures ∙ (c.count_where.ensures ∙ (ap (λ (b : ℕ). count_by (is_seen b) c.count_untold-walked.new.times) begin_is ∙ count_added (knows c.load_times.new.seat.view c.args.s).begin c.count_untold-walked.new.times c.count_untold-walked.array_long)) in
+    c.from.ensures ∙ (c.count_where.ensures ∙ (ap (λ (b : ℕ). count_by (is_seen b) c.count_untold-walked.new.times) begin_is ∙ count_added (knows c.load_times.new.seat.view c.args.s).begin c.count_untold-walked.new.times c.count_untold-walked.array_long2)) in
     let end : 256 * c.args.range + 256 ≡ 256 * (c.args.range + 1) = omega arith in
     count_before c.args.seat.now.view c.load_times.new.seat.view c.args.s (256 * c.args.range) (256 * (c.args.range + 1)) (c.count_untold-walked.result + c.from.result) c.consider.ensures r.host r.opened skims.watched
     (λ place places. ap (λ (n : ℕ). c.count_untold-walked.result + n) lanes

@@ -1,56 +1,69 @@
-use Rattle.std.proofs.Common.{◌≡◌, ℕ, ◌+◌, ◌*◌, ◌^◌, ◌<◌, ◌≤◌, List, slice_index, sym, subst, ap, ◌∙◌, arith, cond}
-use Rattle.std.specs.Prelude.{Some, None}
-use Rattle.lst_bits.specs.Times.{time_of, is_present}
+use Rattle.std.proofs.Common.{◌≡◌, ℕ, ◌+◌, ◌*◌, ◌/◌, ◌^◌, ◌<◌, ◌≤◌, slice_index, sym, subst, ap, ◌∙◌, arith}
+use Rattle.lst_bits.specs.Times.{time_of}
+use Rattle.lst_kernel.specs.Entries.{lane_of}
 use Rattle.lst_core_state.specs.declared.known.Known.{Known}
 use Rattle.lst_model.specs.Cells.{number_at}
 use Rattle.lst_model.specs.Tables.{sum_of}
 use Rattle.lst_rule.specs.Rule.{knows}
 use Rattle.lst_walk.specs.Packed.{Skims}
-use Rattle.lst_walk.specs.Patches.{cell_in}
 use Rattle.lst_scan.specs.Savings.{SavesPart}
 use Rattle.lst_scan.specs.Scans.{table_seen, between}
 use Rattle.lst_scan.specs.Paged.{entries_add}
 use Rattle.lst_scan.proofs.Dividing.{cells_stay}
 use Rattle.lst_scan.proofs.Seeing.{number_weight}
-use Rattle.lst_scan.proofs.Sheets.{heads_skim, told_values, told_packed, told_cell, told_number, told_both, put_short, walks_start, walks_told, walks_walked, covers_start, covers_put}
-use Rattle.lst_scan.proofs.paged.sum_untold.Goals.{then-is_told, else-is_told}
+use Rattle.lst_scan.proofs.Sheets.{heads_skim, told_both, put_short, walks_start, walks_told, walks_walked, covers_start, covers_put}
+use Rattle.lst_scan.proofs.Told.{number_told, numbers_told, covers_told, covers_same, stands_first, stands_told, stands_put}
+use Rattle.lst_scan.proofs.paged.sum_untold.Goals.{then-not-is_told, else-not-is_told}
 use Rattle.lst_scan.proofs.paged.sum_untold.Goals as goal
+
+pub returns-then-are_told-clause-watched : goal.returns-then-are_told-clause-watched
+returns-then-are_told-clause-watched c = let r = c.requires.reader in
+    let skims : Skims c.args.seat.now.view c.load_heads.new.seat.view c.args.s = heads_skim c.args.seat.now.view c.load_heads.new.seat.view c.args.s c.args.range (slice_index c.load_heads.new.out) r.host (subst (λ l. c.args.range < l.ranges) (sym r.seat_of.limits) c.requires.range) c.load_heads.ensures.loads c.load_heads.ensures.found in
+    skims.watched
+
+pub returns-then-are_told-clause-sum : goal.returns-then-are_told-clause-sum
+returns-then-are_told-clause-sum c = let r = c.requires.reader in
+    let skims : Skims c.args.seat.now.view c.load_heads.new.seat.view c.args.s = heads_skim c.args.seat.now.view c.load_heads.new.seat.view c.args.s c.args.range (slice_index c.load_heads.new.out) r.host (subst (λ l. c.args.range < l.ranges) (sym r.seat_of.limits) c.requires.range) c.load_heads.ensures.loads c.load_heads.ensures.found in
+    let begin_is : c.begin-begin.result ≡ (knows c.args.seat.now.view c.args.s).begin = c.begin-begin.ensures ∙ ap (λ (k : Known). k.begin) skims.watched.watches.is in
+    let all : (i : ℕ) → i < 256 → (slice_index c.load_heads.new.out i / 2 ≤ c.args.tps) × (time_of (slice_index c.args.times.now i) ≤ (knows c.args.seat.now.view c.args.s).begin) =
+    λ i few. let both = c.are_told.ensures c.if-are_told.true i few in (both.0, subst (λ (n : ℕ). time_of (slice_index c.args.times.now i) ≤ n) begin_is both.1) in
+    λ page values has. numbers_told c.args.store.now c.args.seat.now c.args.s c.args.range c.args.c c.args.tps c.args.times.now c.consider.ensures r c.requires.range c.requires.column page (slice_index c.load_heads.new.out) c.load_heads.new.seat.view c.load_heads.ensures.loads all values has 256 (omega arith)
 
 pub loop-slot-init : goal.loop-slot-init
 loop-slot-init c = let r = c.requires.reader in
     let skims : Skims c.args.seat.now.view c.load_heads.new.seat.view c.args.s = heads_skim c.args.seat.now.view c.load_heads.new.seat.view c.args.s c.args.range (slice_index c.load_heads.new.out) r.host (subst (λ l. c.args.range < l.ranges) (sym r.seat_of.limits) c.requires.range) c.load_heads.ensures.loads c.load_heads.ensures.found in (
       walks_start c.args.store.now c.args.seat.now c.load_heads.new.seat c.args.s c.args.c (256 * c.args.range) (2 ^ 64) c.consider.ensures r skims c.load_heads.ensures.seat,
       λ page values has. covers_start c.args.seat.now.view c.args.s (number_at c.args.c) (256 * c.args.range) (knows c.args.seat.now.view c.args.s).begin (slice_index values) c.args.times.now,
+      stands_first c.args.times.now,
     )
 
 pub loop-slot-preserved : goal.loop-slot-preserved
-loop-slot-preserved c = let r = c.requires.reader in let walks = c.loop-slot.invariant.0 in let few : c.loop-slot.slot < 256 = c.loop-slot-test.true in
+loop-slot-preserved c = let r = c.requires.reader in let walks = c.loop-slot.invariant.0 in let stands = c.loop-slot.invariant.2 in let few : c.loop-slot.slot < 256 = c.loop-slot-test.true in
     let skims : Skims c.args.seat.now.view c.load_heads.new.seat.view c.args.s = heads_skim c.args.seat.now.view c.load_heads.new.seat.view c.args.s c.args.range (slice_index c.load_heads.new.out) r.host (subst (λ l. c.args.range < l.ranges) (sym r.seat_of.limits) c.requires.range) c.load_heads.ensures.loads c.load_heads.ensures.found in
     let begin_is : c.begin-begin.result ≡ (knows c.args.seat.now.view c.args.s).begin = c.begin-begin.ensures ∙ ap (λ (k : Known). k.begin) skims.watched.watches.is in
-    elim c.if-is_told.branch [
-      | then-is_told w ↦
-          let both = told_both (slice_index c.load_heads.new.out c.loop-slot.slot) (slice_index c.args.stamps.now c.loop-slot.slot) c.args.tps c.begin-begin.result c.is_told.result c.is_told.ensures w.if-is_told.true in
-          let early : time_of (slice_index c.args.stamps.now c.loop-slot.slot) ≤ (knows c.args.seat.now.view c.args.s).begin = subst (λ (n : ℕ). time_of (slice_index c.args.stamps.now c.loop-slot.slot) ≤ n) begin_is both.1 in (
-            walks_told c.args.store.now c.args.seat.now.view c.loop-slot.seat c.if-is_told.seat c.args.s c.args.c (256 * c.args.range) (2 ^ 64) c.loop-slot.slot c.loop-slot.total c.if-is_told.total w.seat-is w.total-is few walks,
-            λ page values has.
-                let on = told_cell c.args.store.now c.args.seat.now c.args.s c.args.range c.args.c c.args.tps c.args.stamps.now c.consider.ensures r c.requires.range c.requires.column page (slice_index c.load_heads.new.out) c.load_heads.new.seat.view c.load_heads.ensures.loads c.loop-slot.slot few both.0 early in
-                let others = told_values c.args.store.now c.args.seat.now c.args.s c.args.range c.args.c c.args.tps c.args.stamps.now c.consider.ensures r c.requires.range c.requires.column page (slice_index c.load_heads.new.out) c.load_heads.new.seat.view c.load_heads.ensures.loads c.loop-slot.slot few both.0 early in
-                let same : values ≡ others = has others (told_packed c.args.store.now c.args.seat.now c.args.s c.args.range c.args.c c.args.tps c.args.stamps.now c.consider.ensures r c.requires.range c.requires.column page (slice_index c.load_heads.new.out) c.load_heads.new.seat.view c.load_heads.ensures.loads c.loop-slot.slot few both.0 early) in
-                covers_put c.args.seat.now.view c.args.s (number_at c.args.c) (256 * c.args.range) c.loop-slot.slot c.loop-slot.total c.if-is_told.total (knows c.args.seat.now.view c.args.s).begin (slice_index values) c.loop-slot.times c.if-is_told.times
-                (slice_index c.args.stamps.now c.loop-slot.slot) 0 (put_short c.loop-slot.times c.if-is_told.times c.loop-slot.slot (slice_index c.args.stamps.now c.loop-slot.slot) few c.if-is_told.array_long w.times-is) c.consider.ensures r.host on.0 on.1
-                (let told = told_number c.args.c (knows c.args.seat.now.view c.args.s).begin (slice_index values c.loop-slot.slot) (slice_index c.args.stamps.now c.loop-slot.slot) on.0 early
-                (subst (λ (vs : List ℕ). cond (is_present (slice_index c.args.stamps.now c.loop-slot.slot)) (Some (slice_index vs c.loop-slot.slot)) None ≡ cell_in c.args.c on.0) (sym same) on.2) in omega arith)
-                (let e = w.total-is in omega arith) w.times-is (c.loop-slot.invariant.1 page values has),
-          )
-      | else-is_told w ↦ (
-        walks_walked c.args.store.now c.args.seat.now.view c.loop-slot.seat c.if-is_told.seat w.cell-found.new.seat c.args.s c.args.c (256 * c.args.range) (2 ^ 64) c.loop-slot.slot c.loop-slot.total c.if-is_told.total w.from-total.result w.seat-is w.total-is
+    let here : slice_index c.loop-slot.times c.loop-slot.slot ≡ slice_index c.args.times.now c.loop-slot.slot = stands c.loop-slot.slot (omega arith) in
+    elim c.if-not-is_told.branch [
+      | then-not-is_told w ↦ (
+        walks_walked c.args.store.now c.args.seat.now.view c.loop-slot.seat c.if-not-is_told.seat w.cell-found.new.seat c.args.s c.args.c (256 * c.args.range) (2 ^ 64) c.loop-slot.slot c.loop-slot.total c.if-not-is_told.total w.from-total.result w.seat-is w.total-is
             (let fits = w.unwrap_or.type_inv in let same = w.from-total.ensures in omega arith) few w.cell-found.ensures.reader w.cell-found.ensures.watched w.cell-found.ensures.saves walks,
         λ page values has. let on = cells_stay c.args.seat.now.view c.loop-slot.seat.view c.args.s (256 * c.args.range + c.loop-slot.slot) c.args.c w.cell-found.result c.consider.ensures c.consider-in-loop-slot.ensures r.host r.opened walks.scans.watched w.cell-found.ensures.cell in
-            covers_put c.args.seat.now.view c.args.s (number_at c.args.c) (256 * c.args.range) c.loop-slot.slot c.loop-slot.total c.if-is_told.total (knows c.args.seat.now.view c.args.s).begin (slice_index values) c.loop-slot.times c.if-is_told.times
-            0 w.from-total.result (put_short c.loop-slot.times c.if-is_told.times c.loop-slot.slot 0 few c.if-is_told.array_long w.times-is) c.consider.ensures r.host on.0 on.1
+            covers_put c.args.seat.now.view c.args.s (number_at c.args.c) (256 * c.args.range) c.loop-slot.slot c.loop-slot.total c.if-not-is_told.total (knows c.args.seat.now.view c.args.s).begin (slice_index values) c.loop-slot.times c.if-not-is_told.times
+            0 w.from-total.result (put_short c.loop-slot.times c.if-not-is_told.times c.loop-slot.slot 0 few c.if-not-is_told.array_long w.times-is) c.consider.ensures r.host on.0 on.1
             (let e = w.from-total.ensures ∙ (w.unwrap_or.ensures ∙ number_weight c.args.c on.0 w.cell-found.result on.2) in omega arith)
             w.total-is w.times-is (c.loop-slot.invariant.1 page values has),
+        stands_put c.loop-slot.slot 0 c.args.times.now c.loop-slot.times c.if-not-is_told.times w.times-is stands,
       )
+      | else-not-is_told w ↦
+          let both = told_both (slice_index c.load_heads.new.out c.loop-slot.slot) (slice_index c.loop-slot.times c.loop-slot.slot) c.args.tps c.begin-begin.result c.is_told.result c.is_told.ensures w.if-not-is_told.false in
+          let early : time_of (slice_index c.args.times.now c.loop-slot.slot) ≤ (knows c.args.seat.now.view c.args.s).begin = subst (λ (n : ℕ). time_of (slice_index c.args.times.now c.loop-slot.slot) ≤ n) begin_is (subst (λ (n : ℕ). time_of n ≤ c.begin-begin.result) here both.1) in (
+            walks_told c.args.store.now c.args.seat.now.view c.loop-slot.seat c.if-not-is_told.seat c.args.s c.args.c (256 * c.args.range) (2 ^ 64) c.loop-slot.slot c.loop-slot.total c.if-not-is_told.total w.seat-is w.total-is few walks,
+            λ page values has.
+                let told = number_told c.args.store.now c.args.seat.now c.args.s c.args.range c.args.c c.args.tps c.args.times.now c.consider.ensures r c.requires.range c.requires.column page (slice_index c.load_heads.new.out) c.load_heads.new.seat.view c.load_heads.ensures.loads c.loop-slot.slot few both.0 early values has in
+                covers_same c.args.seat.now.view c.args.s (number_at c.args.c) (256 * c.args.range) (c.loop-slot.slot + 1) c.loop-slot.total c.if-not-is_told.total (knows c.args.seat.now.view c.args.s).begin (slice_index values) c.loop-slot.times c.if-not-is_told.times w.total-is w.times-is
+                (covers_told c.args.seat.now.view c.args.s (number_at c.args.c) (256 * c.args.range) c.loop-slot.slot c.loop-slot.total (knows c.args.seat.now.view c.args.s).begin (slice_index values) c.loop-slot.times c.consider.ensures r.host told.0 told.1
+                (ap (λ (n : ℕ). lane_of (knows c.args.seat.now.view c.args.s).begin (slice_index values c.loop-slot.slot) n) here ∙ told.2) (c.loop-slot.invariant.1 page values has)),
+            stands_told c.loop-slot.slot c.args.times.now c.loop-slot.times c.if-not-is_told.times w.times-is stands,
+          )
     ]
 
 pub returns-clause-sum : goal.returns-clause-sum
