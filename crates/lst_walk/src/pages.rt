@@ -127,8 +127,9 @@ pub(crate) fn entries_of(store: &Store, seat: &mut Seat, s: u32, rec: RecordId) 
     if seat.pinned(s).is_none() {
         return entries;
     }
+    let begin = seat.begin(s);
     for column in 0..store.layout().limits.columns {
-        entries[column as usize] = entry_of(store, seat, s, rec, column);
+        entries[column as usize] = taken(store, seat, s, rec, column, begin);
     }
     entries
 }

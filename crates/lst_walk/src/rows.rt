@@ -66,12 +66,13 @@ pub fn row(store: &Store, seat: &mut Seat, s: u32, rec: RecordId) -> Option<Row>
     ensures walk { WalksRow seat.old.view seat.new.view s rec.number result }
     ensures saves { 0 < (knows seat.old.view s).pages.session.pin → SavesRow seat.old.view seat.new.view s rec.number }
 {
-    let mut row = Row::of_numbers(ArrayVec::new());
-    if put_row(store, seat, s, rec, &mut row) {
-        Some(row)
-    } else {
-        None
+    seat.consider();
+    let number = head(store, seat, s, rec);
+    let mut told = Row::of_numbers(ArrayVec::new());
+    if paged(store, seat, s, rec, number, &mut told) {
+        return Some(told);
     }
+    walked(store, seat, s, rec, number)
 }
 
 /// What `row` answers, put into a row that has no cells. Whether there is a row is answered.
