@@ -1,6 +1,7 @@
 pub mod AfterCalls
 pub mod Beginning
 pub mod Cutting
+pub mod Growing
 pub mod Heard
 pub mod Hires
 pub mod Merges

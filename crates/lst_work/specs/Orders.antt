@@ -19,6 +19,12 @@ pub record AreInOrder (sessions : ℕ) (lines : List Line) (queues : List (List 
   pub speakers : map (λ reply. reply.0) replies ≡ map speaker_of lines
   pub own : (queue : ℕ) → replies_from sessions queue replies ≡ queue_at queues queue
 
+-- a list of replies has grown, and what was put behind it is so
+pub record GrowsBy (is_so : List (Option ℕ × Reply) → Type 0) (old new : List (Option ℕ × Reply)) : Type 0 where
+  pub added : List (Option ℕ × Reply)
+  pub grows : new ≡ old ++ added
+  pub so : is_so added
+
 -- the first n lines have their replies, and what is left in the queues are the others
 pub record IsOrdering (sessions : ℕ) (lines : List Line) (before now : List (List Reply)) (replies : List (Option ℕ × Reply)) (n : ℕ) : Type 0 where
   pub speakers : map (λ reply. reply.0) replies ≡ map speaker_of (take n lines)

@@ -39,7 +39,7 @@ pub(crate) fn dismissed(
             ..
         } = rest.remove(0);
         sessions.push(session)?;
-        queues.push(replies)?;
+        queues.push(VecDeque::from_vec(replies))?;
     }
     queues.push(merges)?;
     Ok((sessions, queues))

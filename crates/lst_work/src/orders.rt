@@ -1,9 +1,9 @@
 //! The replies of all workers, put into the order of the lines.
-ghost use Rattle.std.specs.Prelude.{◌≡◌, ◌≢◌, ◌+◌, ◌<◌, ◌∷◌, length, map, IfOk, ℕ};
+ghost use Rattle.std.specs.Prelude.{◌≡◌, ◌≢◌, ◌+◌, ◌<◌, ◌∷◌, length, map, IfOk, OnOk, ℕ};
 ghost use Rattle.std.specs.List.{All};
 ghost use Rattle.lst_model.specs.Lines.{LineFits};
 ghost use Rattle.lst_replies.specs.Runs.{speaker_of};
-ghost use Rattle.lst_work.specs.Orders.{queue_at, lines_from, AreInOrder};
+ghost use Rattle.lst_work.specs.Orders.{queue_at, lines_from, AreInOrder, GrowsBy};
 ghost use Rattle.lst_legal_work.specs.Orders.{queue_of};
 
 use lst_model::{Line, OutOfMemory, Reply};
@@ -34,6 +34,28 @@ fn speaker(line: &Line) -> Option<u32>
     }
 }
 
+/// Puts the replies to these lines behind others, in the order of the lines. Each session's stand in the queue with its number, and those to merges
+/// in the last one.
+pub(crate) fn put_in_order(
+    sessions: u32,
+    lines: &[Line],
+    queues: &mut [VecDeque<Reply>],
+    replies: &mut Vec<(Option<u32>, Reply)>,
+) -> Result<(), OutOfMemory>
+    requires wide { length queues.old ≡ sessions + 1 }
+    requires fits { (ranges columns : ℕ) × All (LineFits sessions ranges columns) lines.now }
+    requires long { (queue : ℕ) → length (queue_at (map (λ q. q.items) queues.old) queue) ≡ lines_from sessions queue lines.now }
+    ensures { OnOk result (GrowsBy (AreInOrder sessions lines.now (map (λ q. q.items) queues.old)) replies.old.items replies.new.items) }
+{
+    replies.reserve(lines.len())?;
+    for i in 0..lines.len() {
+        let speaker = speaker(&lines[i]);
+        let reply = taken(queues, speaker.unwrap_or(sessions) as usize);
+        replies.push((speaker, reply))?;
+    }
+    Ok(())
+}
+
 /// The replies to these lines, in their order. Each session's stand in the queue with its number, and those to merges in the last one.
 pub fn in_order(
     alloc: Global,
@@ -47,10 +69,6 @@ pub fn in_order(
     ensures { IfOk result (λ replies. AreInOrder sessions lines.now (map (λ q. q.items) queues.old) replies.items) }
 {
     let mut replies = Vec::new(alloc);
-    for i in 0..lines.len() {
-        let speaker = speaker(&lines[i]);
-        let reply = taken(queues, speaker.unwrap_or(sessions) as usize);
-        replies.push((speaker, reply))?;
-    }
+    put_in_order(sessions, lines, queues, &mut replies)?;
     Ok(replies)
 }

@@ -5,6 +5,7 @@ ghost use Rattle.lst_model.specs.Lines.{LineFits};
 ghost use Rattle.lst_session.specs.Parting.{IsMergerOf};
 ghost use Rattle.lst_work.specs.Merges.{Merged};
 ghost use Rattle.lst_replies.specs.Runs.{is_phase};
+ghost use Rattle.lst_work.specs.Orders.{GrowsBy};
 ghost use Rattle.lst_work.specs.Parts.{AreWithin, EndsAt, IsPart};
 ghost use Rattle.lst_legal_work.specs.Phases.{HaveRunThrough};
 ghost use Rattle.lst_legal_work.specs.Whole.{AreAll, IsPhase};
@@ -15,7 +16,7 @@ use crate::gates::Gate;
 use crate::hearing::heard;
 use crate::hiring::{dismissed, hired};
 use crate::merging::{MergeQueue, empty_queue};
-use crate::orders::in_order;
+use crate::orders::put_in_order;
 use crate::phases::run_phase;
 use crate::workers::Worker;
 use lst_model::{Line, OutOfMemory, Reply};
@@ -63,6 +64,47 @@ fn try_phase<R: Threads + Wait + Sync, G: Gate + Sync>(
     Ok(())
 }
 
+/// Runs a phase as `whole_phase` does, and puts the replies behind others. Answers the sessions.
+fn phase_onto<R: Threads + Wait + Sync, G: Gate + Sync>(
+    rt: &R,
+    alloc: Global,
+    store: &Store,
+    lock: &CommitLock,
+    gate: &G,
+    first: u64,
+    lines: &[Line],
+    sessions: Vec<Session>,
+    merger: &mut Merger,
+    replies: &mut Vec<(Option<u32>, Reply)>,
+) -> Result<Vec<Session>, OutOfMemory>
+    requires all { AreAll store.now sessions.items }
+    requires merger { IsMergerOf store.now merger.old }
+    requires can { All (CanRun store.now.layout.limits) lines.now }
+    requires places { first + length lines.now < 2 ^ 64 }
+    ensures merger { IsMergerOf store.now merger.new }
+    ensures all { IfOk result (λ done. AreAll store.now done.items) }
+    ensures phase { IfOk result (λ done. GrowsBy (IsPhase lines.now sessions.items done.items merger.old.seat.view merger.new.seat.view) replies.old.items replies.new.items) }
+{
+    let count = store.layout().limits.sessions;
+    let mut workers = hired(alloc, sessions)?;
+    let mut queue = empty_queue(alloc);
+    try_phase(
+        rt,
+        alloc,
+        store,
+        lock,
+        gate,
+        first,
+        lines,
+        workers.as_mut_slice(),
+        merger,
+        &mut queue,
+    )?;
+    let (sessions, mut queues) = dismissed(alloc, workers, queue.replies)?;
+    put_in_order(count, lines, queues.as_mut_slice(), replies)?;
+    Ok(sessions)
+}
+
 /// Runs a phase: each session's lines in a thread of its own, where one can be made, and the merges beside them. The list has every session of
 /// the store, in order. Answers the sessions, and the replies in the order of the lines.
 pub fn whole_phase<R: Threads + Wait + Sync, G: Gate + Sync>(
@@ -84,10 +126,8 @@ pub fn whole_phase<R: Threads + Wait + Sync, G: Gate + Sync>(
     ensures all { IfOk result (λ done. AreAll store.now done.0.items) }
     ensures phase { IfOk result (λ done. IsPhase lines.now sessions.items done.0.items merger.old.seat.view merger.new.seat.view done.1.items) }
 {
-    let count = store.layout().limits.sessions;
-    let mut workers = hired(alloc, sessions)?;
-    let mut queue = empty_queue(alloc);
-    try_phase(
+    let mut replies = Vec::new(alloc);
+    let sessions = phase_onto(
         rt,
         alloc,
         store,
@@ -95,12 +135,10 @@ pub fn whole_phase<R: Threads + Wait + Sync, G: Gate + Sync>(
         gate,
         first,
         lines,
-        workers.as_mut_slice(),
+        sessions,
         merger,
-        &mut queue,
+        &mut replies,
     )?;
-    let (sessions, mut queues) = dismissed(alloc, workers, queue.replies)?;
-    let replies = in_order(alloc, count, lines, queues.as_mut_slice())?;
     Ok((sessions, replies))
 }
 
@@ -139,15 +177,14 @@ fn lines_between(lines: &[Line], start: usize, end: usize) -> &[Line]
     &lines[start..end]
 }
 
-/// A phase that was run: the place where it ends, the sessions after it, and the replies to its lines.
+/// A phase that was run: the place where it ends, and the sessions after it.
 #[derive(Drop)]
 struct Part {
     end: usize,
     sessions: Vec<Session>,
-    replies: Vec<(Option<u32>, Reply)>,
 }
 
-/// Runs the phase that begins at a place of a script.
+/// Runs the phase that begins at a place of a script, and puts the replies to its lines behind those to earlier ones.
 fn run_part<R: Threads + Wait + Sync, G: Gate + Sync>(
     rt: &R,
     alloc: Global,
@@ -158,25 +195,22 @@ fn run_part<R: Threads + Wait + Sync, G: Gate + Sync>(
     start: usize,
     sessions: Vec<Session>,
     merger: &mut Merger,
+    replies: &mut Vec<(Option<u32>, Reply)>,
 ) -> Result<Part, OutOfMemory>
     requires all { AreAll store.now sessions.items }
     requires merger { IsMergerOf store.now merger.old }
     requires fits { All (LineFits store.now.layout.limits.sessions store.now.layout.limits.ranges store.now.layout.limits.columns) lines.now }
     requires start { start ≤ length lines.now }
     ensures merger { IsMergerOf store.now merger.new }
-    ensures part { IfOk result (λ part. IsPart store.now lines.now start part.end sessions.items part.sessions.items merger.old.seat.view merger.new.seat.view part.replies.items) }
+    ensures part { IfOk result (λ part. GrowsBy (IsPart store.now lines.now start part.end sessions.items part.sessions.items merger.old.seat.view merger.new.seat.view) replies.old.items replies.new.items) }
 {
     let end = phase_end(lines, start);
     let phase = lines_between(lines, start, end);
     let place = start as u64 + 1;
-    let (sessions, replies) = whole_phase(
-        rt, alloc, store, lock, gate, place, phase, sessions, merger,
+    let sessions = phase_onto(
+        rt, alloc, store, lock, gate, place, phase, sessions, merger, replies,
     )?;
-    Ok(Part {
-        end,
-        sessions,
-        replies,
-    })
+    Ok(Part { end, sessions })
 }
 
 /// Runs a script: its phases one after another, and lets the sessions hear of each other between any two. The list has every session of the store,
@@ -199,14 +233,35 @@ pub fn run_script<R: Threads + Wait + Sync, G: Gate + Sync>(
     ensures run { IfOk result (λ done. HaveRunThrough store.now lines.now sessions.items done.0.items merger.old.seat.view merger.new.seat.view done.1.items) }
 {
     let lock = CommitLock::new();
-    let first = run_part(rt, alloc, store, &lock, gate, lines, 0, sessions, merger)?;
+    let mut replies = Vec::new(alloc);
+    let first = run_part(
+        rt,
+        alloc,
+        store,
+        &lock,
+        gate,
+        lines,
+        0,
+        sessions,
+        merger,
+        &mut replies,
+    )?;
     let mut end = first.end;
     let mut passes = first.sessions;
-    let mut replies = first.replies;
     while end < lines.len() {
         let told = heard(store, passes);
-        let mut part = run_part(rt, alloc, store, &lock, gate, lines, end + 1, told, merger)?;
-        replies.append(&mut part.replies)?;
+        let part = run_part(
+            rt,
+            alloc,
+            store,
+            &lock,
+            gate,
+            lines,
+            end + 1,
+            told,
+            merger,
+            &mut replies,
+        )?;
         end = part.end;
         passes = part.sessions;
     }

@@ -11,14 +11,13 @@ use lst_model::{Call, Line, OutOfMemory, Reply};
 use lst_rule::Store;
 use lst_session::{CommitLock, Session};
 use std::alloc::Global;
-use std::collections::VecDeque;
 use std::sync::Wait;
 
 /// One session's pass, with the replies to the lines that it has run, in order.
 #[derive(Drop)]
 pub struct Worker {
     pub session: Session,
-    pub replies: VecDeque<Reply>,
+    pub replies: Vec<Reply>,
     /// Memory ran out, and the rest of the lines was given up.
     pub has_failed: bool,
 }
@@ -34,7 +33,7 @@ impl Worker {
     {
         Worker {
             session,
-            replies: VecDeque::new(alloc),
+            replies: Vec::new(alloc),
             has_failed: false,
         }
     }
@@ -56,7 +55,7 @@ fn run_call<R: Wait>(
     ensures ran { OnOk result (Ran (Line.Call worker.old.session.number call.now ∷ []) worker.old worker.new) }
 {
     let reply = line_reply(rt, alloc, store, &mut worker.session, lock, call)?;
-    worker.replies.push_back(reply)?;
+    worker.replies.push(reply)?;
     Ok(())
 }
 

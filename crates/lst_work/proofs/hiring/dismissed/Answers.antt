@@ -8,7 +8,8 @@ pub loop-rest-preserved : goal.loop-rest-preserved
 loop-rest-preserved c = dismissing_on c.args.workers.items c.loop-rest.rest.items c.remove-session.new.self.items c.remove-session.result c.loop-rest.sessions.items c.push.new.self.items
     _ _ c.loop-rest.invariant
     (first_rest c.loop-rest.rest.items c.remove-session.new.self.items c.remove-session.result (let h = c.remove-session.ensures.len in omega arith) c.remove-session.ensures.value c.remove-session.ensures.items)
-    c.in_ok-push.ensures.items (ap (map (λ queue. queue.items)) c.in_ok-push-2.ensures.items ∙ map-append (λ queue. queue.items) c.loop-rest.queues.items (c.remove-session.result.replies ∷ []))
+    c.in_ok-push.ensures.items (ap (map (λ queue. queue.items)) c.in_ok-push-2.ensures.items ∙ (map-append (λ queue. queue.items) c.loop-rest.queues.items (c.from_vec.result ∷ [])
+    ∙ ap (λ (rs : List Reply). map (λ queue. queue.items) c.loop-rest.queues.items ++ rs ∷ []) c.from_vec.ensures.items))
 
 pub returns-clause-sessions : goal.returns-clause-sessions
 returns-clause-sessions c = (dismissed_all c.args.workers.items c.loop-rest.rest.items c.loop-rest.sessions.items _ c.loop-rest.invariant (search rules)).0

@@ -1,14 +1,16 @@
 use Rattle.lst_work.proofs.Cutting.{between_first, between_on, between_all}
+use Rattle.lst_work.proofs.Growing.{grown_alone}
 use Rattle.lst_work.proofs.scripts.run_script.Goals as goal
 
 pub loop-end-init : goal.loop-end-init
-loop-end-init g c = between_first c.args.store.now c.args.lines.now c.args.sessions.items c.in_ok-first.first.sessions.items c.args.merger.now c.run_part.new.merger c.in_ok-first.first.replies.items c.in_ok-first.first.end c.requires.all c.run_part.ensures.merger c.in_ok-first.ensures.part
+loop-end-init g c = between_first c.args.store.now c.args.lines.now c.args.sessions.items c.in_ok-first.first.sessions.items c.args.merger.now c.run_part.new.merger c.run_part.new.replies.items c.in_ok-first.first.end c.requires.all c.run_part.ensures.merger
+    (grown_alone _ c.new-replies.result.items c.run_part.new.replies.items c.new-replies.ensures.items c.in_ok-first.ensures.part)
 
 pub returns-clause-run : goal.returns-clause-run
 returns-clause-run g c = between_all c.args.store.now c.args.lines.now c.args.sessions.items c.loop-end.passes.items c.args.merger.now c.loop-end.merger c.loop-end.replies.items c.loop-end.end c.loop-end.invariant c.loop-end-test.false
 
 pub loop-end-preserved : goal.loop-end-preserved
-loop-end-preserved g c = let e = c.in_ok-part.ensures in
+loop-end-preserved g c = let x = c.in_ok-part.ensures.part in
     between_on c.args.store.now c.args.lines.now c.args.sessions.items c.loop-end.passes.items c.heard-told.result.items c.in_ok-part.part.sessions.items c.args.merger.now c.loop-end.merger c.run_part-in-loop-end.new.merger
-    c.loop-end.replies.items c.in_ok-part.part.replies.items c.append.new.self.items c.loop-end.end c.in_ok-part.part.end c.loop-end.invariant c.loop-end-test.true
-    c.heard-told.ensures.heard c.heard-told.ensures.all c.run_part-in-loop-end.ensures.merger e.part c.in_ok-append.ensures.items
+    c.loop-end.replies.items x.added c.run_part-in-loop-end.new.replies.items c.loop-end.end c.in_ok-part.part.end c.loop-end.invariant c.loop-end-test.true
+    c.heard-told.ensures.heard c.heard-told.ensures.all c.run_part-in-loop-end.ensures.merger x.so x.grows

@@ -1,6 +1,0 @@
-use Rattle.std.proofs.Common.{map}
-use Rattle.lst_work.specs.Orders.{IsOrdering}
-use Rattle.lst_work.proofs.orders.in_order.Given as goal
-
-abbrev pub invariant-loop-i : goal.invariant-loop-i
-invariant-loop-i l = IsOrdering l.sessions l.lines (map (λ q. q.items) l.fn.queues) (map (λ q. q.items) l.queues) l.replies.items l.i
