@@ -1,5 +1,5 @@
 -- Commits by session and acts by key, where each session writes keys of its own.
-use Rattle.std.proofs.Common.{◌≡◌, ◌≢◌, ℕ, zero, suc, ◌-◌, ◌%◌, ◌≤◌, Bool, true, false, cond, eqb, List, [], ◌∷◌, ◌++◌, length, length-append, map, take, drop, Option, Some, None, refl, sym, ap, ◌∙◌, append_assoc, arith}
+use Rattle.std.proofs.Common.{◌≡◌, ℕ, zero, suc, ◌-◌, ◌%◌, ◌≤◌, Bool, true, false, cond, eqb, List, [], ◌∷◌, ◌++◌, length, length-append, map, take, drop, Option, Some, None, refl, sym, ap, ◌∙◌, append_assoc, arith}
 use Rattle.std.specs.Prelude.{slice_get}
 use Rattle.std.specs.List.{AllByRecursion}
 use Rattle.std.proofs.lemmas.Bool.{eq-eqb, ne_eqb, eqb-false}
@@ -96,7 +96,3 @@ not_among s zero (suc i) (x ∷ xs) c low e none = not_among s zero i xs c (omeg
     rest false n = n
 not_among s (suc b) zero (x ∷ xs) c low e none = absurd (omega arith)
 not_among s (suc b) (suc i) (x ∷ xs) c low e none = not_among s b i xs c (omega arith) e none
-
--- a list with acts on the key of another
-pub owner_of : (n key : ℕ) (c : Commit) → WriteOwn n c.session c.writes → ¬ (acts_on key c.writes ≡ []) → (j : ℕ) → Has n j key → ¬ (c.session ≢ j)
-owner_of n key c own some j has = λ other. some (none_on n c.session key c.writes own (λ is. other (is ∙ sym has)))
