@@ -7,6 +7,8 @@ mod check_tests;
 #[cfg(test)]
 mod drawn_tests;
 #[cfg(test)]
+mod gate_tests;
+#[cfg(test)]
 mod load_tests;
 #[cfg(test)]
 mod option_tests;

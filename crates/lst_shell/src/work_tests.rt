@@ -45,7 +45,7 @@ impl<'a, R: Wait + Sync> Gate for InOrder<'a, R> {
 }
 
 /// What sessions at work write for a script, under a gate: it is judged to be legal.
-fn report_of<R: Abort + Threads + Wait + Sync, G: Gate + Sync>(
+pub(crate) fn report_of<R: Abort + Threads + Wait + Sync, G: Gate + Sync>(
     rt: &R,
     alloc: Global,
     options: &str,
