@@ -33,7 +33,13 @@ fn values_of(form: &str) -> [u64; 256] {
         values[place] = match form {
             "dictionary" => (number * 7 % 16) << 40,
             "runs" => (number / 8) << 40,
+            "runs_of_two" => (number / 2) << 40,
+            "reference_1" => 1000 + number * 37 % 255 % 2,
+            "reference_2" => 1000 + number * 37 % 255 % 4,
+            "reference_4" => 1000 + number * 37 % 255 % 15,
             "reference" => 1000 + number * 37 % 251,
+            "reference_16" => 1000 + number * 37 % 251 * 200,
+            "reference_32" => 1000 + ((number * 37 % 251) << 23),
             "plain" => number << 40,
             _ => 5,
         };

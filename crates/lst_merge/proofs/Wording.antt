@@ -1,10 +1,12 @@
 -- A page in hand, and the words that are made of it.
-use Rattle.std.proofs.Common.{◌≡◌, ◌≢◌, ℕ, ◌^◌, ◌+◌, ◌*◌, ◌/◌, ◌%◌, ◌<◌, ◌≤◌, List, Bool, true, false, cond, eqb, Option, Some, None, refl, sym, subst, ap, ◌∙◌, arith, length, slice_index, eq-eqb, ne_eqb, slice_set, get_or-set_same, get_or-set_other, length-set, true≢false, ◌==◌}
+use Rattle.std.proofs.Common.{◌≡◌, ◌≢◌, ℕ, zero, suc, [], ◌∷◌, ◌++◌, ◌-◌, drop, ◌^◌, ◌+◌, ◌*◌, ◌/◌, ◌%◌, ◌<◌, ◌≤◌, List, Bool, true, false, cond, eqb, Option, Some, None, refl, sym, subst, ap, ◌∙◌, arith, rules, length, slice_index, eq-eqb, ne_eqb, slice_set, get_or-set_same, get_or-set_other, length-set, true≢false, ◌==◌}
 use Rattle.std.specs.Prelude.{is_some, bit_or, bit_xor}
 use Rattle.std.specs.Int.{bit_at}
 use Rattle.std.proofs.Math.Nat.{pow-le-pow_right}
 use Rattle.std.proofs.lemmas.Nat.Bits.{bit_at_xor, bit_at-pow_same, bit_at-pow_other, bit_at-lt}
 use Rattle.std.proofs.lemmas.Grind.{same_number_lists}
+use Rattle.std.proofs.lemmas.List.{places, length-append, length-drop}
+use borrow.Rule.Slice.PartMut.{put_mid}
 use mathlib.Core.Logic.{dite}
 use native.Mathlib.Decide.{ℕ_discrete}
 use Rattle.lst_layout.specs.declared.TheConstants.{RANGE_RECORDS, FRAME_VALUES, FRAME_TIMES, FRAME_NULLS, FRAME_WORDS}
@@ -38,9 +40,9 @@ said word nulls bit value time (Some (Some n)) is null number = let present : is
 
 -- the value of an entry is the number of its cell, once it is 0 where the entry is absent, and where it is null
 number_read : (present null : Bool) (value packed : ℕ) → value ≡ cond present packed 0 → (present ≡ true → null ≡ true → packed ≡ 0) → value ≡ changed_number (cond present (Some (cond null None (Some value))) None)
-number_read false null value packed is zero = is
-number_read true true value packed is zero = is ∙ zero refl refl
-number_read true false value packed is zero = refl
+number_read false null value packed is nought = is
+number_read true true value packed is nought = is ∙ nought refl refl
+number_read true false value packed is nought = refl
 
 entry_read : (present null : Bool) (value packed time : ℕ) → value ≡ cond present packed 0 → entry_with (cond present (Some (cond null None (Some value))) None) time ≡ entry_with (cond present (Some (cond null None (Some packed))) None) time
 entry_read false null value packed time is = refl
@@ -168,23 +170,40 @@ pub record IsWritten (tps : ℕ) (packed before now : List ℕ) (n : ℕ) : Type
   pub values : (i : ℕ) → i < n → slice_index now (FRAME_VALUES + i) ≡ slice_index packed i
   pub others : (place : ℕ) → FRAME_TIMES ≤ place → slice_index now place ≡ slice_index before place
 
-pub written_first : (tps : ℕ) (packed words : List ℕ) → length words ≡ FRAME_WORDS → IsWritten tps packed words (slice_set words 0 tps) 0
-written_first tps packed words long = record {
-  long = length-set words 0 tps ∙ long;
-  lineage = get_or-set_same words 0 tps 0 (omega arith);
-  values = λ i low. absurd (omega arith);
-  others = λ place high. get_or-set_other words 0 place tps 0 (λ e. omega arith);
-}
+-- ---- a part put in behind the first of 518 words
 
-pub written_next : (tps : ℕ) (packed before now : List ℕ) (n : ℕ) → n < RANGE_RECORDS + 1 → IsWritten tps packed before now n → IsWritten tps packed before (slice_set now (FRAME_VALUES + n) (slice_index packed n)) (n + 1)
-written_next tps packed before now n low is = record {
-  long = length-set now (FRAME_VALUES + n) (slice_index packed n) ∙ is.long;
-  lineage = get_or-set_other now (FRAME_VALUES + n) 0 (slice_index packed n) 0 (λ e. omega arith) ∙ is.lineage;
-  values = λ i short. let long = is.long in dite (ℕ_discrete i n)
-      (λ e. ap (λ (j : ℕ). slice_index (slice_set now (FRAME_VALUES + n) (slice_index packed n)) (FRAME_VALUES + j)) e ∙ (get_or-set_same now (FRAME_VALUES + n) (slice_index packed n) 0 (omega arith) ∙ ap (slice_index packed) (sym e)))
-      (λ ne. get_or-set_other now (FRAME_VALUES + n) (FRAME_VALUES + i) (slice_index packed n) 0 (λ e. ne (omega arith)) ∙ is.values i (omega arith));
-  others = λ place high. get_or-set_other now (FRAME_VALUES + n) place (slice_index packed n) 0 (λ e. omega arith) ∙ is.others place high;
-}
+part_long : (words part : List ℕ) → length words ≡ 518 → length part ≡ 257 → length (put_mid 1 257 words part) ≡ 518
+part_long [] part long all = absurd (omega (arith, long))
+part_long (x ∷ rest) part long all =
+    let l : length (part ++ drop 257 rest) ≡ length part + length (drop 257 rest) = length-append part (drop 257 rest) in
+    let d = length-drop 257 rest in
+    let r : suc (length rest) ≡ 518 = long in
+    omega (arith, l, d, r, all)
+
+part_first : (words part : List ℕ) → length words ≡ 518 → slice_index (put_mid 1 257 words part) 0 ≡ slice_index words 0
+part_first [] part long = absurd (omega (arith, long))
+part_first (x ∷ rest) part long = refl
+
+part_past : (words part : List ℕ) → length words ≡ 518 → length part ≡ 257 → (place : ℕ) → 258 ≤ place → slice_index (put_mid 1 257 words part) place ≡ slice_index words place
+part_past [] part long all place high = absurd (omega (arith, long))
+part_past (x ∷ rest) part long all zero high = absurd (omega (arith, high))
+part_past (x ∷ rest) part long all (suc p) high =
+    let past : length part ≤ p = omega (arith, high, all) in
+    let back : 1 + 257 + (p - 257) ≡ suc p = omega (arith, high) in
+    search (rules, places, past, all, back)
+
+-- the packed words stand behind the first word
+pub written_whole : (tps : ℕ) (packed words : List ℕ) → length words ≡ FRAME_WORDS → length packed ≡ RANGE_RECORDS + 1
+    → IsWritten tps packed words (put_mid 1 257 (slice_set words 0 tps) packed) 257
+written_whole tps packed words long all =
+    let whole : length (slice_set words 0 tps) ≡ 518 = length-set words 0 tps ∙ long in
+    let full : length packed ≡ 257 = all in
+    record {
+      long = part_long (slice_set words 0 tps) packed whole full;
+      lineage = part_first (slice_set words 0 tps) packed whole ∙ get_or-set_same words 0 tps 0 (omega (arith, long));
+      values = λ i low. search (rules, places, whole, full);
+      others = λ place high. part_past (slice_set words 0 tps) packed whole full place high ∙ get_or-set_other words 0 place tps 0 (λ e. omega (arith, high, e));
+    }
 
 module _ (tps : ℕ) (packed before now values : List ℕ) (n : ℕ) (all : n ≡ RANGE_RECORDS + 1) (is : IsWritten tps packed before now n) (long : length packed ≡ RANGE_RECORDS + 1) (packs : Packs packed values) (numbers : AreNumbers (slice_index before) values) where
   packed_is : packed_in (slice_index now) ≡ packed
