@@ -5,6 +5,10 @@
 #[cfg(test)]
 mod candidate_tests;
 #[cfg(test)]
+mod greatest_tests;
+#[cfg(test)]
+mod history_tests;
+#[cfg(test)]
 mod machine;
 mod operations;
 mod pairs;

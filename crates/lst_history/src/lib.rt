@@ -7,8 +7,6 @@ mod commits;
 mod joins;
 mod reading;
 mod tails;
-#[cfg(test)]
-mod tests;
 mod words;
 
 pub use reading::history;

@@ -11,8 +11,6 @@ mod print;
 mod reports;
 mod short;
 mod states;
-#[cfg(test)]
-mod tests;
 mod words;
 
 pub use answers::{Answer, has_reply_shape, paired};

@@ -4,6 +4,16 @@
 
 mod claims;
 #[cfg(test)]
+mod line_tests;
+#[cfg(test)]
+mod printed_tests;
+#[cfg(test)]
+mod reply_tests;
+#[cfg(test)]
+mod script_tests;
+#[cfg(test)]
+mod snapshot_tests;
+#[cfg(test)]
 mod tests;
 
 pub use claims::{Claim, read_claim};

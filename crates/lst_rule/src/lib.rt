@@ -62,6 +62,3 @@ pub use writes::{
     step_claim, step_draw_record, step_draw_tail, step_install, step_latch, step_post,
     step_release, step_stamp, step_store_cell, step_store_key,
 };
-
-#[cfg(test)]
-mod tests;

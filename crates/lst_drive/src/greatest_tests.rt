@@ -1,7 +1,7 @@
 //! The greatest store.
 
-use crate::open_store;
 use lst_layout::Limits;
+use lst_rule::open_store;
 use std::test::Fail;
 
 const GREATEST: Limits = Limits {

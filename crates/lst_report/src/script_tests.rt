@@ -1,9 +1,9 @@
 //! Texts with the scripts that they are, and each fault with its smallest line.
 
-use crate::{FaultKind, Script, ScriptFault, parse};
 use arrayvec::ArrayVec;
 use lst_layout::Limits;
 use lst_model::{Call, Line, Patch, Row};
+use lst_script::{FaultKind, Script, ScriptFault, parse};
 use std::process::Abort;
 use std::test::Fail;
 

@@ -1,8 +1,8 @@
 //! Worked snapshots, and random ones beside tables that are replayed.
 
-use crate::{Sight, Snapshots, Swept, snapshots_of};
 use arrayvec::ArrayVec;
 use lst_model::{Act, Commit, History, OutOfMemory, Patch, Row, Table, Write, Writes, apply};
+use lst_snapshots::{Sight, Snapshots, Swept, snapshots_of};
 use std::alloc::Global;
 use std::test::Fail;
 

@@ -1,6 +1,6 @@
 //! Reports that are read, and the first line of others that can't stand in its place.
 
-use crate::{ReportFault, parse_report, print_report};
+use lst_replies::{ReportFault, parse_report, print_report};
 use std::alloc::Global;
 use std::process::Abort;
 use std::test::Fail;

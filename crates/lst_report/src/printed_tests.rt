@@ -1,9 +1,9 @@
 //! Scripts printed, read again, and generated.
 
-use crate::{Script, generate, parse, print};
 use arrayvec::ArrayVec;
 use lst_layout::Limits;
 use lst_model::{Call, Line, Patch, Row};
+use lst_script::{Script, generate, parse, print};
 use std::alloc::Global;
 use std::process::Abort;
 use std::test::Fail;

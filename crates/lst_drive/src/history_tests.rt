@@ -1,6 +1,6 @@
 //! The history of a store that opens.
 
-use crate::history;
+use lst_history::history;
 use lst_layout::Limits;
 use lst_rule::open_store;
 use std::test::Fail;
