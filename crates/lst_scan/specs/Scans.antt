@@ -24,6 +24,11 @@ abbrev pub IsEntryOn : Known → ℕ → Option (ℕ × List Cell) → Type 0
 IsEntryOn k rec (Some entry) = HasKey k.facts rec entry.0 × (row_of (table_seen k) entry.0 ≡ Some entry.1)
 IsEntryOn k rec None = IsRowOn k rec None
 
+-- the entry of a row that a call put in its place, with the key that it answers
+abbrev pub entry_where : Option ℕ → List Cell → Option (ℕ × List Cell)
+entry_where (Some key) row = Some (key, row)
+entry_where None row = None
+
 -- and the number of a column in the row, 0 for null
 abbrev pub IsCellOn : Known → ℕ → ℕ → Option ℕ → Type 0
 IsCellOn k rec column cell = (row : Option (List Cell)) × IsRowOn k rec row × (cell ≡ cell_in column row)

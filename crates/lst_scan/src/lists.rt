@@ -6,7 +6,8 @@ ghost use Rattle.lst_sights.specs.Watching.{Watched};
 ghost use Rattle.lst_walk.specs.Readers.{IsReader};
 ghost use Rattle.lst_scan.specs.Scans.{table_seen};
 
-use crate::records::entry;
+use crate::records::{entry, put_entry};
+use arrayvec::ArrayVec;
 use lst_model::{Key, OutOfMemory, Row, RowList};
 use lst_rule::{RecordId, Seat, Store};
 use std::alloc::Global;
@@ -32,7 +33,8 @@ pub(crate) fn rows(
     let records = 256 * store.layout().limits.ranges;
     for number in 0..records {
         seat.consider();
-        if let Some((key, row)) = entry(store, seat, s, RecordId { number }) {
+        let mut row = Row::of_numbers(ArrayVec::new());
+        if let Some(key) = put_entry(store, seat, s, RecordId { number }, &mut row) {
             if comes_next(&found, last, key) {
                 found.push((key, row))?;
                 last = key;

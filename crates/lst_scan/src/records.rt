@@ -1,17 +1,19 @@
 //! What the open transaction sees of one record.
-ghost use Rattle.std.specs.Prelude.{◌≡◌, ℕ, ◌+◌, ◌/◌, ◌<◌, Option, is_some};
+ghost use Rattle.std.specs.Prelude.{◌≡◌, ℕ, ◌+◌, ◌/◌, ◌<◌, [], Option, is_some};
 ghost use Rattle.lst_model.specs.Cells.{holds_at};
 ghost use Rattle.lst_core_state.specs.Cells.{record_count};
 ghost use Rattle.lst_rule.specs.Rule.{knows};
 ghost use Rattle.lst_sights.specs.Seen.{HasKey};
 ghost use Rattle.lst_sights.specs.Watching.{Watched};
 ghost use Rattle.lst_walk.specs.Readers.{IsReader};
+ghost use Rattle.lst_walk.specs.Whole.{row_where};
 ghost use Rattle.lst_scan.specs.Savings.{SavesPart, IsPageAt};
-ghost use Rattle.lst_scan.specs.Scans.{IsCellOn, IsRowOn, IsEntryOn, IsEntryWith};
+ghost use Rattle.lst_scan.specs.Scans.{IsCellOn, IsRowOn, IsEntryOn, entry_where, IsEntryWith};
 
+use arrayvec::ArrayVec;
 use lst_model::{Key, Row};
 use lst_rule::{RecordId, Seat, Store, load_key};
-use lst_walk::{TakenPage, column, column_by, is_there_by, page_of, row};
+use lst_walk::{TakenPage, column, column_by, is_there_by, page_of, put_row};
 
 /// The number in a column, 0 for null, of the row on a record. None comes exactly where the transaction sees no row of a key that is on it.
 pub(crate) fn cell(store: &Store, seat: &mut Seat, s: u32, rec: RecordId, c: u32) -> Option<u64>
@@ -119,15 +121,17 @@ pub(crate) fn is_row_by(
     }
 }
 
-/// The row on a record.
-fn row_on(store: &Store, seat: &mut Seat, s: u32, rec: RecordId) -> Option<Row>
+/// The row on a record, put into a row that has no cells. Whether there is a row is answered.
+#[inline(always)]
+fn put_row_on(store: &Store, seat: &mut Seat, s: u32, rec: RecordId, row: &mut Row) -> bool
     requires reader { IsReader store.now seat.old s }
     requires rec { rec.number < record_count store.now.layout.limits }
+    requires empty { row.old ≡ [] }
     ensures reader { IsReader store.now seat.new s }
     ensures watched { Watched seat.old.view seat.new.view s }
-    ensures row { IsRowOn (knows seat.old.view s) rec.number result }
+    ensures row { IsRowOn (knows seat.old.view s) rec.number (row_where result row.new) }
 {
-    row(store, seat, s, rec)
+    put_row(store, seat, s, rec, row)
 }
 
 /// The key of a record that is known to have one.
@@ -142,7 +146,33 @@ fn key_of(store: &Store, seat: &mut Seat, s: u32, rec: RecordId) -> Key
     load_key(store, seat, s, rec.number)
 }
 
-/// The row on a record, with its key. The key is loaded only where there is a row: the key word of a record without one may be any.
+/// Puts the row on a record into a row that has no cells, and answers its key. The key is loaded only where there is a row: the key word of a
+/// record without one may be any.
+#[inline(always)]
+pub(crate) fn put_entry(
+    store: &Store,
+    seat: &mut Seat,
+    s: u32,
+    rec: RecordId,
+    row: &mut Row,
+) -> Option<Key>
+    requires reader { IsReader store.now seat.old s }
+    requires rec { rec.number < record_count store.now.layout.limits }
+    requires free { (knows seat.old.view s).placing.hand ≡ 0 }
+    requires empty { row.old ≡ [] }
+    ensures reader { IsReader store.now seat.new s }
+    ensures watched { Watched seat.old.view seat.new.view s }
+    ensures entry { IsEntryOn (knows seat.old.view s) rec.number (entry_where result row.new) }
+{
+    seat.consider();
+    if put_row_on(store, seat, s, rec, row) {
+        Some(key_of(store, seat, s, rec))
+    } else {
+        None
+    }
+}
+
+/// The row on a record, with its key.
 pub(crate) fn entry(store: &Store, seat: &mut Seat, s: u32, rec: RecordId) -> Option<(Key, Row)>
     requires reader { IsReader store.now seat.old s }
     requires rec { rec.number < record_count store.now.layout.limits }
@@ -151,9 +181,9 @@ pub(crate) fn entry(store: &Store, seat: &mut Seat, s: u32, rec: RecordId) -> Op
     ensures watched { Watched seat.old.view seat.new.view s }
     ensures entry { IsEntryOn (knows seat.old.view s) rec.number result }
 {
-    seat.consider();
-    match row_on(store, seat, s, rec) {
-        Some(row) => Some((key_of(store, seat, s, rec), row)),
+    let mut row = Row::of_numbers(ArrayVec::new());
+    match put_entry(store, seat, s, rec, &mut row) {
+        Some(key) => Some((key, row)),
         None => None,
     }
 }
