@@ -1,6 +1,6 @@
 //! The scans as they are called: by a reader, at the seat that it was lent. Whatever other sessions do meanwhile, an answer is that of the
 //! table which the open transaction sees. A scan leaves of what the session knows what a read leaves.
-ghost use Rattle.std.specs.Prelude.{◌≡◌, ℕ, ◌*◌, ◌<◌, ◌≤◌, true, IfOk, IfErr};
+ghost use Rattle.std.specs.Prelude.{◌≡◌, ℕ, ◌-◌, ◌*◌, ◌^◌, ◌<◌, ◌≤◌, true, IfOk, IfErr};
 ghost use Rattle.std.specs.List.{All};
 ghost use Rattle.lst_model.specs.Tables.{sum_of, count_of, scan_of, find_of};
 ghost use Rattle.lst_machine.specs.Calls.{is_indexed};
@@ -34,7 +34,7 @@ pub fn sum(store: &Store, reader: &mut Reader<'_>, column: u32) -> u128
     sums::sum(store, reader.seat, reader.s, column)
 }
 
-/// The same over the rows whose keys are on records of the ranges from `from` up to and without `to`.
+/// The same over the rows whose keys are on records of the ranges from `from` up to and without `to`: at most 2^73 for each of them.
 pub fn sum_part(store: &Store, reader: &mut Reader<'_>, column: u32, from: u32, to: u32) -> u128
     requires reader { IsReader store.now reader.old.seat.now reader.old.s }
     requires column { column < store.now.layout.limits.columns }
@@ -46,6 +46,7 @@ pub fn sum_part(store: &Store, reader: &mut Reader<'_>, column: u32, from: u32, 
     ensures watched { Watched reader.old.seat.now.view reader.new.seat.now.view reader.old.s }
     ensures sum { (place : ℕ → ℕ) → Places (knows reader.old.seat.now.view reader.old.s) place → result ≡ sum_of (between place (256 * from) (256 * to) (table_seen (knows reader.old.seat.now.view reader.old.s))) column }
     ensures saves { SavesPart reader.old.seat.now.view reader.new.seat.now.view reader.old.s column (256 * from) (256 * to) }
+    ensures few { result ≤ (to - from) * 2 ^ 73 }
 {
     sums::sum_part(store, reader.seat, reader.s, column, from, to)
 }

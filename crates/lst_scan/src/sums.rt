@@ -1,5 +1,5 @@
 //! Sums and counts.
-ghost use Rattle.std.specs.Prelude.{◌≡◌, ℕ, ◌+◌, ◌*◌, ◌^◌, ◌<◌, ◌≤◌};
+ghost use Rattle.std.specs.Prelude.{◌≡◌, ℕ, ◌+◌, ◌-◌, ◌*◌, ◌^◌, ◌<◌, ◌≤◌};
 ghost use Rattle.lst_model.specs.Tables.{sum_of, count_of};
 ghost use Rattle.lst_rule.specs.Rule.{knows};
 ghost use Rattle.lst_sights.specs.Watching.{Watched};
@@ -36,6 +36,7 @@ pub(crate) fn sum_part(store: &Store, seat: &mut Seat, s: u32, c: u32, from: u32
     ensures watched { Watched seat.old.view seat.new.view s }
     ensures sum { (place : ℕ → ℕ) → Places (knows seat.old.view s) place → result ≡ sum_of (between place (256 * from) (256 * to) (table_seen (knows seat.old.view s))) c }
     ensures saves { SavesPart seat.old.view seat.new.view s c (256 * from) (256 * to) }
+    ensures few { result ≤ (to - from) * 2 ^ 73 }
 {
     seat.consider();
     let mut sheet = Sheet::blank();

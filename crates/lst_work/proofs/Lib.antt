@@ -6,10 +6,12 @@ pub mod Heard
 pub mod Hires
 pub mod Merges
 pub mod Ordering
+pub mod ParSumming
 pub mod Reading
 pub mod Refusing
 pub mod Reports
 pub mod Running
 pub mod Scanning
+pub mod SeenAlike
 pub mod Wholes
 pub mod Writing

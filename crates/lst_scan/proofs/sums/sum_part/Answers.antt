@@ -16,7 +16,7 @@ loop-range-preserved c = let invariant = c.loop-range.invariant in (
   adds_part c.args.store.now c.args.seat.now.view c.loop-range.seat c.sum_range-total.new.seat c.args.s (number_at c.args.c) (256 * c.args.from) (256 * c.loop-range.range) (256 * (c.loop-range.range + 1)) c.loop-range.total c.sum_range-total.result invariant.0
       c.sum_range-total.ensures.reader c.sum_range-total.ensures.watched (omega arith) c.sum_range-total.ensures.sum,
   (let t = c.loop-range-test.true in omega arith),
-  (let few = invariant.2 in let more = c.sum_range-total.ensures.few in omega arith),
+  (let few = invariant.2 in let rises = invariant.0.rises in let more = c.sum_range-total.ensures.few in omega arith),
   saves_join c.args.seat.now.view c.loop-range.seat.view c.sum_range-total.new.seat.view c.args.s c.args.c (256 * c.args.from) (256 * c.loop-range.range) (256 * (c.loop-range.range + 1)) invariant.0.scans.watched invariant.0.rises (omega arith) invariant.3 c.sum_range-total.ensures.saves,
 )
 
@@ -28,3 +28,6 @@ returns-clause-sum c = λ place places. let invariant = c.loop-range.invariant i
 pub returns-clause-saves : goal.returns-clause-saves
 returns-clause-saves c = let invariant = c.loop-range.invariant in
     subst (λ (n : ℕ). SavesPart c.args.seat.now.view c.loop-range.seat.view c.args.s c.args.c (256 * c.args.from) (256 * n)) (let t = c.loop-range-test.false in let few = invariant.1 in omega arith) invariant.3
+
+pub returns-clause-few : goal.returns-clause-few
+returns-clause-few c = let t = c.loop-range-test.false in let invariant = c.loop-range.invariant in let few = invariant.1 in let most = invariant.2 in omega arith

@@ -1,0 +1,128 @@
+-- When sessions have seen alike: those of a crew that was parted, and what leaves it so.
+use Rattle.std.proofs.Common.{◌≡◌, ◌⊎◌, inl, inr, ⊎_elim, ℕ, ◌+◌, ◌<◌, ◌≤◌, List, [], ◌∷◌, ◌++◌, true, length, take, drop, get_or, refl, sym, subst, ap, ◌∙◌, arith, append_assoc, append-nil}
+use Rattle.std.specs.Prelude.{Some, None}
+use Rattle.std.proofs.lemmas.List.{take-append-le, take_all, take-append-drop, length-take-le}
+use Rattle.lst_layout.specs.Words.{shown}
+use Rattle.lst_model.specs.declared.acts.Act.{Act}
+use Rattle.lst_model.specs.declared.commits.Commit.{Commit}
+use Rattle.lst_model.specs.Cells.{Cell}
+use Rattle.lst_model.specs.Histories.{Extends, all_acts_on, acts_on, row_from}
+use Rattle.lst_model.specs.Tables.{row_of}
+use Rattle.lst_model.proofs.Folds.{get_snapshot}
+use Rattle.lst_core_state.specs.declared.known.Known.{Known}
+use Rattle.lst_core_state.specs.declared.facts.Fact.TheVariants.{IndexAt}
+use Rattle.lst_core_state.specs.State.{history_of}
+use Rattle.lst_core_state.specs.Sound.{IsRecorded}
+use Rattle.lst_rule.specs.declared.view.View.{View}
+use Rattle.lst_rule.specs.Rule.{knows, hosts}
+use Rattle.lst_rule.specs.Learned.{Possible}
+use Rattle.lst_rule.proofs.Knowing.{knows_own, is_seen}
+use Rattle.lst_sights.specs.Seen.{HasKey}
+use Rattle.lst_sights.proofs.Keying.{same_record}
+use Rattle.lst_scan.proofs.Seeing.{none_is_not}
+use Rattle.lst_session.specs.Parting.{known_by}
+use Rattle.lst_legal_work.proofs.Telling.{extends_on, later_length}
+use Rattle.lst_work.specs.ParSums.{table_of, PartedHaveSeenAlike, SeenAlikeIsKept, HearersHaveGrown, SummersHaveGrown}
+
+-- ---- the keys of rows
+
+-- a row of a table is what the acts on its key make
+row_by_key : (commits : List Commit) (key : ℕ) → row_of (table_of commits) key ≡ row_from None (all_acts_on key commits)
+row_by_key commits key = ap (λ (cs : List Commit). row_of (table_of cs) key) (sym whole) ∙ (get_snapshot commits (length commits) [] key
+    ∙ (ap (λ (acts : List Act). row_from None acts) (append-nil (all_acts_on key (take (length commits) commits))) ∙ ap (λ (cs : List Commit). row_from None (all_acts_on key cs)) whole))
+  where
+    whole : take (length commits) commits ≡ commits
+    whole = take_all (length commits) commits (omega arith)
+
+acts_join : (key : ℕ) (front back : List Commit) → all_acts_on key (front ++ back) ≡ all_acts_on key front ++ all_acts_on key back
+acts_join key [] back = refl
+acts_join key (c ∷ cs) back = ap (λ (acts : List Act). acts_on key c.writes ++ acts) (acts_join key cs back) ∙ sym (append_assoc (acts_on key c.writes) (all_acts_on key cs) (all_acts_on key back))
+
+front_none : (xs ys : List Act) → xs ++ ys ≡ [] → xs ≡ []
+front_none [] ys e = refl
+front_none (x ∷ xs) ys e = let h = ap length e in absurd (omega arith)
+
+-- a key that a history doesn't write has no row in the table of a front
+no_row : (seen commits : List Commit) (key : ℕ) (row : List Cell) → Extends seen commits → all_acts_on key seen ≡ [] → row_of (table_of commits) key ≡ Some row → ⊥
+no_row seen commits key row e none at = none_is_not row (sym (ap (row_from None) (front_none (all_acts_on key commits) (all_acts_on key e.0) (sym (acts_join key commits e.0) ∙ (ap (all_acts_on key) (sym e.1) ∙ none)))) ∙ (sym (row_by_key commits key) ∙ at))
+
+-- ---- one view
+
+module _ (v : View) (p : Possible v) where
+  -- a session's facts have the record of each key that it has seen
+  seen_record : (s : ℕ) → hosts v s ≡ true → s < v.limits.sessions → (key : ℕ) → (all_acts_on key (knows v s).seen ≡ []) ⊎ IsRecorded (knows v s).facts key
+  seen_record s host low key = subst (λ (k : Known). (all_acts_on key k.seen ≡ []) ⊎ IsRecorded k.facts key) (sym (knows_own v p.words p.known p.merger p.allowed s host (λ f. omega arith))) ((p.allowed.sound.recorded s low).seen_keys key)
+
+  row_record : (s : ℕ) → hosts v s ≡ true → s < v.limits.sessions → (commits : List Commit) → Extends (knows v s).seen commits → (key : ℕ) (row : List Cell) → row_of (table_of commits) key ≡ Some row → (rec : ℕ) × HasKey (knows v s).facts rec key
+  row_record s host low commits e key row at = ⊎_elim
+      (λ (none : all_acts_on key (knows v s).seen ≡ []). absurd (no_row (knows v s).seen commits key row e none at))
+      (λ (r : IsRecorded (knows v s).facts key). (r.1, (r.0, r.2)))
+      (seen_record s host low key)
+
+  module _ (host : hosts v 0 ≡ true) (low : 0 < v.limits.sessions) where
+    -- the record that the first session knows of
+    place_by : ℕ → ℕ
+    place_by key = ⊎_elim (λ (none : all_acts_on key (knows v 0).seen ≡ []). 0) (λ (r : IsRecorded (knows v 0).facts key). r.1) (seen_record 0 host low key)
+
+    placed : (commits : List Commit) → Extends (knows v 0).seen commits → (key : ℕ) (row : List Cell) → row_of (table_of commits) key ≡ Some row → HasKey (knows v 0).facts (place_by key) key
+    unfolding place_by
+    placed commits e key row at = choose (seen_record 0 host low key)
+      where
+        choose : (q : (all_acts_on key (knows v 0).seen ≡ []) ⊎ IsRecorded (knows v 0).facts key) → HasKey (knows v 0).facts (⊎_elim (λ (none : all_acts_on key (knows v 0).seen ≡ []). 0) (λ (r : IsRecorded (knows v 0).facts key). r.1) q) key
+        choose (inl none) = absurd (no_row (knows v 0).seen commits key row e none at)
+        choose (inr r) = (r.0, r.2)
+
+    -- is the one that every session knows of
+    all_placed : (commits : List Commit) → Extends (knows v 0).seen commits → (s : ℕ) → hosts v s ≡ true → s < v.limits.sessions → Extends (knows v s).seen commits
+        → (key : ℕ) (row : List Cell) → row_of (table_of commits) key ≡ Some row → HasKey (knows v s).facts (place_by key) key
+    all_placed commits e s hosted few f key row at = let own = row_record s hosted few commits f key row at in
+        subst (λ (rec : ℕ). HasKey (knows v s).facts rec key) (same_record v s p hosted 0 host own.0 (place_by key) key own.1 (placed commits e key row at)) own.1
+
+  -- what a session has seen begins with the first commits of the history
+  front_seen : (s time : ℕ) → hosts v s ≡ true → time ≤ length (knows v s).seen → Extends (knows v s).seen (take time (history_of v.limits (shown v.limits p.words)))
+  front_seen s time host few = let e = is_seen v p.words p.known p.merger p.allowed s host in let seen = (knows v s).seen in
+      (drop time seen, sym (take-append-drop time seen) ∙ ap (λ (cs : List Commit). cs ++ drop time seen) (sym (ap (take time) e.1 ∙ take-append-le time seen e.0 few)))
+
+-- ---- the laws
+
+pub parted_have_seen_alike : PartedHaveSeenAlike
+parted_have_seen_alike store v sessions merger time parted p hosted early =
+    let some : 0 < v.limits.sessions = p.allowed.sound.sized.sessions.0 in
+    let at_first : hosts v 0 ≡ true = hosted 0 (omega arith) in
+    let history = history_of v.limits (shown v.limits p.words) in
+    let commits = take time history in
+    let seen : (s : ℕ) → s < v.limits.sessions → Extends (knows v s).seen commits = λ s low. front_seen v p s time (hosted s (omega arith)) (early s low) in
+    record {
+      commits = commits;
+      count = length-take-le time history (let a = later_length history (knows v 0).seen (is_seen v p.words p.known p.merger p.allowed 0 at_first) in let b = early 0 some in omega arith);
+      place = place_by v p at_first some;
+      each = λ i none low. let few : i < v.limits.sessions = (let c = parted.count in omega arith) in let from = parted.each i none few in
+          let same : known_by (get_or sessions i none) ≡ knows v i = ap (λ (n : ℕ). knows (get_or sessions i none).seat.view n) from.number ∙ from.part.knows_same in
+          record {
+            seen = subst (λ (k : Known). Extends k.seen commits) (sym same) (seen i few);
+            places = λ key row at. subst (λ (k : Known). HasKey k.facts (place_by v p at_first some key) key) (sym same) (all_placed v p at_first some commits (seen 0 some) i (hosted i (omega arith)) few (seen i few) key row at);
+          };
+    }
+
+pub seen_alike_is_kept : SeenAlikeIsKept
+seen_alike_is_kept time old new grown alike = record {
+  commits = alike.commits;
+  count = alike.count;
+  place = alike.place;
+  each = λ i none low. let few : i < length old = (let c = grown.count in omega arith) in let g = grown.each i none few in let had = alike.each i none few in record {
+    seen = extends_on alike.commits (known_by (get_or old i none)).seen (known_by (get_or new i none)).seen had.seen g.seen;
+    places = λ key row at. let h = had.places key row at in (h.0, g.facts (IndexAt h.0 (alike.place key) key) h.1);
+  };
+}
+
+pub hearers_have_grown : HearersHaveGrown
+hearers_have_grown store old new more = record {
+  count = more.count;
+  each = λ i none low. let h = (more.each i none low).knows in record { seen = h.grows; facts = h.keeps };
+}
+
+pub summers_have_grown : SummersHaveGrown
+summers_have_grown store old new summed = record {
+  count = summed.count;
+  each = λ i none low. let h = (summed.each i none low).reads in record { seen = h.seen; facts = h.facts };
+}

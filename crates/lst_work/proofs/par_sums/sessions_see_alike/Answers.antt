@@ -1,0 +1,14 @@
+use Rattle.lst_work.proofs.SeenAlike.{parted_have_seen_alike, seen_alike_is_kept, hearers_have_grown, summers_have_grown}
+use Rattle.lst_work.proofs.par_sums.sessions_see_alike.Goals as goal
+
+pub returns-clause-parted : goal.returns-clause-parted
+returns-clause-parted c = parted_have_seen_alike
+
+pub returns-clause-kept : goal.returns-clause-kept
+returns-clause-kept c = seen_alike_is_kept
+
+pub returns-clause-heard : goal.returns-clause-heard
+returns-clause-heard c = hearers_have_grown
+
+pub returns-clause-summed : goal.returns-clause-summed
+returns-clause-summed c = summers_have_grown
