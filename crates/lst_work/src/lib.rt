@@ -29,4 +29,6 @@ pub use working::work_on;
 #[cfg(test)]
 mod line_tests;
 #[cfg(test)]
+mod par_tests;
+#[cfg(test)]
 mod work_tests;

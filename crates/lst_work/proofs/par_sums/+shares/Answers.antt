@@ -1,4 +1,4 @@
-use Rattle.std.proofs.Common.{◌+◌, arith}
+use Rattle.std.proofs.Common.{arith}
 use Rattle.lst_work.proofs.ParSumming.{shared_one, shared_split}
 use Rattle.lst_work.proofs.par_sums.+shares.Goals as goal
 
