@@ -42,7 +42,8 @@ pub(crate) fn load_quietly(
     )
 }
 
-/// A load of any word.
+/// A load of any word. Part of its caller, which knows the place: so what the load changes is looked up by nobody at run time.
+#[inline(always)]
 pub(crate) fn load_noted(store: &Store, seat: &mut Seat, s: u32, place: Place, address: u64) -> u64
     requires seat { IsSeatOf store.now seat.old }
     requires host { hosts seat.old.view s ≡ true }
