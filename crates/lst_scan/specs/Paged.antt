@@ -1,4 +1,4 @@
--- A page whose words are loaded by one call.
+-- A page, of whose words those are loaded that its form takes.
 use Rattle.std.specs.Prelude.{◌≡◌, ℕ, zero, suc, ◌+◌, ◌<◌, List, slice_index}
 use Rattle.lst_layout.specs.declared.TheConstants.{RANGE_RECORDS, FRAME_TIMES}
 use Rattle.lst_kernel.specs.Entries.{lane_of}
