@@ -84,7 +84,7 @@ fn reported(
     ensures { IfOk result (λ reported. IsReported store.now replies crew reported.0 reported.1) }
 {
     let mut crew = crew;
-    let commits = crew.commits(alloc, store)?;
+    let commits = crew.history(alloc, store)?;
     crew.seat.consider();
     let history = stamps_of(alloc, &commits)?;
     Ok((Report { replies, history }, crew))
