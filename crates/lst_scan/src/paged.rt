@@ -21,6 +21,9 @@ use lst_layout::FRAME_VALUES;
 use lst_pack::unpack;
 use lst_rule::{RecordId, Seat, Store, load_frame, load_heads, load_times, step_look_page};
 
+/// The greatest number that half a word can be.
+const LAST: u64 = u64::MAX / 2;
+
 /// What a sum loads of a range, and makes of that. One serves range after range, since an array is cleared where it is made.
 #[derive(Drop)]
 pub(crate) struct Sheet {
@@ -127,22 +130,18 @@ fn is_told(head: u64, stamp: u64, tps: u64, begin: u64) -> bool
     head / 2 <= tps && stamp / 2 <= begin
 }
 
-/// The greatest of 256 words.
-fn greatest(words: &[u64; 256]) -> u64
-    ensures { (i : ℕ) → i < 256 → slice_index words.now i ≤ result }
-{
-    let mut most = 0;
-    for word in words {
-        most = most.max(*word);
-    }
-    most
-}
-
-/// Whether a page with this TPS tells of all records of a range, by the indirection words and the page's time words.
+/// Whether a page with this TPS tells of all records of a range, by the indirection words and the page's time words. Half of each word gets the
+/// room that its greatest number has below 2^63 added: one that is above comes to 2^63 or more. So all are looked at without a branch.
 fn are_told(heads: &[u64; 256], times: &[u64; 256], tps: u64, begin: u64) -> bool
     ensures { result ≡ true → (i : ℕ) → i < 256 → (slice_index heads.now i / 2 ≤ tps) × (time_of (slice_index times.now i) ≤ begin) }
 {
-    greatest(heads) / 2 <= tps && greatest(times) / 2 <= begin
+    let head_room = LAST - tps.min(LAST);
+    let time_room = LAST - begin.min(LAST);
+    let mut late = 0;
+    for slot in 0..256 {
+        late |= (heads[slot] / 2 + head_room) | (times[slot] / 2 + time_room);
+    }
+    late <= LAST
 }
 
 /// The numbers of a column, 0 for null, added over the rows of one range, by the page in this frame, which is in hand.
