@@ -12,6 +12,7 @@ mod par_sums;
 mod phases;
 mod reporting;
 mod scripts;
+mod totals;
 mod workers;
 mod working;
 
@@ -23,6 +24,7 @@ pub use par_sums::{par_sum, sessions_see_alike};
 pub use phases::run_phase;
 pub use reporting::work;
 pub use scripts::{run_script, whole_phase};
+pub use totals::work_total;
 pub use workers::{Worker, run_lines, work_phase};
 pub use working::work_on;
 
