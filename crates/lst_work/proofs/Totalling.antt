@@ -156,6 +156,10 @@ read_on w s u k y x = let more : List Find = FreshClock (length (history_in w)) 
 
 -- ---- a crew that was parted
 
+-- it has a session
+pub some_session : (store : Store) (crew : Crew) → IsCrewOf store crew → 0 < crew.seat.view.limits.sessions
+some_session store crew of = subst (λ (l : Limits). 0 < l.sessions) (sym of.seat_of.limits) store.layout.valid.sessions.0
+
 -- its sessions are all of the store's
 pub all_parted : (store : Store) (crew : Crew) (sessions : List Session) (merger : Merger) → IsCrewOf store crew → IsParted store crew.seat.view sessions merger → All (IsReady store) sessions → AreAll store sessions
 all_parted store crew sessions merger of parted ready = record {
@@ -171,7 +175,7 @@ known_parted store v sessions merger parted s d low = let from = parted.each s d
 module _ (store : Store) (crew : Crew) (old : List Session) (merger : Merger) (of : IsCrewOf store crew) (h : HaveSeenTheHistory crew.seat.view) (parted : IsParted store crew.seat.view old merger) (all : AreAll store old)
     (time : ℕ) (time_is : time ≡ length (knows crew.seat.view 0).seen) where
   some : 0 < crew.seat.view.limits.sessions
-  some = subst (λ (l : Limits). 0 < l.sessions) (sym of.seat_of.limits) store.layout.valid.sessions.0
+  some = some_session store crew of
 
   in_crew : (s : ℕ) → s < length old → s < crew.seat.view.limits.sessions
   in_crew s low = let e = parted.count in omega arith
@@ -281,7 +285,17 @@ may_not : (l : Limits) (v : View) (s : ℕ) (state : SessionState) → v.limits 
 may_not l v s state limits is (inl on) = inl (transaction_told (knows v s), ap (λ (st : SessionState). st.current) (sym is ∙ opened_told (knows v s) on))
 may_not l v s state limits is (inr spent) = inr (sym (ap (λ (st : SessionState). st.begun) is) ∙ (spent.1 ∙ ap (λ (m : Limits). m.txns) limits))
 
-module _ (layout : Layout) (lines : List Line) (column : ℕ) (report : Report) (store : Store) (before after : Crew) (worked : IsWorked layout lines report store before) (seen : HaveSeenTheHistory before.seat.view) where
+-- it can't both be
+pub never_both : (l : Limits) (state : SessionState) → MayBeginAgain l state → MayNotBegin l state → ⊥
+never_both l state may (inl on) = let none = may.closed in let some = on.1 in cc
+never_both l state may (inr spent) = may.unspent spent
+
+-- what a session knows behind a script is the state that the replies tell
+pub told_behind : (layout : Layout) (lines : List Line) (report : Report) (store : Store) (crew : Crew) → IsWorked layout lines report store crew → (s : ℕ) → s < layout.limits.sessions → session_told (knows crew.seat.view s) ≡ state_behind lines report s
+told_behind layout lines report store crew worked s low = (worked.sessions s low).leaves.state ∙ (own_state s (run_of lines report.replies) (session_told (knows (opening_view layout.limits) s))
+    ∙ ap (λ (k : Known). state_from (session_told k) s (run_of lines report.replies)) (same_at (layout.limits.sessions + 1) s (newcomer layout.limits)))
+
+module _ (layout : Layout) (lines : List Line) (column : ℕ) (report : Report) (store : Store) (before after : Crew) (worked : IsWorked layout lines report store before) (possible : Possible before.seat.view) (seen : HaveSeenTheHistory before.seat.view) where
   limits_are : before.seat.view.limits ≡ layout.limits
   limits_are = worked.crew_of.seat_of.limits ∙ ap (λ (x : Layout). x.limits) worked.opened
 
@@ -291,22 +305,17 @@ module _ (layout : Layout) (lines : List Line) (column : ℕ) (report : Report) 
   in_before : (s : ℕ) → s < layout.limits.sessions → s < before.seat.view.limits.sessions
   in_before s low = subst (λ (l : Limits). s < l.sessions) (sym limits_are) low
 
-  -- what a session knows in the end is the state that the replies tell
-  state_is : (s : ℕ) → s < layout.limits.sessions → session_told (knows before.seat.view s) ≡ state_behind lines report s
-  state_is s low = (worked.sessions s low).leaves.state ∙ (own_state s (run_of lines report.replies) (session_told (knows (opening_view layout.limits) s))
-      ∙ ap (λ (k : Known). state_from (session_told k) s (run_of lines report.replies)) (same_at (layout.limits.sessions + 1) s (newcomer layout.limits)))
-
   by_total : (total : Option ℕ) → HasTotal store column before total after → MatchOption total (HasNoTotal layout lines report before after) (λ sum. IsTotal layout lines report store column before sum after)
   by_total None has = record {
     session = has.1.0;
     low = in_layout has.1.0 has.1.1.0;
-    may_not = may_not layout.limits before.seat.view has.1.0 (state_behind lines report has.1.0) limits_are (state_is has.1.0 (in_layout has.1.0 has.1.1.0)) has.1.1.1;
+    may_not = may_not layout.limits before.seat.view has.1.0 (state_behind lines report has.1.0) limits_are (told_behind layout lines report store before worked has.1.0 (in_layout has.1.0 has.1.1.0)) has.1.1.1;
     same = has.0;
   }
   by_total (Some sum) has = record {
-    may = λ s low. may_again layout.limits before.seat.view s (state_behind lines report s) limits_are (state_is s low) (has.0 s (in_before s low));
+    may = λ s low. may_again layout.limits before.seat.view s (state_behind lines report s) limits_are (told_behind layout lines report store before worked s low) (has.0 s (in_before s low));
     summed = has.1;
   }
 
   pub worked_total : (total : Option ℕ) → HasTotal store column before total after → IsWorkedTotal layout lines column report total store after
-  worked_total total has = record { before = before; worked = worked; seen = seen; total_is = by_total total has }
+  worked_total total has = record { before = before; worked = worked; possible = possible; seen = seen; total_is = by_total total has }

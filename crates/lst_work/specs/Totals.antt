@@ -7,6 +7,7 @@ use Rattle.lst_model.specs.Histories.{table_at}
 use Rattle.lst_model.specs.Tables.{Rows, sum_of}
 use Rattle.lst_rule.specs.declared.store.Store.{Store}
 use Rattle.lst_rule.specs.declared.view.View.{View}
+use Rattle.lst_rule.specs.Learned.{Possible}
 use Rattle.lst_rule.specs.Rule.{knows}
 use Rattle.lst_replies.specs.declared.reports.Report.{Report}
 use Rattle.lst_replies.specs.declared.states.SessionState.{SessionState}
@@ -93,5 +94,6 @@ pub record IsTotal (layout : Layout) (lines : List Line) (report : Report) (stor
 pub record IsWorkedTotal (layout : Layout) (lines : List Line) (column : ℕ) (report : Report) (total : Option ℕ) (store : Store) (after : Crew) : Type 0 where
   pub before : Crew
   pub worked : IsWorked layout lines report store before
+  pub possible : Possible before.seat.view
   pub seen : HaveSeenTheHistory before.seat.view
   pub total_is : MatchOption total (HasNoTotal layout lines report before after) (λ sum. IsTotal layout lines report store column before sum after)

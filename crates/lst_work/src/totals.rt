@@ -1,19 +1,22 @@
 //! A script on which all sessions of a new store work, and the sum of a column behind it.
 ghost use Rattle.std.specs.Prelude.{◌≡◌, ℕ, ◌<◌, ◌≤◌, IfOk, MatchOption, length};
 ghost use Rattle.std.specs.List.{All};
+ghost use Rattle.lst_model.specs.Histories.{table_at};
 ghost use Rattle.lst_model.specs.Lines.{LineFits};
+ghost use Rattle.lst_model.specs.Tables.{sum_of};
 ghost use Rattle.lst_rule.specs.Rule.{knows};
+ghost use Rattle.lst_session.specs.declared.session.Session.{Session as SessionValue};
 ghost use Rattle.lst_session.specs.Crews.{IsCrewOf};
-ghost use Rattle.lst_session.specs.Parting.{IsMergerOf, IsParted};
+ghost use Rattle.lst_session.specs.Parting.{seen_at, IsMergerOf, IsParted};
 ghost use Rattle.lst_legal_work.specs.Whole.{AreAll};
-ghost use Rattle.lst_work.specs.ParSums.{HaveSeenAlike};
+ghost use Rattle.lst_work.specs.ParSums.{CanBeginAsOf, HaveSeenAlike, HaveSummed};
 ghost use Rattle.lst_work.specs.Totals.{HaveSeenTheHistory, MayAllBegin, IsHeldUp, IsSummed, HasTotal, IsWorkedTotal};
 
 use crate::gates::Gate;
 use crate::par_sums::par_sum;
 use crate::reporting::{gathered, worked};
 use lst_layout::Layout;
-use lst_model::OutOfMemory;
+use lst_model::{OutOfMemory, Time};
 use lst_replies::Report;
 use lst_rule::Store;
 use lst_script::Script;
@@ -27,9 +30,9 @@ fn first_held_up(store: &Store, crew: &Crew) -> Option<u32>
     requires { IsCrewOf store.now crew.now }
     ensures { MatchOption result (MayAllBegin crew.now.seat.view) (IsHeldUp crew.now.seat.view) }
 {
-    let seat = &crew.seat;
-    for s in 0..seat.limits().sessions {
-        if seat.is_open(s) || seat.number(s) == store.layout().limits.txns {
+    let limits = crew.seat.limits();
+    for s in 0..limits.sessions {
+        if crew.seat.is_open(s) || crew.seat.number(s) == limits.txns {
             return Some(s);
         }
     }
@@ -51,6 +54,26 @@ fn parted(alloc: Global, store: &Store, crew: Crew) -> Result<(Sessions, Merger)
     }
 }
 
+/// Adds up a column over the table as of a time, by these sessions side by side.
+fn summed_as_of<R: Threads + Sync>(
+    rt: &R,
+    store: &Store,
+    sessions: Sessions,
+    time: Time,
+    column: u32,
+) -> (u128, Sessions)
+    requires some { 0 < length sessions }
+    requires can { All (CanBeginAsOf store.now time) sessions }
+    requires alike { HaveSeenAlike time sessions }
+    requires column { column < store.now.layout.limits.columns }
+    ensures sum { (i : ℕ) (none : SessionValue) → i < length sessions → result.0 ≡ sum_of (table_at (seen_at sessions i none) time) column }
+    ensures sessions { HaveSummed store.now sessions result.1 }
+{
+    let mut passes = sessions.into_vec();
+    let total = par_sum(rt, store, passes.as_mut_slice(), time, column);
+    (total, Sessions::from_vec(passes))
+}
+
 /// Adds up a column by all sessions of a crew, side by side, over the table that the store's commits make.
 fn summed<R: Threads + Sync>(
     rt: &R,
@@ -67,9 +90,8 @@ fn summed<R: Threads + Sync>(
 {
     let time = crew.seat.seen(0);
     let (sessions, merger) = parted(alloc, store, crew)?;
-    let mut sessions = sessions.into_vec();
-    let total = par_sum(rt, store, sessions.as_mut_slice(), time, column);
-    let crew = gathered(alloc, store, Sessions::from_vec(sessions), merger)?;
+    let (total, sessions) = summed_as_of(rt, store, sessions, time, column);
+    let crew = gathered(alloc, store, sessions, merger)?;
     crew.seat.consider();
     Ok((total, crew))
 }
@@ -113,6 +135,7 @@ pub fn work_total<R: Threads + Wait + Sync, G: Gate + Sync>(
     ensures { IfOk result (λ done. IsWorkedTotal layout.now script.now column done.0 done.1 done.2 done.3) }
 {
     let (report, store, crew) = worked(rt, alloc, layout, script, gate)?;
+    crew.seat.consider();
     let (total, crew) = total_of(rt, alloc, &store, crew, column)?;
     Ok((report, total, store, crew))
 }
