@@ -255,7 +255,7 @@ module _ (store : Store) (crew after : Crew) (old new : List Session) (merger : 
       (extends_on (store_told had).history (known_by (at_place 0 any)).seen (store_told has).history (subst (λ (cs : List Commit). Extends (known_by (at_place 0 any)).seen cs) (h.seen 0 any) (read 0 any).seen) (seen_all 0 any).grows)
       (λ s low. same_commits s (subst (λ (l : Limits). s < l.sessions) same_limits low))
 
-  pub have_read_once : HaveReadOnce store had has
+  pub have_read_once : HaveReadOnce had has
   have_read_once = record {
     limits = same_limits;
     sessions = λ s low. read_on has s (knows had s) (known_by (at_place s low)) (read s low) (seen_all s low);

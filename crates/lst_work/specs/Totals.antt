@@ -56,7 +56,7 @@ IsHeldUp v s = (s < v.limits.sessions) × (IsOpen v s ⊎ IsSpent v s)
 
 -- The crew of a store has the view v, and had u. Each session has read once since, and has seen the same history, which is still that of the store. The
 -- merger knows what it knew
-pub record HaveReadOnce (store : Store) (u v : View) : Type 0 where
+pub record HaveReadOnce (u v : View) : Type 0 where
   pub limits : v.limits ≡ u.limits
   pub sessions : (s : ℕ) → s < u.limits.sessions → HasReadOnce s (knows u s) (knows v s)
   pub seen : (s : ℕ) → s < u.limits.sessions → (knows v s).seen ≡ (knows u s).seen
@@ -68,7 +68,7 @@ pub record HaveReadOnce (store : Store) (u v : View) : Type 0 where
 pub record IsSummed (store : Store) (column : ℕ) (before : Crew) (sum : ℕ) (after : Crew) : Type 0 where
   pub sum_is : sum ≡ sum_of (table_told before.seat.view) column
   pub crew_of : IsCrewOf store after
-  pub read : HaveReadOnce store before.seat.view after.seat.view
+  pub read : HaveReadOnce before.seat.view after.seat.view
 
 -- no session may be held up for a sum; where one is, the crew stays as it was
 abbrev pub HasTotal : Store → ℕ → Crew → Option ℕ → Crew → Type 0
