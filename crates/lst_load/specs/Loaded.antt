@@ -17,7 +17,6 @@ use Rattle.lst_script.specs.Generated.{range_count, generated}
 use Rattle.lst_session.specs.declared.crew.Crew.{Crew}
 use Rattle.lst_session.specs.Crews.{store_told}
 use Rattle.lst_legal_work.specs.Worked.{IsWorked}
-use Rattle.lst_work.specs.Totals.{IsWorkedTotal}
 use Rattle.lst_load.specs.declared.loading.Loaded.{Loaded}
 use Rattle.lst_load.specs.Scripted.{transactions_of}
 
@@ -59,9 +58,3 @@ GeneratedIsLoaded = (seed keys sessions : ℕ) (layout : Layout) (report : Repor
     → 0 < keys → keys ≤ 4096 → 0 < sessions → layout.limits ≡ load_limits keys sessions
     → IsWorked layout (generated keys sessions seed) report store crew → Possible crew.seat.view
     → (loaded : Loaded) × IsLoaded seed keys sessions loaded store crew
-
--- Where they have worked on it and a column was to be added up behind it, there is a sum
-abbrev pub GeneratedHasTotal : Type 0
-GeneratedHasTotal = (seed keys sessions : ℕ) (layout : Layout) (column : ℕ) (report : Report) (total : Option ℕ) (store : Store) (crew : Crew)
-    → 0 < keys → keys ≤ 4096 → 0 < sessions → layout.limits ≡ load_limits keys sessions
-    → IsWorkedTotal layout (generated keys sessions seed) column report total store crew → (sum : ℕ) × (total ≡ Some sum)

@@ -39,7 +39,7 @@ cell_saves v w s rec column saves whole pinned needs = let cell = saves pinned i
 
 -- ---- a page in hand
 
-pub same_pin : (v w : View) (s : ℕ) → Watched v w s → 0 < (knows w s).pages.session.pin → 0 < (knows v s).pages.session.pin
+same_pin : (v w : View) (s : ℕ) → Watched v w s → 0 < (knows w s).pages.session.pin → 0 < (knows v s).pages.session.pin
 same_pin v w s watched pinned = subst (λ (n : ℕ). 0 < n) (ap (λ (k : Known). k.pages.session.pin) watched.watches.is ∙ watched.watches.pin) pinned
 
 -- after it was taken

@@ -1,7 +1,5 @@
 -- When a scan loads no word of a tail record.
-use Rattle.std.specs.Prelude.{◌≡◌, ℕ, ◌<◌, ◌≤◌, List, true, slice_index}
-use Rattle.lst_layout.specs.declared.TheConstants.{RANGE_RECORDS}
-use Rattle.lst_pages.specs.Frames.{stamp_in}
+use Rattle.std.specs.Prelude.{◌≡◌, ℕ, ◌<◌, ◌≤◌, true}
 use Rattle.lst_page_state.specs.Sound.{tps_at}
 use Rattle.lst_rule.specs.declared.view.View.{View}
 use Rattle.lst_rule.specs.Rule.{knows}
@@ -19,15 +17,6 @@ SavesPart v w s column low high = v.whole ≡ true → 0 < (knows v s).pages.ses
 -- where the view knows each word, and the session is pinned, the page is that of the range and the column, as the words say
 abbrev pub TellsPage : View → (s range column : ℕ) → TakenPage → Type 0
 TellsPage v s range column page = v.whole ≡ true → 0 < (knows v s).pages.session.pin → (page.frame ≡ (words_of v).directory range column) × (page.tps ≡ tps_at (words_of v).directory (words_of v).frames range column)
-
--- where it does, the page stands in this frame
-abbrev pub TellsFrame : View → (s range column frame : ℕ) → Type 0
-TellsFrame v s range column frame = v.whole ≡ true → 0 < (knows v s).pages.session.pin → frame ≡ (words_of v).directory range column
-
--- and these are its TPS and its time words
-abbrev pub TellsStamps : View → (s range column tps : ℕ) → List ℕ → Type 0
-TellsStamps v s range column tps stamps = v.whole ≡ true → 0 < (knows v s).pages.session.pin
-    → (tps ≡ tps_at (words_of v).directory (words_of v).frames range column) × ((slot : ℕ) → slot < RANGE_RECORDS → slice_index stamps slot ≡ stamp_in ((words_of v).frames ((words_of v).directory range column)) slot)
 
 -- the session has the page of the range and the column in hand
 abbrev pub IsPageAt : View → (s range column : ℕ) → TakenPage → Type 0

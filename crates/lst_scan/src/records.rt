@@ -13,9 +13,7 @@ ghost use Rattle.lst_scan.specs.Scans.{IsCellOn, IsRowOn, IsEntryOn, entry_where
 use arrayvec::ArrayVec;
 use lst_model::{Key, Row};
 use lst_rule::{RecordId, Seat, Store, load_key};
-use lst_walk::{
-    TakenPage, column, column_by, column_by_chain, is_there_by, page_of, put_row,
-};
+use lst_walk::{TakenPage, column, column_by, is_there_by, page_of, put_row};
 
 /// The number in a column, 0 for null, of the row on a record. None comes exactly where the transaction sees no row of a key that is on it.
 pub(crate) fn cell(store: &Store, seat: &mut Seat, s: u32, rec: RecordId, c: u32) -> Option<u64>
@@ -28,24 +26,6 @@ pub(crate) fn cell(store: &Store, seat: &mut Seat, s: u32, rec: RecordId, c: u32
     ensures saves { SavesPart seat.old.view seat.new.view s c rec.number (rec.number + 1) }
 {
     column(store, seat, s, rec, c)
-}
-
-/// What `cell` answers, along the record's chain alone. This serves a record that the column's page in hand doesn't tell.
-pub(crate) fn cell_by_chain(
-    store: &Store,
-    seat: &mut Seat,
-    s: u32,
-    rec: RecordId,
-    c: u32,
-) -> Option<u64>
-    requires reader { IsReader store.now seat.old s }
-    requires rec { rec.number < record_count store.now.layout.limits }
-    requires column { c < store.now.layout.limits.columns }
-    ensures reader { IsReader store.now seat.new s }
-    ensures watched { Watched seat.old.view seat.new.view s }
-    ensures cell { IsCellOn (knows seat.old.view s) rec.number c result }
-{
-    column_by_chain(store, seat, s, rec, c)
 }
 
 /// Takes the page of a range and a column in hand, for the records of the range.

@@ -12,7 +12,6 @@ mod par_sums;
 mod phases;
 mod reporting;
 mod scripts;
-mod totals;
 mod workers;
 mod working;
 
@@ -24,7 +23,6 @@ pub use par_sums::{par_sum, sessions_see_alike};
 pub use phases::run_phase;
 pub use reporting::work;
 pub use scripts::{run_script, whole_phase};
-pub use totals::work_total;
 pub use workers::{Worker, run_lines, work_phase};
 pub use working::work_on;
 

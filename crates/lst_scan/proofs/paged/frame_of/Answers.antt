@@ -1,6 +1,5 @@
 use Rattle.lst_walk.specs.Packed.{skims_same}
 use Rattle.lst_walk.proofs.Holding.{of_skims, of_keeps}
-use Rattle.lst_scan.proofs.Untold.{frame_told}
 use Rattle.lst_scan.proofs.paged.frame_of.Goals as goal
 
 pub returns-then-is_none-clause-skims : goal.returns-then-is_none-clause-skims
@@ -18,7 +17,3 @@ returns-then-tps-gt0-clause-frame c = (
 
 pub returns-else-tps-gt0-clause-skims : goal.returns-else-tps-gt0-clause-skims
 returns-else-tps-gt0-clause-skims c = of_skims c.args.seat.now.view c.step_look_page-frame.new.seat.view c.load_frame-tps.new.seat.view c.args.s c.args.range c.args.c c.step_look_page-frame.result c.load_frame-tps.result c.requires.reader.host c.requires.reader.own c.step_look_page-frame.ensures.looked c.load_frame-tps.ensures.loaded
-
-pub returns-then-tps-gt0-clause-told : goal.returns-then-tps-gt0-clause-told
-returns-then-tps-gt0-clause-told c = let skims = of_skims c.args.seat.now.view c.step_look_page-frame.new.seat.view c.load_frame-tps.new.seat.view c.args.s c.args.range c.args.c c.step_look_page-frame.result c.load_frame-tps.result c.requires.reader.host c.requires.reader.own c.step_look_page-frame.ensures.looked c.load_frame-tps.ensures.loaded in
-    frame_told c.args.seat.now.view c.step_look_page-frame.new.seat.view c.load_frame-tps.new.seat.view c.args.s c.args.range c.args.c c.step_look_page-frame.result c.load_frame-tps.result skims.watched c.step_look_page-frame.ensures.looked c.load_frame-tps.ensures.loaded

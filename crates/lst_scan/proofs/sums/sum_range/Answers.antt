@@ -4,9 +4,6 @@ use Rattle.lst_sights.proofs.Watching.{watches_join}
 use Rattle.lst_scan.proofs.Sheets.{part_before}
 use Rattle.lst_scan.proofs.sums.sum_range.Goals as goal
 
-pub sum_by_page-requires-clause-told : goal.sum_by_page-requires-clause-told
-sum_by_page-requires-clause-told c = c.in-Some.ensures.told
-
 pub returns-in-Some-clause-watched : goal.returns-in-Some-clause-watched
 returns-in-Some-clause-watched c = watches_join c.args.seat.now.view c.frame_of.new.seat.view c.sum_by_page.new.seat.view c.args.s c.frame_of.ensures.skims.watched c.sum_by_page.ensures.watched
 
