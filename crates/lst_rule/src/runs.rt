@@ -92,7 +92,7 @@ fn load_next(
     out[i as usize] = load_quietly(store, seat, s, place, address);
 }
 
-/// Loads the words of a run, one after another. Their address is made up once, and two are loaded a turn.
+/// Loads the words of a run, one after another. Their address is made up once, and eight are loaded a turn: the compiler unrolls the inner loop.
 #[inline(always)]
 fn load_run(store: &Store, seat: &mut Seat, s: u32, run: Run, out: &mut [u64; 256])
     requires seat { IsSeatOf store.now seat.old }
@@ -102,11 +102,10 @@ fn load_run(store: &Store, seat: &mut Seat, s: u32, run: Run, out: &mut [u64; 25
     ensures loads { LoadsRun run (slice_index out.new) seat.old.view s RANGE_RECORDS seat.new.view }
 {
     let first = first_of_run(&store.layout, run);
-    let mut i = 0;
-    while i < RANGE_RECORDS {
-        load_next(store, seat, s, run, first, i, out);
-        load_next(store, seat, s, run, first, i + 1, out);
-        i += 2;
+    for turn in 0..RANGE_RECORDS / 8 {
+        for place in 0..8 {
+            load_next(store, seat, s, run, first, 8 * turn + place, out);
+        }
     }
 }
 

@@ -1,10 +1,9 @@
-use Rattle.std.proofs.Common.{◌≡◌, ◌-◌, ◌%◌}
-use Rattle.lst_layout.specs.declared.TheConstants.{RANGE_RECORDS}
+use Rattle.std.proofs.Common.{◌+◌, ◌*◌}
 use Rattle.lst_rule.proofs.Running.{RunsOn}
 use Rattle.lst_rule.proofs.runs.load_run.Given as goal
 
-abbrev pub invariant-loop-i : goal.invariant-loop-i
-invariant-loop-i l = RunsOn l.store l.fn.seat.view l.seat l.s l.i l.run l.out × (l.i % 2 ≡ 0)
+abbrev pub invariant-loop-turn : goal.invariant-loop-turn
+invariant-loop-turn l = RunsOn l.store l.fn.seat.view l.seat l.s (8 * l.turn) l.run l.out
 
-abbrev pub decreases-loop-i : goal.decreases-loop-i
-decreases-loop-i l = RANGE_RECORDS - l.i
+abbrev pub invariant-loop-place : goal.invariant-loop-place
+invariant-loop-place l = RunsOn l.store l.fn.seat.view l.seat l.s (8 * l.turn + l.place) l.run l.out
