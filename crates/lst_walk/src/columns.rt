@@ -51,6 +51,28 @@ pub fn column(store: &Store, seat: &mut Seat, s: u32, rec: RecordId, c: u32) -> 
     None
 }
 
+/// What `column` answers, along the chain alone: no page is looked at. This serves a record of which the column's page in hand tells nothing.
+pub fn column_by_chain(store: &Store, seat: &mut Seat, s: u32, rec: RecordId, c: u32) -> Option<u64>
+    requires reader { IsReader store.now seat.old s }
+    requires rec { rec.number < record_count store.now.layout.limits }
+    requires column { c < store.now.layout.limits.columns }
+    ensures reader { IsReader store.now seat.new s }
+    ensures watched { Watched seat.old.view seat.new.view s }
+    ensures cell { IsCellOf seat.old.view s rec.number c result }
+    ensures walk { WalksCell seat.old.view seat.new.view s rec.number c result }
+{
+    seat.consider();
+    let range = rec.number / 256;
+    let mut number = head(store, seat, s, rec);
+    while number > 0 {
+        if let Some(held) = held(store, seat, s, range, number, c) {
+            return held;
+        }
+        number = below(store, seat, s, tail_of(store, range, number));
+    }
+    None
+}
+
 /// What a version of a range, by the number of its tail record, tells of a column: its number, 0 for null, or with None in it that there is
 /// no row. None comes where the version isn't seen, or tells nothing of the column.
 fn held(

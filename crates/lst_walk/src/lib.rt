@@ -14,7 +14,7 @@ mod taken;
 mod whole;
 mod words;
 
-pub use columns::column;
+pub use columns::{column, column_by_chain};
 pub use rows::{put_row, row};
 pub use stamps::stamp;
 pub use taken::{TakenPage, column_by, is_there_by, page_of};

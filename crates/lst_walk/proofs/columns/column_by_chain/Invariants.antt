@@ -1,0 +1,8 @@
+use Rattle.lst_walk.specs.Walks.{CellWalk}
+use Rattle.lst_walk.proofs.columns.column_by_chain.Given as goal
+
+abbrev pub invariant-loop-number : goal.invariant-loop-number
+invariant-loop-number l = CellWalk l.store l.fn.seat.view l.seat l.s l.fn.rec.number l.c l.number
+
+abbrev pub decreases-loop-number : goal.decreases-loop-number
+decreases-loop-number l = l.number
