@@ -5,6 +5,7 @@ pub mod Packed
 pub mod Packing
 pub mod Walks
 pub mod Taking
+pub mod Chains
 pub mod Filling
 pub mod Taken
 pub mod Whole

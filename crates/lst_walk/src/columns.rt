@@ -6,6 +6,7 @@ ghost use Rattle.lst_rule.specs.Stores.{IsSeatOf};
 ghost use Rattle.lst_sights.specs.Copies.{Version};
 ghost use Rattle.lst_sights.specs.Watching.{Watched};
 ghost use Rattle.lst_walk.specs.Readers.{IsReader, IsAt, HasVersion, LoadsTail, Resolves};
+ghost use Rattle.lst_walk.specs.Chains.{SavesChain};
 ghost use Rattle.lst_walk.specs.Pages.{touches_by, is_told, SavesCell};
 ghost use Rattle.lst_walk.specs.Walks.{IsCellOf, WalksCell, Tells, Told};
 
@@ -51,7 +52,8 @@ pub fn column(store: &Store, seat: &mut Seat, s: u32, rec: RecordId, c: u32) -> 
     None
 }
 
-/// What `column` answers, along the chain alone: no page is looked at. This serves a record of which the column's page in hand tells nothing.
+/// What `column` answers, along the chain alone: no page is looked at. This serves a record of which the column's page tells nothing. Where the
+/// record has no version, no word of a tail record is loaded.
 pub fn column_by_chain(store: &Store, seat: &mut Seat, s: u32, rec: RecordId, c: u32) -> Option<u64>
     requires reader { IsReader store.now seat.old s }
     requires rec { rec.number < record_count store.now.layout.limits }
@@ -60,6 +62,7 @@ pub fn column_by_chain(store: &Store, seat: &mut Seat, s: u32, rec: RecordId, c:
     ensures watched { Watched seat.old.view seat.new.view s }
     ensures cell { IsCellOf seat.old.view s rec.number c result }
     ensures walk { WalksCell seat.old.view seat.new.view s rec.number c result }
+    ensures saves { SavesChain seat.old.view seat.new.view s rec.number }
 {
     seat.consider();
     let range = rec.number / 256;
