@@ -1,3 +1,4 @@
 pub mod Lanes
 pub mod Sums
 pub mod Counts
+pub mod Limits

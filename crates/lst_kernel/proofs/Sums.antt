@@ -3,7 +3,7 @@ use Rattle.std.proofs.Common.{◌≡◌, ℕ, zero, suc, ◌+◌, ◌-◌, ◌*�
 use Rattle.std.proofs.Math.Seq.{take-add}
 use Rattle.std.proofs.lemmas.List.{map-append, length-map, length-take, length-drop, take-append-drop, take_all, take_more}
 use Rattle.std.proofs.lemmas.List.Sums.{sum_by-cons}
-use Rattle.std.proofs.lemmas.Simd.{length-zip2, length-chunk, sum-zip2, sum_bound, zip2_splat, adds_fit, sum_fits, fold-sum, Each1-chunk, Each1-weaker, get_or-zip2}
+use Rattle.std.proofs.lemmas.Simd.{length-zip2, length-chunk, sum-zip2, sum_bound, zip2_splat, adds_fit, sum_fits, fold-sum, Each1-chunk, Each1-weaker, Each1-from_get_or, get_or-zip2}
 use lib.Lanes.{zip2, sum_l, fold_l, chunk, Each1, Each2, Steps}
 use Rattle.lst_kernel.specs.Entries.{is_seen, seen_values, lane_of}
 use Rattle.lst_kernel.proofs.Lanes.{plus}
@@ -113,9 +113,29 @@ in_halves : (xs : List ℕ) → sum_l xs ≡ sum_l (map high_half xs) * 42949672
 in_halves [] = omega arith
 in_halves (x ∷ xs) = omega (arith, in_halves xs)
 
+-- the upper halves of up to 256 words have room in 64 bits
+pub halves_room : (s : List ℕ) → length s ≤ 256 → Each1 (λ a. a < 2 ^ 64) s → sum_l (map high_half s) < 2 ^ 64
+halves_room s few f = omega (arith, high_low s f)
+
+pub halves_fit : (halves r p q : List ℕ) → length r ≡ 8 → sum_l halves ≡ sum_l (map high_half p) → q ≡ p ++ r → sum_l (map high_half q) < 2 ^ 64 → Each2 (λ a b. Fits w64 (a + b)) halves (halves_of r)
+halves_fit halves r p q e h is room = let s = high_sum halves r p q e h is in adds_fit w64 halves (halves_of r) (omega arith)
+
 folded : (a : ℕ) (xs : List ℕ) → a < 2 ^ 64 → fold_l plus a xs ≡ (a + sum_l xs) % 2 ^ 64
 folded a [] h = omega arith
 folded a (x ∷ xs) h = omega (arith, folded (plus a x) xs (omega arith))
+
+-- what is left of a sum in 64 bits, and the sum of the upper halves, tell the whole
+pub joined : (s : List ℕ) (r : ℕ) (sums halves : List ℕ) → length s ≤ 256 → sum_l sums % 2 ^ 64 ≡ sum_l s % 2 ^ 64 → sum_l halves ≡ sum_l (map high_half s)
+    → ((rest : ℕ) → rest < 2 ^ 64 → fold_l plus 0 sums ≡ (fold_l (λ s x. s + x) 0 halves * 4294967296 + rest) % 2 ^ 64 → r ≡ fold_l (λ s x. s + x) 0 halves * 4294967296 + rest)
+    → r ≡ sum_l s
+joined s r sums halves few low high joins =
+    let rest = sum_l (map low_half s) in
+    let parts = in_halves s in
+    let h = fold-sum 0 halves in
+    let l = folded 0 sums (omega arith) in
+    let few_left : rest < 2 ^ 64 = omega (arith, low_low s) in
+    let is = joins rest few_left (omega arith) in
+    omega arith
 
 rest_is : (k : ℕ) (xs : List ℕ) → take (length xs - k) (drop k xs) ≡ drop k xs
 rest_is k xs = take_all (length xs - k) (drop k xs) (omega (arith, length-drop k xs))
@@ -133,13 +153,11 @@ module _ (b : ℕ) (vs ts : List ℕ) (long : length vs ≡ length ts) (few : le
   short i = omega (arith, length-take i (seen b vs ts), length-zip2 (lane_of b) vs ts long)
 
   high_room : (i : ℕ) → sum_l (map high_half (seen_up_to b vs ts i)) < 2 ^ 64
-  high_room i = omega (arith, short i, high_low (seen_up_to b vs ts i) (Each1-chunk (λ a. a < 2 ^ 64) 0 i (seen b vs ts) (seen_low b vs ts f)))
+  high_room i = halves_room (seen_up_to b vs ts i) (short i) (Each1-chunk (λ a. a < 2 ^ 64) 0 i (seen b vs ts) (seen_low b vs ts f))
 
   pub high_fits : (i : ℕ) (halves r : List ℕ) → length r ≡ 8 → r ≡ seen b (chunk i 8 vs) (chunk i 8 ts) → sum_l halves ≡ sum_l (map high_half (seen_up_to b vs ts i))
       → Each2 (λ a b. Fits w64 (a + b)) halves (halves_of r)
-  high_fits i halves r e is h =
-      let s = high_sum halves r (seen_up_to b vs ts i) (seen_up_to b vs ts (i + 8)) e h (seen_more b i 8 vs ts r is) in
-      adds_fit w64 halves (halves_of r) (omega (arith, high_room (i + 8)))
+  high_fits i halves r e is h = halves_fit halves r (seen_up_to b vs ts i) (seen_up_to b vs ts (i + 8)) e h (seen_more b i 8 vs ts r is) (high_room (i + 8))
 
   pub high_folds : (i : ℕ) (halves : List ℕ) → sum_l halves ≡ sum_l (map high_half (seen_up_to b vs ts i)) → Steps (λ s x. Fits w64 (s + x)) (λ s x. s + x) 0 halves
   high_folds i halves h = sum_fits w64 0 halves (omega (arith, high_room i))
@@ -151,15 +169,7 @@ module _ (b : ℕ) (vs ts : List ℕ) (long : length vs ≡ length ts) (few : le
       → sum_l halves ≡ sum_l (map high_half (seen_up_to b vs ts i))
       → ((rest : ℕ) → rest < 2 ^ 64 → fold_l plus 0 sums ≡ (fold_l (λ s x. s + x) 0 halves * 4294967296 + rest) % 2 ^ 64 → r ≡ fold_l (λ s x. s + x) 0 halves * 4294967296 + rest)
       → r ≡ sum (seen_values b vs ts)
-  total_is i r sums halves all low high joins =
-      let s = seen_up_to b vs ts i in
-      let rest = sum_l (map low_half s) in
-      let parts = in_halves s in
-      let h = fold-sum 0 halves in
-      let l = folded 0 sums (omega arith) in
-      let few_left : rest < 2 ^ 64 = omega (arith, low_low s, short i) in
-      let is = joins rest few_left (omega arith) in
-      omega (arith, at_end i all)
+  total_is i r sums halves all low high joins = joined (seen_up_to b vs ts i) r sums halves (short i) low high joins ∙ at_end i all
 
   pub sum_low : (i : ℕ) → sum_l (seen_up_to b vs ts i) ≤ 2 ^ 64 * 256
   sum_low i =
@@ -175,3 +185,27 @@ module _ (b : ℕ) (vs ts : List ℕ) (long : length vs ≡ length ts) (few : le
 
   pub all_low : sum (seen_values b vs ts) ≤ 2 ^ 64 * 256
   all_low = omega (arith, at_end (length vs) (omega arith), sum_low (length vs))
+
+-- ---- all values, seen or not
+
+pub sum_l_is : (xs : List ℕ) → sum_l xs ≡ sum xs
+sum_l_is [] = refl
+sum_l_is (x ∷ xs) = ap (λ k. x + k) (sum_l_is xs) ∙ sym (sum_by-cons (λ k. k) x xs)
+
+module _ (vs : List ℕ) (few : length vs ≤ 256) (f : (k : ℕ) → Fits w64 (get_or vs k 0)) where
+  short_of_all : (i : ℕ) → length (take i vs) ≤ 256
+  short_of_all i = omega (arith, length-take i vs)
+
+  room_of_all : (i : ℕ) → sum_l (map high_half (take i vs)) < 2 ^ 64
+  room_of_all i = halves_room (take i vs) (short_of_all i) (Each1-chunk (λ a. a < 2 ^ 64) 0 i vs (Each1-from_get_or (λ a. a < 2 ^ 64) vs 0 (λ k h. (f k).fits)))
+
+  pub all_fit : (i : ℕ) (halves : List ℕ) → i + 8 ≤ length vs → sum_l halves ≡ sum_l (map high_half (take i vs)) → Each2 (λ a b. Fits w64 (a + b)) halves (halves_of (chunk i 8 vs))
+  all_fit i halves within h = halves_fit halves (chunk i 8 vs) (take i vs) (take (i + 8) vs) (length-chunk i 8 vs within) h (take-add i 8 vs) (room_of_all (i + 8))
+
+  pub all_fold : (i : ℕ) (halves : List ℕ) → sum_l halves ≡ sum_l (map high_half (take i vs)) → Steps (λ s x. Fits w64 (s + x)) (λ s x. s + x) 0 halves
+  all_fold i halves h = sum_fits w64 0 halves (omega (arith, room_of_all i))
+
+  pub all_is : (i r : ℕ) (sums halves : List ℕ) → length vs ≤ i → sum_l sums % 2 ^ 64 ≡ sum_l (take i vs) % 2 ^ 64 → sum_l halves ≡ sum_l (map high_half (take i vs))
+      → ((rest : ℕ) → rest < 2 ^ 64 → fold_l plus 0 sums ≡ (fold_l (λ s x. s + x) 0 halves * 4294967296 + rest) % 2 ^ 64 → r ≡ fold_l (λ s x. s + x) 0 halves * 4294967296 + rest)
+      → r ≡ sum vs
+  all_is i r sums halves past low high joins = joined (take i vs) r sums halves (short_of_all i) low high joins ∙ ap sum_l (take_all i vs past) ∙ sum_l_is vs
