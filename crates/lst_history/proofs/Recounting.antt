@@ -1,6 +1,9 @@
 -- A seat that hosts everybody takes stock of all words before it reads the history.
-use Rattle.std.proofs.Common.{◌≡◌, ℕ, ◌<◌, true, sym, refl, subst, ◌∙◌, arith}
-use Rattle.lst_core_state.specs.State.{rank, history_of}
+use Rattle.std.proofs.Common.{◌≡◌, ℕ, zero, suc, ◌<◌, List, [], ◌∷◌, ◌++◌, map, true, sym, refl, subst, ap, ◌∙◌, arith}
+use Rattle.std.proofs.lemmas.List.{map-append}
+use Rattle.lst_model.specs.declared.commits.Commit.{Commit}
+use Rattle.lst_model.specs.declared.acts.Write.{Write}
+use Rattle.lst_core_state.specs.State.{rank, history, history_of, commit_at}
 use Rattle.lst_rule.specs.declared.view.View.{View}
 use Rattle.lst_rule.specs.declared.store.Store.{Store}
 use Rattle.lst_rule.specs.Rule.{knows, hosts}
@@ -8,6 +11,7 @@ use Rattle.lst_rule.specs.Seats.{Sitting}
 use Rattle.lst_rule.specs.Stores.{IsSeatOf}
 use Rattle.lst_rule.specs.Surveys.{HostsAll, Surveyed}
 use Rattle.lst_rule.proofs.Surveying.{survey_kept}
+use Rattle.lst_history.specs.Commits.{without_writes}
 use Rattle.lst_history.specs.Peeks.{words_in, IsReader, Reads, Recounts}
 use Rattle.lst_history.proofs.Looks.{same_words}
 
@@ -37,3 +41,10 @@ recounts store a b c s t reads = record {
 -- what it reads is the history of the words that it knows then
 pub same_history : (store : Store) (b c : Sitting) (s : ℕ) → Reads store b c s → history_of b.view.limits (words_in b.view) ≡ history_of c.view.limits (words_in c.view)
 same_history store b c s reads = sym (λ i. history_of (reads.limits i) (same_words store b c s reads i))
+
+-- the commits that have no writes are those of any history, but for their writes
+pub bare_history : (c : ℕ) (log : ℕ → ℕ) (begins : ℕ → ℕ → ℕ) (ws : ℕ → List Write) → history c log begins (λ _. []) ≡ map without_writes (history c log begins ws)
+unfolding history
+bare_history zero log begins ws = refl
+bare_history (suc t) log begins ws = ap (λ (cs : List Commit). cs ++ commit_at log begins (λ _. []) (suc t) ∷ []) (bare_history t log begins ws)
+    ∙ sym (map-append without_writes (history t log begins ws) (commit_at log begins ws (suc t) ∷ []))

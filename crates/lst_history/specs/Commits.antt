@@ -15,6 +15,9 @@ writes_until l w n x = writes_by (is_by w.log w.cells x) (λ t. w.keys (record_i
 abbrev pub history_until : Limits → Words → ℕ → List Commit
 history_until l w n = history w.clock w.log w.begins (writes_until l w n)
 
+abbrev pub without_writes : Commit → Commit
+without_writes c = record c { writes = [] }
+
 -- the write of a tail
 abbrev pub write_at : Limits → Words → ℕ → Write
 write_at l w t = write (w.keys (record_in l w.cells t)) (act_in l w.cells t)

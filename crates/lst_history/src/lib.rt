@@ -3,10 +3,12 @@
 #![tactic(auto)]
 
 mod acts;
+mod bare;
 mod commits;
 mod joins;
 mod reading;
 mod tails;
 mod words;
 
+pub use bare::history_without_writes;
 pub use reading::history;
