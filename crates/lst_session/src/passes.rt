@@ -1,5 +1,7 @@
 //! What a crew is parted into: its sessions and its merger.
 ghost use Rattle.std.specs.Prelude.{◌≡◌};
+ghost use Rattle.std.specs.Borrow.{sem};
+ghost use Rattle.lst_session.specs.Lending.{LendsSessions};
 
 use crate::session::Session;
 use lst_retire::Spares;
@@ -27,6 +29,14 @@ impl Sessions {
         ensures { result ≡ items.items }
     {
         Sessions { items }
+    }
+
+    /// The sessions, for writing. Afterwards they are as they were left.
+    pub fn as_mut_slice(&mut self) -> &mut [Session]
+        ensures* lends { sem 𝓛 (LendsSessions self.entry result) }
+        ensures sessions { result.now ≡ self.old }
+    {
+        self.items.as_mut_slice()
     }
 
     /// The vector of the sessions.
