@@ -13,6 +13,7 @@ pub mod Naming
 pub mod Folded
 pub mod Sheets
 pub mod Told
+pub mod Untold
 pub mod Loading
 pub mod Lining
 pub mod Sessioning

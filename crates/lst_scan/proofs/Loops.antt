@@ -169,7 +169,3 @@ collects_whole store v seat s n found end collects = let c = collects.scans in l
 -- and of a later look
 pub scan_later : (store : Store) (v : View) (a : Sitting) (s : ℕ) → Scans store v a s → table_seen (knows a.view s) ≡ table_seen (knows v s)
 scan_later store v a s scans = same_table (knows v s) (knows a.view s) (scans_keep store v a s scans).alike
-
--- nothing but looks
-pub adds_look : (store : Store) (v : View) (a b : Sitting) (s : ℕ) (weight : List Cell → ℕ) (low n sum : ℕ) → Adds store v a s weight low n sum → IsReader store b s → Watched a.view b.view s → Adds store v b s weight low n sum
-adds_look store v a b s weight low n sum adds reader watched = record { scans = scans_next store v a b s adds.scans reader watched; rises = adds.rises; is = adds.is }

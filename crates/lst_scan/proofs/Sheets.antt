@@ -53,9 +53,7 @@ use Rattle.lst_walk.proofs.Meanings.{head_found}
 use Rattle.lst_walk.proofs.Walking.{cell_start}
 use Rattle.lst_walk.proofs.Paging.{page_shows, page_absent}
 use Rattle.lst_scan.specs.Scans.{table_seen, IsRowOn, IsCellOn, Places, between}
-use Rattle.lst_scan.specs.Savings.{SavesPart}
 use Rattle.lst_scan.specs.Paged.{stamps_of, IsInHand, HasPage, HasValues, entries_add}
-use Rattle.lst_scan.proofs.Folded.{saves_join}
 use Rattle.lst_scan.proofs.Loops.{Scans, scans_start, scans_next}
 use Rattle.lst_scan.proofs.Parts.{both_hold, total, total_none, total_split}
 use Rattle.lst_scan.proofs.Seeing.{cell_on, same_table, places_stay, weight_of, total_on, number_weight, one_weight, no_weight}
@@ -370,10 +368,6 @@ row_of_entry false column value row is = sym (no_weight column row None is (λ s
 pub told_row : (column begin value stamp : ℕ) (row : Option (List Cell)) → time_of stamp ≤ begin → cond (is_present stamp) (Some value) None ≡ cell_in column row → lane_of begin 1 stamp ≡ weight_of (λ _. 1) row
 told_row column begin value stamp row early is = lane_told begin 1 stamp early ∙ row_of_entry (is_present stamp) column value row is
 
--- of one more record that isn't walked nothing is found
-pub saves_more : (v w : View) (s column low high : ℕ) → SavesPart v w s column low high → SavesPart v w s column low (high + 1)
-saves_more v w s column low high saves whole pinned needs = saves whole pinned (λ rec from to. needs rec from (omega arith))
-
 -- ---- the loop
 
 one_more_times : (n bound : ℕ) → (n + 1) * bound ≡ n * bound + bound
@@ -382,43 +376,34 @@ one_more_times n bound = omega arith
 sum_parts : (number before lane found more after : ℕ) → more ≡ number + found → after ≡ before + lane → (number + before) + (lane + found) ≡ more + after
 sum_parts number before lane found more after e f = omega arith
 
--- the session has only looked since the view was v, and has come to the record `slot` of those from `low` on: of each it counted at most the bound. No
--- word of a tail record was loaded where a read needs none
-pub record Walks (store : Store) (v : View) (seat : Sitting) (s column low bound slot number : ℕ) : Type 0 where
+-- the session has only looked since the view was v, and has come to the record `slot`: of each before it counted at most the bound
+pub record Walks (store : Store) (v : View) (seat : Sitting) (s bound slot number : ℕ) : Type 0 where
   pub scans : Scans store v seat s
   pub few : slot ≤ 256
   pub most : number ≤ slot * bound
-  pub saves : SavesPart v seat.view s column low (low + slot)
 
-pub walks_start : (store : Store) (h b : Sitting) (s column low bound : ℕ) → Possible h.view → IsReader store h s → Skims h.view b.view s → IsSeatOf store b → Walks store h.view b s column low bound 0 0
-walks_start store h b s column low bound p reader skims seat_of = record {
+pub walks_start : (store : Store) (h b : Sitting) (s bound : ℕ) → Possible h.view → IsReader store h s → Skims h.view b.view s → IsSeatOf store b → Walks store h.view b s bound 0 0
+walks_start store h b s bound p reader skims seat_of = record {
   scans = scans_next store h.view h b s (scans_start store h s p reader) (reader_on store h b s reader skims.watched seat_of) skims.watched;
   few = omega arith;
   most = omega arith;
-  saves = λ whole pinned needs. skims.finds;
 }
 
 -- the page told of a record
-pub walks_told : (store : Store) (v : View) (a b : Sitting) (s column low bound slot number more : ℕ) → b ≡ a → more ≡ number → slot < 256 → Walks store v a s column low bound slot number → Walks store v b s column low bound (slot + 1) more
-walks_told store v a b s column low bound slot number more same is short walks = subst (λ (x : Sitting). Walks store v x s column low bound (slot + 1) more) (sym same) record {
+pub walks_told : (store : Store) (v : View) (a b : Sitting) (s bound slot number more : ℕ) → b ≡ a → more ≡ number → slot < 256 → Walks store v a s bound slot number → Walks store v b s bound (slot + 1) more
+walks_told store v a b s bound slot number more same is short walks = subst (λ (x : Sitting). Walks store v x s bound (slot + 1) more) (sym same) record {
   scans = walks.scans;
   few = omega arith;
   most = (let m = walks.most in let d : (slot + 1) * bound ≡ slot * bound + bound = one_more_times slot bound in omega arith);
-  saves = λ whole pinned needs. walks.saves whole pinned (λ rec from to. needs rec from (omega arith));
 }
 
 -- a record was walked
-pub walks_walked : (store : Store) (v : View) (a b d : Sitting) (s column low bound slot number more found : ℕ) → b ≡ d → more ≡ number + found → found ≤ bound → slot < 256 → IsReader store d s → Watched a.view d.view s → SavesPart a.view d.view s column (low + slot) (low + slot + 1)
-    → Walks store v a s column low bound slot number → Walks store v b s column low bound (slot + 1) more
-walks_walked store v a b d s column low bound slot number more found same is few short reader watched saves walks = subst (λ (x : Sitting). Walks store v x s column low bound (slot + 1) more) (sym same) record {
+pub walks_walked : (store : Store) (v : View) (a b d : Sitting) (s bound slot number more found : ℕ) → b ≡ d → more ≡ number + found → found ≤ bound → slot < 256 → IsReader store d s → Watched a.view d.view s → Walks store v a s bound slot number → Walks store v b s bound (slot + 1) more
+walks_walked store v a b d s bound slot number more found same is few short reader watched walks = subst (λ (x : Sitting). Walks store v x s bound (slot + 1) more) (sym same) record {
   scans = scans_next store v a d s walks.scans reader watched;
   few = omega arith;
   most = (let m = walks.most in let d : (slot + 1) * bound ≡ slot * bound + bound = one_more_times slot bound in omega arith);
-  saves = subst (λ (n : ℕ). SavesPart v d.view s column low n) next (saves_join v a.view d.view s column low (low + slot) (low + slot + 1) walks.scans.watched (omega arith) (omega arith) walks.saves saves);
 }
-  where
-    next : low + slot + 1 ≡ low + (slot + 1)
-    next = omega arith
 
 -- one more record, of which the page and the walk come to its weight
 pub covers_put : (v : View) (s : ℕ) (weight : List Cell → ℕ) (low n number more begin : ℕ) (value : ℕ → ℕ) (times puts : List ℕ) (x found : ℕ) → n < length times → Possible v → hosts v s ≡ true → (row : Option (List Cell)) → IsRowOn (knows v s) (low + n) row

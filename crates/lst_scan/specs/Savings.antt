@@ -1,10 +1,10 @@
 -- When a scan loads no word of a tail record.
-use Rattle.std.specs.Prelude.{◌≡◌, ℕ, ◌<◌, ◌≤◌, true}
+use Rattle.std.specs.Prelude.{◌≡◌, ℕ, ◌<◌, ◌≤◌, List, true, slice_index}
+use Rattle.lst_layout.specs.declared.TheConstants.{RANGE_RECORDS}
+use Rattle.lst_pages.specs.Frames.{stamp_in}
 use Rattle.lst_page_state.specs.Sound.{tps_at}
 use Rattle.lst_rule.specs.declared.view.View.{View}
 use Rattle.lst_rule.specs.Rule.{knows}
-use Rattle.lst_walk.specs.declared.taken.TakenPage.{TakenPage}
-use Rattle.lst_walk.specs.Taken.{IsTaken}
 use Rattle.lst_crew_state.specs.Folding.{AreAllFolded, NeedsNoTail}
 use Rattle.lst_session.specs.Calls.{LoadsNoTail}
 use Rattle.lst_session.specs.Crews.{TellsState, words_of, state_told}
@@ -14,13 +14,18 @@ use Rattle.lst_session.specs.Crews.{TellsState, words_of, state_told}
 abbrev pub SavesPart : View → View → (s column low high : ℕ) → Type 0
 SavesPart v w s column low high = v.whole ≡ true → 0 < (knows v s).pages.session.pin → ((rec : ℕ) → low ≤ rec → rec < high → NeedsNoTail (words_of v) rec column (knows v s).begin) → (knows w s).finds ≡ (knows v s).finds
 
--- where the view knows each word, and the session is pinned, the page is that of the range and the column, as the words say
-abbrev pub TellsPage : View → (s range column : ℕ) → TakenPage → Type 0
-TellsPage v s range column page = v.whole ≡ true → 0 < (knows v s).pages.session.pin → (page.frame ≡ (words_of v).directory range column) × (page.tps ≡ tps_at (words_of v).directory (words_of v).frames range column)
+-- where the view knows each word, and the session is pinned, the page of the range and the column stands in this frame
+abbrev pub TellsFrame : View → (s range column frame : ℕ) → Type 0
+TellsFrame v s range column frame = v.whole ≡ true → 0 < (knows v s).pages.session.pin → frame ≡ (words_of v).directory range column
 
--- the session has the page of the range and the column in hand
-abbrev pub IsPageAt : View → (s range column : ℕ) → TakenPage → Type 0
-IsPageAt v s range column page = IsTaken v s range column page × TellsPage v s range column page
+-- where it does, these are that page's TPS and its time words
+abbrev pub TellsStamps : View → (s range column tps : ℕ) → List ℕ → Type 0
+TellsStamps v s range column tps stamps = v.whole ≡ true → 0 < (knows v s).pages.session.pin
+    → (tps ≡ tps_at (words_of v).directory (words_of v).frames range column) × ((slot : ℕ) → slot < RANGE_RECORDS → slice_index stamps slot ≡ stamp_in ((words_of v).frames ((words_of v).directory range column)) slot)
+
+-- where it does, no tail record is merged into that page
+abbrev pub TellsNone : View → (s range column : ℕ) → Type 0
+TellsNone v s range column = v.whole ≡ true → 0 < (knows v s).pages.session.pin → tps_at (words_of v).directory (words_of v).frames range column ≡ 0
 
 -- a sum of a column by a session of a crew that tells a state of the machine: where a transaction is open, and the pages of the column have folded
 -- each accepted write, ended by its begin, no word of a tail record was loaded

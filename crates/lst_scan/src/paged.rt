@@ -1,7 +1,7 @@
 //! Sums and counts over the records of a range by the page of a column: of its words those are loaded that its form takes, and its time words by
 //! one call, and the indirection words of the range by another. The page tells of each record whose newest version is at most its TPS, where the
-//! entry's time is at most the begin. The other records are walked.
-ghost use Rattle.std.specs.Prelude.{◌≡◌, ℕ, ◌+◌, ◌*◌, ◌/◌, ◌^◌, ◌<◌, ◌≤◌, List, IfSome, length, slice_index, nat_le, ◌&&◌, true};
+//! entry's time is at most the begin. The other records are walked along their chains, without another look at the page.
+ghost use Rattle.std.specs.Prelude.{◌≡◌, ℕ, ◌+◌, ◌*◌, ◌/◌, ◌^◌, ◌<◌, ◌≤◌, List, IfSome, None, length, slice_index, nat_le, ◌&&◌, true};
 ghost use Rattle.lst_model.specs.Tables.{sum_of, count_of};
 ghost use Rattle.lst_bits.specs.Times.{time_of};
 ghost use Rattle.lst_layout.specs.Areas.{frame_count};
@@ -11,15 +11,18 @@ ghost use Rattle.lst_rule.specs.Rule.{knows};
 ghost use Rattle.lst_sights.specs.Watching.{Watched};
 ghost use Rattle.lst_walk.specs.Readers.{IsReader};
 ghost use Rattle.lst_walk.specs.Packed.{Skims, packed_words};
-ghost use Rattle.lst_scan.specs.Savings.{SavesPart};
+ghost use Rattle.lst_scan.specs.Savings.{SavesPart, TellsFrame, TellsNone, TellsStamps};
 ghost use Rattle.lst_scan.specs.Scans.{table_seen, Places, between};
 ghost use Rattle.lst_scan.specs.Paged.{IsInHand, HasPage, HasValues, entries_add};
 
-use crate::records::cell;
+use crate::records::cell_by_chain;
 use lst_kernel::{count_where, sum_where};
 use lst_layout::FRAME_VALUES;
 use lst_pack::unpack;
 use lst_rule::{RecordId, Seat, Store, load_frame, load_heads, load_times, step_look_page};
+
+/// The greatest number that half a word can be.
+const LAST: u64 = u64::MAX / 2;
 
 /// What a sum loads of a range, and makes of that. One serves range after range, since an array is cleared where it is made.
 #[derive(Drop)]
@@ -55,6 +58,8 @@ pub(crate) fn frame_of(store: &Store, seat: &mut Seat, s: u32, range: u32, c: u3
     ensures reader { IsReader store.now seat.new s }
     ensures skims { Skims seat.old.view seat.new.view s }
     ensures frame { IfSome result (λ frame. IsInHand seat.new.view s range c frame) }
+    ensures told { IfSome result (λ frame. TellsFrame seat.new.view s range c frame) }
+    ensures none { result ≡ None → TellsNone seat.new.view s range c }
 {
     if seat.pinned(s).is_none() {
         return None;
@@ -108,8 +113,10 @@ fn open_page(
 ) -> u64
     requires reader { IsReader store.now seat.old s }
     requires frame { IsInHand seat.old.view s range c frame }
+    requires told { TellsFrame seat.old.view s range c frame }
     ensures reader { IsReader store.now seat.new s }
     ensures skims { Skims seat.old.view seat.new.view s }
+    ensures told { TellsStamps seat.new.view s range c result sheet.new.times }
     ensures page { (page : HasPage seat.new.view s range c result sheet.new.times) × HasValues page sheet.new.values }
 {
     seat.consider();
@@ -127,22 +134,18 @@ fn is_told(head: u64, stamp: u64, tps: u64, begin: u64) -> bool
     head / 2 <= tps && stamp / 2 <= begin
 }
 
-/// The greatest of 256 words.
-fn greatest(words: &[u64; 256]) -> u64
-    ensures { (i : ℕ) → i < 256 → slice_index words.now i ≤ result }
-{
-    let mut most = 0;
-    for word in words {
-        most = most.max(*word);
-    }
-    most
-}
-
-/// Whether a page with this TPS tells of all records of a range, by the indirection words and the page's time words.
+/// Whether a page with this TPS tells of all records of a range, by the indirection words and the page's time words. Half of each word gets the
+/// room that its greatest number has below 2^63 added: one that is above comes to 2^63 or more. So all are looked at without a branch.
 fn are_told(heads: &[u64; 256], times: &[u64; 256], tps: u64, begin: u64) -> bool
     ensures { result ≡ true → (i : ℕ) → i < 256 → (slice_index heads.now i / 2 ≤ tps) × (time_of (slice_index times.now i) ≤ begin) }
 {
-    greatest(heads) / 2 <= tps && greatest(times) / 2 <= begin
+    let head_room = LAST - tps.min(LAST);
+    let time_room = LAST - begin.min(LAST);
+    let mut late = 0;
+    for slot in 0..256 {
+        late |= (heads[slot] / 2 + head_room) | (times[slot] / 2 + time_room);
+    }
+    late <= LAST
 }
 
 /// The numbers of a column, 0 for null, added over the rows of one range, by the page in this frame, which is in hand.
@@ -159,6 +162,7 @@ pub(crate) fn sum_by_page(
     requires range { range < store.now.layout.limits.ranges }
     requires column { c < store.now.layout.limits.columns }
     requires frame { IsInHand seat.old.view s range c frame }
+    requires told { TellsFrame seat.old.view s range c frame }
     ensures reader { IsReader store.now seat.new s }
     ensures watched { Watched seat.old.view seat.new.view s }
     ensures sum { (place : ℕ → ℕ) → Places (knows seat.old.view s) place → result ≡ sum_of (between place (256 * range) (256 * (range + 1)) (table_seen (knows seat.old.view s))) c }
@@ -205,6 +209,7 @@ fn sum_untold(
     requires range { range < store.now.layout.limits.ranges }
     requires column { c < store.now.layout.limits.columns }
     requires page { HasPage seat.old.view s range c tps times.old }
+    requires told { TellsStamps seat.old.view s range c tps times.old }
     ensures reader { IsReader store.now seat.new s }
     ensures watched { Watched seat.old.view seat.new.view s }
     ensures sum { (page : HasPage seat.old.view s range c tps times.old) (values : List ℕ) → HasValues page values → (place : ℕ → ℕ) → Places (knows seat.old.view s) place → result + entries_add (knows seat.old.view s).begin (slice_index values) times.new 256 ≡ sum_of (between place (256 * range) (256 * range + 256) (table_seen (knows seat.old.view s))) c }
@@ -223,7 +228,7 @@ fn sum_untold(
         if !is_told(heads[slot as usize], times[slot as usize], tps, begin) {
             times[slot as usize] = 0;
             let number = 256 * range + slot;
-            let found = cell(store, seat, s, RecordId { number }, c);
+            let found = cell_by_chain(store, seat, s, RecordId { number }, c);
             total += u128::from(found.unwrap_or(0));
         }
     }
@@ -287,7 +292,7 @@ fn count_untold(
         if !is_told(heads[slot as usize], times[slot as usize], tps, begin) {
             times[slot as usize] = 0;
             let number = 256 * range + slot;
-            if cell(store, seat, s, RecordId { number }, 0).is_some() {
+            if cell_by_chain(store, seat, s, RecordId { number }, 0).is_some() {
                 rows += 1;
             }
         }

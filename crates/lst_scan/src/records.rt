@@ -1,5 +1,5 @@
 //! What the open transaction sees of one record.
-ghost use Rattle.std.specs.Prelude.{◌≡◌, ℕ, ◌+◌, ◌/◌, ◌<◌, [], Option, is_some};
+ghost use Rattle.std.specs.Prelude.{◌≡◌, ℕ, ◌+◌, ◌/◌, ◌<◌, []};
 ghost use Rattle.lst_model.specs.Cells.{holds_at};
 ghost use Rattle.lst_core_state.specs.Cells.{record_count};
 ghost use Rattle.lst_rule.specs.Rule.{knows};
@@ -7,118 +7,32 @@ ghost use Rattle.lst_sights.specs.Seen.{HasKey};
 ghost use Rattle.lst_sights.specs.Watching.{Watched};
 ghost use Rattle.lst_walk.specs.Readers.{IsReader};
 ghost use Rattle.lst_walk.specs.Whole.{row_where};
-ghost use Rattle.lst_scan.specs.Savings.{SavesPart, IsPageAt};
+ghost use Rattle.lst_scan.specs.Savings.{SavesPart, TellsNone};
 ghost use Rattle.lst_scan.specs.Scans.{IsCellOn, IsRowOn, IsEntryOn, entry_where, IsEntryWith};
 
 use arrayvec::ArrayVec;
 use lst_model::{Key, Row};
 use lst_rule::{RecordId, Seat, Store, load_key};
-use lst_walk::{TakenPage, column, column_by, is_there_by, page_of, put_row};
+use lst_walk::{column_by_chain, put_row};
 
-/// The number in a column, 0 for null, of the row on a record. None comes exactly where the transaction sees no row of a key that is on it.
-pub(crate) fn cell(store: &Store, seat: &mut Seat, s: u32, rec: RecordId, c: u32) -> Option<u64>
-    requires reader { IsReader store.now seat.old s }
-    requires rec { rec.number < record_count store.now.layout.limits }
-    requires column { c < store.now.layout.limits.columns }
-    ensures reader { IsReader store.now seat.new s }
-    ensures watched { Watched seat.old.view seat.new.view s }
-    ensures cell { IsCellOn (knows seat.old.view s) rec.number c result }
-    ensures saves { SavesPart seat.old.view seat.new.view s c rec.number (rec.number + 1) }
-{
-    column(store, seat, s, rec, c)
-}
-
-/// Takes the page of a range and a column in hand, for the records of the range.
-pub(crate) fn page_at(store: &Store, seat: &mut Seat, s: u32, range: u32, c: u32) -> TakenPage
-    requires reader { IsReader store.now seat.old s }
-    requires range { range < store.now.layout.limits.ranges }
-    requires column { c < store.now.layout.limits.columns }
-    ensures reader { IsReader store.now seat.new s }
-    ensures watched { Watched seat.old.view seat.new.view s }
-    ensures quiet { (knows seat.new.view s).finds ≡ (knows seat.old.view s).finds }
-    ensures page { IsPageAt seat.new.view s range c result }
-{
-    page_of(store, seat, s, range, c)
-}
-
-/// Reads a cell that the page in hand doesn't tell. Then the page is taken in hand anew, if it tells of records at all.
-fn cell_past(
+/// The number in a column, 0 for null, of the row on a record, along the record's chain alone. None comes exactly where the transaction sees no row
+/// of a key that is on it. This serves a record that the column's page doesn't tell.
+pub(crate) fn cell_by_chain(
     store: &Store,
     seat: &mut Seat,
     s: u32,
     rec: RecordId,
     c: u32,
-    page: &mut TakenPage,
 ) -> Option<u64>
     requires reader { IsReader store.now seat.old s }
     requires rec { rec.number < record_count store.now.layout.limits }
     requires column { c < store.now.layout.limits.columns }
-    requires page { IsPageAt seat.old.view s (rec.number / 256) c page.old }
     ensures reader { IsReader store.now seat.new s }
     ensures watched { Watched seat.old.view seat.new.view s }
-    ensures page { IsPageAt seat.new.view s (rec.number / 256) c page.new }
     ensures cell { IsCellOn (knows seat.old.view s) rec.number c result }
+    ensures saves { TellsNone seat.old.view s (rec.number / 256) c → SavesPart seat.old.view seat.new.view s c rec.number (rec.number + 1) }
 {
-    let found = cell(store, seat, s, rec, c);
-    if !page.is_blank() {
-        *page = page_at(store, seat, s, rec.number / 256, c);
-    }
-    found
-}
-
-/// What `cell` answers, by the page of the record's range and the column that is in hand.
-pub(crate) fn cell_by(
-    store: &Store,
-    seat: &mut Seat,
-    s: u32,
-    rec: RecordId,
-    c: u32,
-    page: &mut TakenPage,
-) -> Option<u64>
-    requires reader { IsReader store.now seat.old s }
-    requires rec { rec.number < record_count store.now.layout.limits }
-    requires column { c < store.now.layout.limits.columns }
-    requires page { IsPageAt seat.old.view s (rec.number / 256) c page.old }
-    ensures reader { IsReader store.now seat.new s }
-    ensures watched { Watched seat.old.view seat.new.view s }
-    ensures page { IsPageAt seat.new.view s (rec.number / 256) c page.new }
-    ensures cell { IsCellOn (knows seat.old.view s) rec.number c result }
-    ensures saves { SavesPart seat.old.view seat.new.view s c rec.number (rec.number + 1) }
-{
-    seat.consider();
-    match column_by(store, seat, s, rec, c, *page) {
-        Some(found) => found,
-        None => {
-            seat.consider();
-            cell_past(store, seat, s, rec, c, page)
-        }
-    }
-}
-
-/// Whether the transaction sees a row of a key on a record, by the page of the record's range and the first column that is in hand.
-pub(crate) fn is_row_by(
-    store: &Store,
-    seat: &mut Seat,
-    s: u32,
-    rec: RecordId,
-    page: &mut TakenPage,
-) -> bool
-    requires reader { IsReader store.now seat.old s }
-    requires rec { rec.number < record_count store.now.layout.limits }
-    requires page { IsPageAt seat.old.view s (rec.number / 256) 0 page.old }
-    ensures reader { IsReader store.now seat.new s }
-    ensures watched { Watched seat.old.view seat.new.view s }
-    ensures page { IsPageAt seat.new.view s (rec.number / 256) 0 page.new }
-    ensures row { (cell : Option ℕ) × IsCellOn (knows seat.old.view s) rec.number 0 cell × (is_some cell ≡ result) }
-{
-    seat.consider();
-    match is_there_by(store, seat, s, rec, 0, *page) {
-        Some(is_there) => is_there,
-        None => {
-            seat.consider();
-            cell_past(store, seat, s, rec, 0, page).is_some()
-        }
-    }
+    column_by_chain(store, seat, s, rec, c)
 }
 
 /// The row on a record, put into a row that has no cells. Whether there is a row is answered.

@@ -5,11 +5,11 @@ ghost use Rattle.lst_rule.specs.Rule.{knows};
 ghost use Rattle.lst_sights.specs.Watching.{Watched};
 ghost use Rattle.lst_walk.specs.Readers.{IsReader};
 ghost use Rattle.lst_core_state.specs.Cells.{record_count};
-ghost use Rattle.lst_scan.specs.Savings.{SavesPart};
+ghost use Rattle.lst_scan.specs.Savings.{SavesPart, TellsNone};
 ghost use Rattle.lst_scan.specs.Scans.{table_seen, Places, between};
 
 use crate::paged::{Sheet, count_by_page, frame_of, sum_by_page};
-use crate::records::{cell_by, is_row_by, page_at};
+use crate::records::cell_by_chain;
 use lst_rule::{RecordId, Seat, Store};
 
 /// The numbers of a column, 0 for null, added over all rows that the open transaction sees. A sum has 128 bits, and never wraps: there are
@@ -65,11 +65,12 @@ fn sum_range(store: &Store, seat: &mut Seat, s: u32, c: u32, range: u32, sheet: 
     }
 }
 
-/// The same, record by record.
+/// The same, record by record, where the page tells of none.
 fn sum_by_records(store: &Store, seat: &mut Seat, s: u32, c: u32, range: u32) -> u128
     requires reader { IsReader store.now seat.old s }
     requires column { c < store.now.layout.limits.columns }
     requires range { range < store.now.layout.limits.ranges }
+    requires none { TellsNone seat.old.view s range c }
     ensures reader { IsReader store.now seat.new s }
     ensures watched { Watched seat.old.view seat.new.view s }
     ensures sum { (place : ℕ → ℕ) → Places (knows seat.old.view s) place → result ≡ sum_of (between place (256 * range) (256 * (range + 1)) (table_seen (knows seat.old.view s))) c }
@@ -77,11 +78,10 @@ fn sum_by_records(store: &Store, seat: &mut Seat, s: u32, c: u32, range: u32) ->
     ensures few { result ≤ 2 ^ 72 }
 {
     seat.consider();
-    let mut page = page_at(store, seat, s, range, c);
     let mut total: u128 = 0;
     for number in 256 * range..256 * (range + 1) {
         seat.consider();
-        let found = cell_by(store, seat, s, RecordId { number }, c, &mut page);
+        let found = cell_by_chain(store, seat, s, RecordId { number }, c);
         total += u128::from(found.unwrap_or(0));
     }
     total
@@ -137,11 +137,10 @@ fn count_by_records(store: &Store, seat: &mut Seat, s: u32, range: u32) -> u64
     ensures few { result ≤ 256 }
 {
     seat.consider();
-    let mut page = page_at(store, seat, s, range, 0);
     let mut rows: u64 = 0;
     for number in 256 * range..256 * (range + 1) {
         seat.consider();
-        if is_row_by(store, seat, s, RecordId { number }, &mut page) {
+        if cell_by_chain(store, seat, s, RecordId { number }, 0).is_some() {
             rows += 1;
         }
     }

@@ -32,13 +32,13 @@ returns-then-are_told-clause-count c = let r = c.requires.reader in
 pub loop-slot-init : goal.loop-slot-init
 loop-slot-init c = let r = c.requires.reader in
     let skims : Skims c.args.seat.now.view c.load_heads.new.seat.view c.args.s = heads_skim c.args.seat.now.view c.load_heads.new.seat.view c.args.s c.args.range (slice_index c.load_heads.new.out) r.host (subst (λ l. c.args.range < l.ranges) (sym r.seat_of.limits) c.requires.range) c.load_heads.ensures.loads c.load_heads.ensures.found in (
-      walks_start c.args.store.now c.args.seat.now c.load_heads.new.seat c.args.s 0 (256 * c.args.range) 1 c.consider.ensures r skims c.load_heads.ensures.seat,
+      walks_start c.args.store.now c.args.seat.now c.load_heads.new.seat c.args.s 1 c.consider.ensures r skims c.load_heads.ensures.seat,
       covers_start c.args.seat.now.view c.args.s (λ _. 1) (256 * c.args.range) (knows c.args.seat.now.view c.args.s).begin (λ (slot : ℕ). 1) c.args.times.now,
       stands_first c.args.times.now,
     )
 
-pub cell-requires-clause-column : goal.cell-requires-clause-column
-cell-requires-clause-column c = c.args.store.now.layout.valid.columns.0
+pub cell_by_chain-requires-clause-column : goal.cell_by_chain-requires-clause-column
+cell_by_chain-requires-clause-column c = c.args.store.now.layout.valid.columns.0
 
 pub loop-slot-preserved : goal.loop-slot-preserved
 loop-slot-preserved c = let r = c.requires.reader in let walks = c.loop-slot.invariant.0 in let stands = c.loop-slot.invariant.2 in let few : c.loop-slot.slot < 256 = c.loop-slot-test.true in
@@ -47,18 +47,18 @@ loop-slot-preserved c = let r = c.requires.reader in let walks = c.loop-slot.inv
     let here : slice_index c.loop-slot.times c.loop-slot.slot ≡ slice_index c.args.times.now c.loop-slot.slot = stands c.loop-slot.slot (omega arith) in
     elim c.if-not-is_told.branch [
       | then-not-is_told+then-is_some w ↦
-          let on = cells_stay c.args.seat.now.view c.loop-slot.seat.view c.args.s (256 * c.args.range + c.loop-slot.slot) 0 w.cell.result c.consider.ensures c.consider-in-loop-slot.ensures r.host r.opened walks.scans.watched w.cell.ensures.cell in
-          let weight = one_weight 0 on.0 w.cell.result on.2 (sym w.is_some.ensures ∙ w.if-is_some.true) in (
-            walks_walked c.args.store.now c.args.seat.now.view c.loop-slot.seat c.if-not-is_told.seat w.cell.new.seat c.args.s 0 (256 * c.args.range) 1 c.loop-slot.slot c.loop-slot.rows c.if-not-is_told.rows 1 w.seat-is (let e = w.rows-is in omega arith) (omega arith) few w.cell.ensures.reader w.cell.ensures.watched w.cell.ensures.saves walks,
+          let on = cells_stay c.args.seat.now.view c.loop-slot.seat.view c.args.s (256 * c.args.range + c.loop-slot.slot) 0 w.cell_by_chain.result c.consider.ensures c.consider-in-loop-slot.ensures r.host r.opened walks.scans.watched w.cell_by_chain.ensures.cell in
+          let weight = one_weight 0 on.0 w.cell_by_chain.result on.2 (sym w.is_some.ensures ∙ w.if-is_some.true) in (
+            walks_walked c.args.store.now c.args.seat.now.view c.loop-slot.seat c.if-not-is_told.seat w.cell_by_chain.new.seat c.args.s 1 c.loop-slot.slot c.loop-slot.rows c.if-not-is_told.rows 1 w.seat-is (let e = w.rows-is in omega arith) (omega arith) few w.cell_by_chain.ensures.reader w.cell_by_chain.ensures.watched walks,
             covers_put c.args.seat.now.view c.args.s (λ _. 1) (256 * c.args.range) c.loop-slot.slot c.loop-slot.rows c.if-not-is_told.rows (knows c.args.seat.now.view c.args.s).begin (λ (slot : ℕ). 1) c.loop-slot.times c.if-not-is_told.times
                 0 1 (put_short c.loop-slot.times c.if-not-is_told.times c.loop-slot.slot 0 few c.if-not-is_told.array_long w.times-is) c.consider.ensures r.host on.0 on.1
                 (omega arith) (let e = w.rows-is in omega arith) w.times-is c.loop-slot.invariant.1,
             stands_put c.loop-slot.slot 0 c.args.times.now c.loop-slot.times c.if-not-is_told.times w.times-is stands,
           )
       | then-not-is_told+else-is_some w ↦
-          let on = cells_stay c.args.seat.now.view c.loop-slot.seat.view c.args.s (256 * c.args.range + c.loop-slot.slot) 0 w.cell.result c.consider.ensures c.consider-in-loop-slot.ensures r.host r.opened walks.scans.watched w.cell.ensures.cell in
-          let weight = no_weight 0 on.0 w.cell.result on.2 (λ there. true≢false (sym there ∙ (sym w.is_some.ensures ∙ w.if-is_some.false))) in (
-            walks_walked c.args.store.now c.args.seat.now.view c.loop-slot.seat c.if-not-is_told.seat w.cell.new.seat c.args.s 0 (256 * c.args.range) 1 c.loop-slot.slot c.loop-slot.rows c.if-not-is_told.rows 0 w.seat-is (let e = w.rows-is in omega arith) (omega arith) few w.cell.ensures.reader w.cell.ensures.watched w.cell.ensures.saves walks,
+          let on = cells_stay c.args.seat.now.view c.loop-slot.seat.view c.args.s (256 * c.args.range + c.loop-slot.slot) 0 w.cell_by_chain.result c.consider.ensures c.consider-in-loop-slot.ensures r.host r.opened walks.scans.watched w.cell_by_chain.ensures.cell in
+          let weight = no_weight 0 on.0 w.cell_by_chain.result on.2 (λ there. true≢false (sym there ∙ (sym w.is_some.ensures ∙ w.if-is_some.false))) in (
+            walks_walked c.args.store.now c.args.seat.now.view c.loop-slot.seat c.if-not-is_told.seat w.cell_by_chain.new.seat c.args.s 1 c.loop-slot.slot c.loop-slot.rows c.if-not-is_told.rows 0 w.seat-is (let e = w.rows-is in omega arith) (omega arith) few w.cell_by_chain.ensures.reader w.cell_by_chain.ensures.watched walks,
             covers_put c.args.seat.now.view c.args.s (λ _. 1) (256 * c.args.range) c.loop-slot.slot c.loop-slot.rows c.if-not-is_told.rows (knows c.args.seat.now.view c.args.s).begin (λ (slot : ℕ). 1) c.loop-slot.times c.if-not-is_told.times
                 0 0 (put_short c.loop-slot.times c.if-not-is_told.times c.loop-slot.slot 0 few c.if-not-is_told.array_long w.times-is) c.consider.ensures r.host on.0 on.1
                 (omega arith) (let e = w.rows-is in omega arith) w.times-is c.loop-slot.invariant.1,
@@ -68,7 +68,7 @@ loop-slot-preserved c = let r = c.requires.reader in let walks = c.loop-slot.inv
           let both = told_both (slice_index c.load_heads.new.out c.loop-slot.slot) (slice_index c.loop-slot.times c.loop-slot.slot) c.args.tps c.begin-begin.result c.is_told.result c.is_told.ensures w.if-not-is_told.false in
           let early : time_of (slice_index c.args.times.now c.loop-slot.slot) ≤ (knows c.args.seat.now.view c.args.s).begin = subst (λ (n : ℕ). time_of (slice_index c.args.times.now c.loop-slot.slot) ≤ n) begin_is (subst (λ (n : ℕ). time_of n ≤ c.begin-begin.result) here both.1) in
           let told = one_told c.args.store.now c.args.seat.now c.args.s c.args.range 0 c.args.tps c.args.times.now c.consider.ensures r c.requires.range c.args.store.now.layout.valid.columns.0 c.requires.page (slice_index c.load_heads.new.out) c.load_heads.new.seat.view c.load_heads.ensures.loads c.loop-slot.slot few both.0 early in (
-            walks_told c.args.store.now c.args.seat.now.view c.loop-slot.seat c.if-not-is_told.seat c.args.s 0 (256 * c.args.range) 1 c.loop-slot.slot c.loop-slot.rows c.if-not-is_told.rows w.seat-is w.rows-is few walks,
+            walks_told c.args.store.now c.args.seat.now.view c.loop-slot.seat c.if-not-is_told.seat c.args.s 1 c.loop-slot.slot c.loop-slot.rows c.if-not-is_told.rows w.seat-is w.rows-is few walks,
             covers_same c.args.seat.now.view c.args.s (λ _. 1) (256 * c.args.range) (c.loop-slot.slot + 1) c.loop-slot.rows c.if-not-is_told.rows (knows c.args.seat.now.view c.args.s).begin (λ (slot : ℕ). 1) c.loop-slot.times c.if-not-is_told.times w.rows-is w.times-is
                 (covers_told c.args.seat.now.view c.args.s (λ _. 1) (256 * c.args.range) c.loop-slot.slot c.loop-slot.rows (knows c.args.seat.now.view c.args.s).begin (λ (slot : ℕ). 1) c.loop-slot.times c.consider.ensures r.host told.0 told.1
                 (ap (λ (n : ℕ). lane_of (knows c.args.seat.now.view c.args.s).begin 1 n) here ∙ told.2) c.loop-slot.invariant.1),

@@ -6,6 +6,7 @@ use Rattle.lst_pack.specs.Forms.{Packs}
 use Rattle.lst_page_state.specs.State.{hand_of}
 use Rattle.lst_walk.specs.Packed.{skims_on, packed_of}
 use Rattle.lst_scan.proofs.Sheets.{hand_low, hand_packed, hand_kept, stamps_loaded, stamps_values, stamps_skim}
+use Rattle.lst_scan.proofs.Untold.{frame_still, stamps_told}
 use Rattle.lst_scan.proofs.paged.open_page.Goals as goal
 
 pub load_packed-requires-clause-frame : goal.load_packed-requires-clause-frame
@@ -43,3 +44,11 @@ returns-clause-page c = let b = c.load_packed.ensures.reader in let low_a = subs
       (hand_kept c.args.seat.now.view c.load_packed.new.seat.view c.args.s c.args.range c.args.c c.args.frame c.load_packed.ensures.same c.requires.frame) c.load_frame-tps.ensures.loaded c.load_times.array_long.2 c.load_times.ensures.found
       c.unpack.new.out (λ others packs. c.unpack.ensures others (c.load_packed.ensures.packed others (subst (λ ws. Packs ws others) (ap (λ (k : Known). packed_of (hand_of k.pages.session c.args.frame)) c.load_packed.ensures.same) packs))),
 )
+
+pub returns-clause-told : goal.returns-clause-told
+returns-clause-told c = let r = c.requires.reader in let b = c.load_packed.ensures.reader in
+    let skims = stamps_skim c.load_packed.new.seat.view c.load_frame-tps.new.seat.view c.load_times.new.seat.view c.args.s c.args.frame c.load_frame-tps.result (slice_index c.load_times.new.out) b.host
+    (subst (λ (l : Limits). c.args.frame < frame_count l) (sym c.load_packed.ensures.skims.watched.learns.limits) (hand_low c.args.seat.now.view c.args.s c.args.range c.args.c c.args.frame c.consider.ensures r.host r.own c.requires.frame))
+    c.load_frame-tps.ensures.loaded c.load_times.ensures.loads c.load_times.ensures.found in
+    stamps_told c.load_packed.new.seat.view c.load_frame-tps.new.seat.view c.load_times.new.seat.view c.args.s c.args.range c.args.c c.args.frame c.load_frame-tps.result c.load_times.new.out skims.watched
+    (frame_still c.args.seat.now.view c.load_packed.new.seat.view c.args.s c.args.range c.args.c c.args.frame c.load_packed.ensures.skims.watched c.requires.told) c.load_frame-tps.ensures.loaded c.load_times.ensures.loads

@@ -14,6 +14,12 @@ use Rattle.lst_scan.proofs.paged.sum_by_page.Goals as goal
 pub sum_untold-walked-requires-clause-page : goal.sum_untold-walked-requires-clause-page
 sum_untold-walked-requires-clause-page c = c.open_page-tps.ensures.page.0
 
+pub open_page-tps-requires-clause-told : goal.open_page-tps-requires-clause-told
+open_page-tps-requires-clause-told c = c.requires.told
+
+pub sum_untold-walked-requires-clause-told : goal.sum_untold-walked-requires-clause-told
+sum_untold-walked-requires-clause-told c = c.open_page-tps.ensures.told
+
 pub returns-clause-watched : goal.returns-clause-watched
 returns-clause-watched c = watches_join c.args.seat.now.view c.open_page-tps.new.seat.view c.sum_untold-walked.new.seat.view c.args.s c.open_page-tps.ensures.skims.watched c.sum_untold-walked.ensures.watched
 

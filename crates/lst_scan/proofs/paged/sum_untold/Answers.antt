@@ -5,6 +5,7 @@ use Rattle.lst_core_state.specs.declared.known.Known.{Known}
 use Rattle.lst_model.specs.Cells.{number_at}
 use Rattle.lst_model.specs.Tables.{sum_of}
 use Rattle.lst_rule.specs.Rule.{knows}
+use Rattle.lst_rule.specs.Seats.{Sitting}
 use Rattle.lst_walk.specs.Packed.{Skims}
 use Rattle.lst_scan.specs.Savings.{SavesPart}
 use Rattle.lst_scan.specs.Scans.{table_seen, between}
@@ -13,6 +14,7 @@ use Rattle.lst_scan.proofs.Dividing.{cells_stay}
 use Rattle.lst_scan.proofs.Seeing.{number_weight}
 use Rattle.lst_scan.proofs.Sheets.{heads_skim, told_both, put_short, walks_start, walks_told, walks_walked, covers_start, covers_put}
 use Rattle.lst_scan.proofs.Told.{number_told, numbers_told, covers_told, covers_same, stands_first, stands_told, stands_put}
+use Rattle.lst_scan.proofs.Untold.{saves_told, saves_untold, not_told}
 use Rattle.lst_scan.proofs.paged.sum_untold.Goals.{then-not-is_told, else-not-is_told}
 use Rattle.lst_scan.proofs.paged.sum_untold.Goals as goal
 
@@ -32,9 +34,10 @@ returns-then-are_told-clause-sum c = let r = c.requires.reader in
 pub loop-slot-init : goal.loop-slot-init
 loop-slot-init c = let r = c.requires.reader in
     let skims : Skims c.args.seat.now.view c.load_heads.new.seat.view c.args.s = heads_skim c.args.seat.now.view c.load_heads.new.seat.view c.args.s c.args.range (slice_index c.load_heads.new.out) r.host (subst (λ l. c.args.range < l.ranges) (sym r.seat_of.limits) c.requires.range) c.load_heads.ensures.loads c.load_heads.ensures.found in (
-      walks_start c.args.store.now c.args.seat.now c.load_heads.new.seat c.args.s c.args.c (256 * c.args.range) (2 ^ 64) c.consider.ensures r skims c.load_heads.ensures.seat,
+      walks_start c.args.store.now c.args.seat.now c.load_heads.new.seat c.args.s (2 ^ 64) c.consider.ensures r skims c.load_heads.ensures.seat,
       λ page values has. covers_start c.args.seat.now.view c.args.s (number_at c.args.c) (256 * c.args.range) (knows c.args.seat.now.view c.args.s).begin (slice_index values) c.args.times.now,
       stands_first c.args.times.now,
+      λ whole pinned needs. skims.finds,
     )
 
 pub loop-slot-preserved : goal.loop-slot-preserved
@@ -44,25 +47,29 @@ loop-slot-preserved c = let r = c.requires.reader in let walks = c.loop-slot.inv
     let here : slice_index c.loop-slot.times c.loop-slot.slot ≡ slice_index c.args.times.now c.loop-slot.slot = stands c.loop-slot.slot (omega arith) in
     elim c.if-not-is_told.branch [
       | then-not-is_told w ↦ (
-        walks_walked c.args.store.now c.args.seat.now.view c.loop-slot.seat c.if-not-is_told.seat w.cell-found.new.seat c.args.s c.args.c (256 * c.args.range) (2 ^ 64) c.loop-slot.slot c.loop-slot.total c.if-not-is_told.total w.from-total.result w.seat-is w.total-is
-            (let fits = w.unwrap_or.type_inv in let same = w.from-total.ensures in omega arith) few w.cell-found.ensures.reader w.cell-found.ensures.watched w.cell-found.ensures.saves walks,
-        λ page values has. let on = cells_stay c.args.seat.now.view c.loop-slot.seat.view c.args.s (256 * c.args.range + c.loop-slot.slot) c.args.c w.cell-found.result c.consider.ensures c.consider-in-loop-slot.ensures r.host r.opened walks.scans.watched w.cell-found.ensures.cell in
+        walks_walked c.args.store.now c.args.seat.now.view c.loop-slot.seat c.if-not-is_told.seat w.cell_by_chain-found.new.seat c.args.s (2 ^ 64) c.loop-slot.slot c.loop-slot.total c.if-not-is_told.total w.from-total.result w.seat-is w.total-is
+            (let fits = w.unwrap_or.type_inv in let same = w.from-total.ensures in omega arith) few w.cell_by_chain-found.ensures.reader w.cell_by_chain-found.ensures.watched walks,
+        λ page values has. let on = cells_stay c.args.seat.now.view c.loop-slot.seat.view c.args.s (256 * c.args.range + c.loop-slot.slot) c.args.c w.cell_by_chain-found.result c.consider.ensures c.consider-in-loop-slot.ensures r.host r.opened walks.scans.watched w.cell_by_chain-found.ensures.cell in
             covers_put c.args.seat.now.view c.args.s (number_at c.args.c) (256 * c.args.range) c.loop-slot.slot c.loop-slot.total c.if-not-is_told.total (knows c.args.seat.now.view c.args.s).begin (slice_index values) c.loop-slot.times c.if-not-is_told.times
             0 w.from-total.result (put_short c.loop-slot.times c.if-not-is_told.times c.loop-slot.slot 0 few c.if-not-is_told.array_long w.times-is) c.consider.ensures r.host on.0 on.1
-            (let e = w.from-total.ensures ∙ (w.unwrap_or.ensures ∙ number_weight c.args.c on.0 w.cell-found.result on.2) in omega arith)
+            (let e = w.from-total.ensures ∙ (w.unwrap_or.ensures ∙ number_weight c.args.c on.0 w.cell_by_chain-found.result on.2) in omega arith)
             w.total-is w.times-is (c.loop-slot.invariant.1 page values has),
         stands_put c.loop-slot.slot 0 c.args.times.now c.loop-slot.times c.if-not-is_told.times w.times-is stands,
+        saves_untold c.args.seat.now.view c.load_heads.new.seat.view c.if-not-is_told.seat.view c.args.s c.args.range c.args.c c.args.tps c.loop-slot.slot c.args.times.now (slice_index c.load_heads.new.out) few c.requires.told c.load_heads.ensures.loads
+            (λ both. not_told (slice_index c.load_heads.new.out c.loop-slot.slot) (slice_index c.loop-slot.times c.loop-slot.slot) c.args.tps c.begin-begin.result c.is_told.result c.is_told.ensures w.if-not-is_told.true
+            (both.0, subst (λ (n : ℕ). time_of n ≤ c.begin-begin.result) (sym here) (subst (λ (n : ℕ). time_of (slice_index c.args.times.now c.loop-slot.slot) ≤ n) (sym begin_is) both.1))),
       )
       | else-not-is_told w ↦
           let both = told_both (slice_index c.load_heads.new.out c.loop-slot.slot) (slice_index c.loop-slot.times c.loop-slot.slot) c.args.tps c.begin-begin.result c.is_told.result c.is_told.ensures w.if-not-is_told.false in
           let early : time_of (slice_index c.args.times.now c.loop-slot.slot) ≤ (knows c.args.seat.now.view c.args.s).begin = subst (λ (n : ℕ). time_of (slice_index c.args.times.now c.loop-slot.slot) ≤ n) begin_is (subst (λ (n : ℕ). time_of n ≤ c.begin-begin.result) here both.1) in (
-            walks_told c.args.store.now c.args.seat.now.view c.loop-slot.seat c.if-not-is_told.seat c.args.s c.args.c (256 * c.args.range) (2 ^ 64) c.loop-slot.slot c.loop-slot.total c.if-not-is_told.total w.seat-is w.total-is few walks,
+            walks_told c.args.store.now c.args.seat.now.view c.loop-slot.seat c.if-not-is_told.seat c.args.s (2 ^ 64) c.loop-slot.slot c.loop-slot.total c.if-not-is_told.total w.seat-is w.total-is few walks,
             λ page values has.
                 let told = number_told c.args.store.now c.args.seat.now c.args.s c.args.range c.args.c c.args.tps c.args.times.now c.consider.ensures r c.requires.range c.requires.column page (slice_index c.load_heads.new.out) c.load_heads.new.seat.view c.load_heads.ensures.loads c.loop-slot.slot few both.0 early values has in
                 covers_same c.args.seat.now.view c.args.s (number_at c.args.c) (256 * c.args.range) (c.loop-slot.slot + 1) c.loop-slot.total c.if-not-is_told.total (knows c.args.seat.now.view c.args.s).begin (slice_index values) c.loop-slot.times c.if-not-is_told.times w.total-is w.times-is
                 (covers_told c.args.seat.now.view c.args.s (number_at c.args.c) (256 * c.args.range) c.loop-slot.slot c.loop-slot.total (knows c.args.seat.now.view c.args.s).begin (slice_index values) c.loop-slot.times c.consider.ensures r.host told.0 told.1
                 (ap (λ (n : ℕ). lane_of (knows c.args.seat.now.view c.args.s).begin (slice_index values c.loop-slot.slot) n) here ∙ told.2) (c.loop-slot.invariant.1 page values has)),
             stands_told c.loop-slot.slot c.args.times.now c.loop-slot.times c.if-not-is_told.times w.times-is stands,
+            saves_told c.args.seat.now.view c.loop-slot.seat.view c.if-not-is_told.seat.view c.args.s c.args.c (256 * c.args.range) c.loop-slot.slot (ap (λ (x : Sitting). (knows x.view c.args.s).finds) w.seat-is) c.loop-slot.invariant.3,
           )
     ]
 
@@ -72,4 +79,4 @@ returns-clause-sum c = λ page values has place places. let invariant = c.loop-s
 
 pub returns-clause-saves : goal.returns-clause-saves
 returns-clause-saves c = let invariant = c.loop-slot.invariant in let end : c.loop-slot.slot ≡ 256 = (let t = c.loop-slot-test.false in let few = invariant.0.few in omega arith) in
-    subst (λ (n : ℕ). SavesPart c.args.seat.now.view c.loop-slot.seat.view c.args.s c.args.c (256 * c.args.range) (256 * c.args.range + n)) end invariant.0.saves
+    subst (λ (n : ℕ). SavesPart c.args.seat.now.view c.loop-slot.seat.view c.args.s c.args.c (256 * c.args.range) (256 * c.args.range + n)) end invariant.3

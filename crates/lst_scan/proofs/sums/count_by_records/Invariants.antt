@@ -1,7 +1,6 @@
 use Rattle.std.proofs.Common.{◌+◌, ◌-◌, ◌*◌, ◌≤◌}
-use Rattle.lst_scan.specs.Savings.{IsPageAt}
 use Rattle.lst_scan.proofs.Loops.{Adds}
 use Rattle.lst_scan.proofs.sums.count_by_records.Given as goal
 
 abbrev pub invariant-loop-number : goal.invariant-loop-number
-invariant-loop-number l = Adds l.store l.fn.seat.view l.seat l.s (λ _. 1) (256 * l.range) l.number l.rows × (l.number ≤ 256 * (l.range + 1)) × (l.rows ≤ l.number - 256 * l.range) × IsPageAt l.seat.view l.s l.range 0 l.page
+invariant-loop-number l = Adds l.store l.fn.seat.view l.seat l.s (λ _. 1) (256 * l.range) l.number l.rows × (l.number ≤ 256 * (l.range + 1)) × (l.rows ≤ l.number - 256 * l.range)

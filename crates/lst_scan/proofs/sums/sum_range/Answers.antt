@@ -1,8 +1,11 @@
-use Rattle.std.proofs.Common.{◌+◌, ◌*◌}
+use Rattle.std.proofs.Common.{◌+◌, ◌*◌, refl}
 use Rattle.lst_model.specs.Cells.{number_at}
 use Rattle.lst_sights.proofs.Watching.{watches_join}
 use Rattle.lst_scan.proofs.Sheets.{part_before}
 use Rattle.lst_scan.proofs.sums.sum_range.Goals as goal
+
+pub sum_by_page-requires-clause-told : goal.sum_by_page-requires-clause-told
+sum_by_page-requires-clause-told c = c.in-Some.ensures.told
 
 pub returns-in-Some-clause-watched : goal.returns-in-Some-clause-watched
 returns-in-Some-clause-watched c = watches_join c.args.seat.now.view c.frame_of.new.seat.view c.sum_by_page.new.seat.view c.args.s c.frame_of.ensures.skims.watched c.sum_by_page.ensures.watched
@@ -15,3 +18,6 @@ returns-in-None-clause-watched c = watches_join c.args.seat.now.view c.frame_of.
 
 pub returns-in-None-clause-sum : goal.returns-in-None-clause-sum
 returns-in-None-clause-sum c = let r = c.requires.reader in part_before c.args.seat.now.view c.frame_of.new.seat.view c.args.s (number_at c.args.c) (256 * c.args.range) (256 * (c.args.range + 1)) c.sum_by_records.result c.consider.ensures r.host r.opened c.frame_of.ensures.skims.watched c.sum_by_records.ensures.sum
+
+pub sum_by_records-requires-clause-none : goal.sum_by_records-requires-clause-none
+sum_by_records-requires-clause-none c = c.in-None.ensures.none refl
