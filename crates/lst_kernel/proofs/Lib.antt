@@ -1,4 +1,3 @@
 pub mod Lanes
 pub mod Sums
 pub mod Counts
-pub mod Limits

@@ -1,6 +1,6 @@
 -- What the entries of a page come to for a reader. An entry is a value word and a time word: twice the time at which it was last
 -- written, and one more where it is present.
-use Rattle.std.specs.Prelude.{ℕ, ◌/◌, ◌%◌, List, map, filter, zip, Bool, ◌==◌, ◌&&◌, nat_le, nat_lt, if◌then◌else◌}
+use Rattle.std.specs.Prelude.{ℕ, ◌/◌, ◌%◌, List, map, filter, zip, Bool, ◌==◌, ◌&&◌, nat_le, if◌then◌else◌}
 
 -- the time word is of an entry that is present, with a time of at most the begin
 abbrev pub is_seen : ℕ → ℕ → Bool
@@ -13,11 +13,3 @@ seen_values begin values times = map (λ e. e.0) (filter (λ e. is_seen begin e.
 -- what a lane holds of an entry: its value, or 0 where it isn't seen
 abbrev pub lane_of : ℕ → ℕ → ℕ → ℕ
 lane_of begin value word = if is_seen begin word then value else 0
-
--- the word is at most the limit
-abbrev pub is_at_most : ℕ → ℕ → Bool
-is_at_most limit word = nat_le word limit
-
--- what a lane holds of a word: all bits where it is above the limit, or 0
-abbrev pub above_of : ℕ → ℕ → ℕ
-above_of limit word = if nat_lt limit word then 18446744073709551615 else 0

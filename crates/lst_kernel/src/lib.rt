@@ -4,10 +4,9 @@
 //! present. A reader that began at some time sees the entries that are present with a time of at most that.
 #![tactic(auto)]
 
-ghost use Rattle.std.specs.Prelude.{◌≡◌, ◌↔◌, ◌<◌, ◌≤◌, ◌+◌, ◌*◌, ◌%◌, ◌^◌, ℕ, length, map, sum, count_by, IsTrue, All};
-ghost use Rattle.std.specs.List.{AllPass, list_all};
+ghost use Rattle.std.specs.Prelude.{◌≡◌, ◌<◌, ◌≤◌, ◌+◌, ◌*◌, ◌%◌, ◌^◌, ℕ, length, sum, count_by};
 ghost use Rattle.std.specs.Simd.Lanes.{zip2};
-ghost use Rattle.lst_kernel.specs.Entries.{is_seen, seen_values, lane_of, is_at_most, above_of};
+ghost use Rattle.lst_kernel.specs.Entries.{is_seen, seen_values, lane_of};
 
 use std::simd::prelude::*;
 
@@ -30,20 +29,6 @@ pub fn sum_all(values: &[u64; 256]) -> u128
     ensures { result ≡ sum values.now }
 {
     sum_all_by_lanes(values)
-}
-
-/// Whether all words of a page are at most `limit`.
-pub fn are_at_most(words: &[u64; 256], limit: u64) -> bool
-    ensures { IsTrue result ↔ All (λ w. w ≤ limit) words.now }
-{
-    are_at_most_by_lanes(words, limit)
-}
-
-/// Whether all entries of a page are present with a time of at most `begin`, where `times` has the entries' time words.
-pub fn are_seen(times: &[u64; 256], begin: u64) -> bool
-    ensures { IsTrue result ↔ AllPass (is_seen begin) times.now }
-{
-    are_seen_by_lanes(times, begin)
 }
 
 /// How many of a page's entries are present with a time of at most `begin`, where `times` has the entries' time words.
@@ -163,47 +148,6 @@ fn count_one_by_one(times: &[u64], begin: u64) -> u32
         }
     }
     count
-}
-
-/// Whether all words are at most `limit`.
-fn are_at_most_by_lanes(words: &[u64], limit: u64) -> bool
-    requires { length words.now ≡ 256 }
-    ensures { result ≡ list_all (is_at_most limit) words.now }
-{
-    let mut above = u64x8::splat(0);
-    let mut at = 0;
-    while at + LANES <= words.len() {
-        above = above | lanes_above(u64x8::from_slice(&words[at..]), limit);
-        at += LANES;
-    }
-    above.reduce_or() == 0
-}
-
-/// Whether all entries are seen: each time word is odd, and none is above that of the begin.
-fn are_seen_by_lanes(times: &[u64], begin: u64) -> bool
-    requires { length times.now ≡ 256 }
-    ensures { result ≡ list_all (is_seen begin) times.now }
-{
-    let last = begin.min(LAST_TIME) * 2 + 1;
-    let mut odd = u64x8::splat(1);
-    let mut above = u64x8::splat(0);
-    let mut at = 0;
-    while at + LANES <= times.len() {
-        let words = u64x8::from_slice(&times[at..]);
-        odd = odd & words;
-        above = above | lanes_above(words, last);
-        at += LANES;
-    }
-    (odd.reduce_and() % 2 == 1) & (above.reduce_or() == 0)
-}
-
-/// All bits where the word is above `limit`, and 0 elsewhere.
-fn lanes_above(words: u64x8, limit: u64) -> u64x8
-    ensures { result ≡ map (above_of limit) words }
-{
-    words
-        .simd_gt(u64x8::splat(limit))
-        .select(u64x8::splat(u64::MAX), u64x8::splat(0))
 }
 
 /// The values where the entry is present with a time of at most `begin`, and 0 elsewhere.

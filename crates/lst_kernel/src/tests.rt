@@ -161,20 +161,10 @@ fn a_page_written_over_256_times_comes_to_more_with_each_begin(rt: HostRuntime) 
     }
 }
 
-// The instructions of these three are counted.
+// The instructions of this one are counted.
 #[inline(never)]
 fn sum_of_all(values: &[u64; 256]) -> u128 {
     sum_all(values)
-}
-
-#[inline(never)]
-fn is_page_at_most(words: &[u64; 256], limit: u64) -> bool {
-    are_at_most(words, limit)
-}
-
-#[inline(never)]
-fn is_page_seen(times: &[u64; 256], begin: u64) -> bool {
-    are_seen(times, begin)
 }
 
 #[test]
@@ -192,29 +182,4 @@ fn all_values_are_added(rt: HostRuntime) {
     );
     values[255] = 1 << 63;
     assert_eq!(rt; sum_of_all(&values), 9_223_372_036_854_808_193);
-}
-
-#[test]
-fn one_word_above_the_limit_and_one_entry_unseen_are_found(rt: HostRuntime) {
-    for limit in [0, 7, (1 << 63) - 1, 1 << 63, u64::MAX - 1] {
-        let mut words = [limit; 256];
-        assert!(rt; is_page_at_most(&words, limit), "{limit}");
-        for place in [0, 100, 255] {
-            words[place] = limit + 1;
-            assert!(rt; !is_page_at_most(&words, limit), "{limit} at {place}");
-            words[place] = limit;
-        }
-    }
-    for time in [0, 4, 1 << 62, (1 << 63) - 2] {
-        let mut times = [present(time); 256];
-        assert!(rt; is_page_seen(&times, time), "{time}");
-        assert!(rt; is_page_seen(&times, u64::MAX), "{time}");
-        for place in [0, 100, 255] {
-            times[place] = present(time + 1);
-            assert!(rt; !is_page_seen(&times, time), "{time} at {place}");
-            times[place] = 2 * time;
-            assert!(rt; !is_page_seen(&times, u64::MAX), "{time} at {place}");
-            times[place] = present(time);
-        }
-    }
 }
