@@ -14,6 +14,7 @@ pub mod Folded
 pub mod Sheets
 pub mod Told
 pub mod Untold
+pub mod Seen
 pub mod Loading
 pub mod Lining
 pub mod Sessioning

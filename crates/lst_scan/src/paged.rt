@@ -1,7 +1,7 @@
 //! Sums and counts over the records of a range by the page of a column: of its words those are loaded that its form takes, and its time words by
 //! one call, and the indirection words of the range by another. The page tells of each record whose newest version is at most its TPS, where the
 //! entry's time is at most the begin. The other records are walked along their chains, without another look at the page.
-ghost use Rattle.std.specs.Prelude.{◌≡◌, ℕ, ◌+◌, ◌*◌, ◌/◌, ◌^◌, ◌<◌, ◌≤◌, List, IfSome, None, length, slice_index, nat_le, ◌&&◌, true};
+ghost use Rattle.std.specs.Prelude.{◌≡◌, ℕ, ◌+◌, ◌*◌, ◌/◌, ◌%◌, ◌^◌, ◌<◌, ◌≤◌, List, IfSome, None, length, slice_index, nat_le, ◌&&◌, true};
 ghost use Rattle.lst_model.specs.Tables.{sum_of, count_of};
 ghost use Rattle.lst_bits.specs.Times.{time_of};
 ghost use Rattle.lst_layout.specs.Areas.{frame_count};
@@ -13,10 +13,11 @@ ghost use Rattle.lst_walk.specs.Readers.{IsReader};
 ghost use Rattle.lst_walk.specs.Packed.{Skims, packed_words};
 ghost use Rattle.lst_scan.specs.Savings.{SavesPart, TellsFrame, TellsNone, TellsStamps};
 ghost use Rattle.lst_scan.specs.Scans.{table_seen, Places, between};
-ghost use Rattle.lst_scan.specs.Paged.{IsInHand, HasPage, HasValues, entries_add};
+ghost use Rattle.lst_scan.specs.Paged.{IsInHand, HasPage, HasValues, entries_add, walked_of};
+ghost use Rattle.lst_kernel.specs.Entries.{is_seen};
 
 use crate::records::cell_by_chain;
-use lst_kernel::{count_where, sum_where};
+use lst_kernel::{count_where, sum_all, sum_where};
 use lst_layout::FRAME_VALUES;
 use lst_pack::unpack;
 use lst_rule::{RecordId, Seat, Store, load_frame, load_heads, load_times, step_look_page};
@@ -148,6 +149,17 @@ fn are_told(heads: &[u64; 256], times: &[u64; 256], tps: u64, begin: u64) -> boo
     late <= LAST
 }
 
+/// Whether all entries of a page are present, by its time words.
+fn are_present(times: &[u64; 256]) -> bool
+    ensures { result ≡ true → (i : ℕ) → i < 256 → slice_index times.now i % 2 ≡ 1 }
+{
+    let mut present = 1;
+    for slot in 0..256 {
+        present &= times[slot];
+    }
+    present % 2 == 1
+}
+
 /// The numbers of a column, 0 for null, added over the rows of one range, by the page in this frame, which is in hand.
 pub(crate) fn sum_by_page(
     store: &Store,
@@ -184,17 +196,29 @@ pub(crate) fn sum_by_page(
     with_entries(walked, &sheet.values, &sheet.times, seat.begin(s))
 }
 
-/// A sum, with that of the values of a page's entries that a reader sees who began at this time.
-fn with_entries(walked: u128, values: &[u64; 256], times: &[u64; 256], begin: u64) -> u128
-    requires { walked ≤ 2 ^ 72 }
-    ensures sum { result ≡ walked + entries_add begin (slice_index values.now) times.now 256 }
+/// A sum, with that of the values of a page's entries that a reader sees who began at this time. None stands for 0, where it sees each entry.
+fn with_entries(walked: Option<u128>, values: &[u64; 256], times: &[u64; 256], begin: u64) -> u128
+    requires few { walked_of walked ≤ 2 ^ 72 }
+    requires seen { walked ≡ None → (i : ℕ) → i < 256 → is_seen begin (slice_index times.now i) ≡ true }
+    ensures sum { result ≡ walked_of walked + entries_add begin (slice_index values.now) times.now 256 }
     ensures few { result ≤ 2 ^ 73 }
 {
-    walked + sum_where(values, times, begin)
+    match walked {
+        Some(walked) => walked + sum_where(values, times, begin),
+        None => sum_all(values),
+    }
+}
+
+/// What a walk of no record comes to.
+fn none_walked(all_seen: bool) -> Option<u128>
+    ensures none { walked_of result ≡ 0 }
+    ensures seen { result ≡ None → all_seen ≡ true }
+{
+    if all_seen { None } else { Some(0) }
 }
 
 /// The same over the rows of those records alone that the page doesn't tell, by its TPS and its time words. At the records that were walked the
-/// time words become 0. The indirection words of the range are loaded into `heads`.
+/// time words become 0. None comes only where no record was walked, and the reader sees each entry. The indirection words of the range are loaded into `heads`.
 fn sum_untold(
     store: &Store,
     seat: &mut Seat,
@@ -204,7 +228,7 @@ fn sum_untold(
     tps: u64,
     heads: &mut [u64; 256],
     times: &mut [u64; 256],
-) -> u128
+) -> Option<u128>
     requires reader { IsReader store.now seat.old s }
     requires range { range < store.now.layout.limits.ranges }
     requires column { c < store.now.layout.limits.columns }
@@ -212,15 +236,16 @@ fn sum_untold(
     requires told { TellsStamps seat.old.view s range c tps times.old }
     ensures reader { IsReader store.now seat.new s }
     ensures watched { Watched seat.old.view seat.new.view s }
-    ensures sum { (page : HasPage seat.old.view s range c tps times.old) (values : List ℕ) → HasValues page values → (place : ℕ → ℕ) → Places (knows seat.old.view s) place → result + entries_add (knows seat.old.view s).begin (slice_index values) times.new 256 ≡ sum_of (between place (256 * range) (256 * range + 256) (table_seen (knows seat.old.view s))) c }
+    ensures sum { (page : HasPage seat.old.view s range c tps times.old) (values : List ℕ) → HasValues page values → (place : ℕ → ℕ) → Places (knows seat.old.view s) place → walked_of result + entries_add (knows seat.old.view s).begin (slice_index values) times.new 256 ≡ sum_of (between place (256 * range) (256 * range + 256) (table_seen (knows seat.old.view s))) c }
     ensures saves { SavesPart seat.old.view seat.new.view s c (256 * range) (256 * range + 256) }
-    ensures few { result ≤ 2 ^ 72 }
+    ensures seen { result ≡ None → (i : ℕ) → i < 256 → is_seen (knows seat.old.view s).begin (slice_index times.new i) ≡ true }
+    ensures few { walked_of result ≤ 2 ^ 72 }
 {
     seat.consider();
     load_heads(store, seat, s, range, heads);
     let begin = seat.begin(s);
     if are_told(heads, times, tps, begin) {
-        return 0;
+        return none_walked(are_present(times));
     }
     let mut total: u128 = 0;
     for slot in 0..256 {
@@ -232,7 +257,7 @@ fn sum_untold(
             total += u128::from(found.unwrap_or(0));
         }
     }
-    total
+    Some(total)
 }
 
 /// The number of rows of one range, by the page of the first column in this frame, which is in hand. Its time words are loaded into `times`, and
@@ -258,11 +283,33 @@ pub(crate) fn count_by_page(
     let tps = load_frame(store, seat, s, frame, 0);
     load_times(store, seat, s, frame, times);
     let walked = count_untold(store, seat, s, range, tps, heads, times);
-    walked + u64::from(count_where(times, seat.begin(s)))
+    with_rows(walked, times, seat.begin(s))
+}
+
+/// A count, with that of a page's entries that a reader sees who began at this time. None stands for 0, where it sees each entry.
+fn with_rows(walked: Option<u64>, times: &[u64; 256], begin: u64) -> u64
+    requires few { walked_of walked ≤ 256 }
+    requires seen { walked ≡ None → (i : ℕ) → i < 256 → is_seen begin (slice_index times.now i) ≡ true }
+    ensures rows { result ≡ walked_of walked + entries_add begin (λ slot. 1) times.now 256 }
+    ensures few { result ≤ 512 }
+{
+    match walked {
+        Some(walked) => walked + u64::from(count_where(times, begin)),
+        None => 256,
+    }
+}
+
+/// What a count of no record comes to.
+fn none_counted(all_seen: bool) -> Option<u64>
+    ensures none { walked_of result ≡ 0 }
+    ensures seen { result ≡ None → all_seen ≡ true }
+{
+    if all_seen { None } else { Some(0) }
 }
 
 /// The number of rows on those records alone that the page doesn't tell, by its TPS and its time words. At the records that were walked the time
-/// words become 0. The indirection words of the range are loaded into `heads`.
+/// words become 0. None comes only where no record was walked, and the reader sees each entry. The indirection words of the range are loaded into
+/// `heads`.
 fn count_untold(
     store: &Store,
     seat: &mut Seat,
@@ -271,20 +318,21 @@ fn count_untold(
     tps: u64,
     heads: &mut [u64; 256],
     times: &mut [u64; 256],
-) -> u64
+) -> Option<u64>
     requires reader { IsReader store.now seat.old s }
     requires range { range < store.now.layout.limits.ranges }
     requires page { HasPage seat.old.view s range 0 tps times.old }
     ensures reader { IsReader store.now seat.new s }
     ensures watched { Watched seat.old.view seat.new.view s }
-    ensures count { (place : ℕ → ℕ) → Places (knows seat.old.view s) place → result + entries_add (knows seat.old.view s).begin (λ slot. 1) times.new 256 ≡ count_of (between place (256 * range) (256 * range + 256) (table_seen (knows seat.old.view s))) }
-    ensures few { result ≤ 256 }
+    ensures count { (place : ℕ → ℕ) → Places (knows seat.old.view s) place → walked_of result + entries_add (knows seat.old.view s).begin (λ slot. 1) times.new 256 ≡ count_of (between place (256 * range) (256 * range + 256) (table_seen (knows seat.old.view s))) }
+    ensures seen { result ≡ None → (i : ℕ) → i < 256 → is_seen (knows seat.old.view s).begin (slice_index times.new i) ≡ true }
+    ensures few { walked_of result ≤ 256 }
 {
     seat.consider();
     load_heads(store, seat, s, range, heads);
     let begin = seat.begin(s);
     if are_told(heads, times, tps, begin) {
-        return 0;
+        return none_counted(are_present(times));
     }
     let mut rows: u64 = 0;
     for slot in 0..256 {
@@ -297,5 +345,5 @@ fn count_untold(
             }
         }
     }
-    rows
+    Some(rows)
 }

@@ -11,6 +11,7 @@ use Rattle.lst_scan.proofs.Dividing.{cells_stay}
 use Rattle.lst_scan.proofs.Parts.{count_is}
 use Rattle.lst_scan.proofs.Seeing.{one_weight, no_weight}
 use Rattle.lst_scan.proofs.Sheets.{heads_skim, told_both, put_short, walks_start, walks_told, walks_walked, covers_start, covers_put}
+use Rattle.lst_scan.proofs.Seen.{entry_seen}
 use Rattle.lst_scan.proofs.Told.{one_told, ones_told, covers_told, covers_same, stands_first, stands_told, stands_put}
 use Rattle.lst_scan.proofs.paged.count_untold.Goals.{then-not-is_told+then-is_some, then-not-is_told+else-is_some, else-not-is_told}
 use Rattle.lst_scan.proofs.paged.count_untold.Goals as goal
@@ -26,8 +27,19 @@ returns-then-are_told-clause-count c = let r = c.requires.reader in
     let begin_is : c.begin-begin.result ≡ (knows c.args.seat.now.view c.args.s).begin = c.begin-begin.ensures ∙ ap (λ (k : Known). k.begin) skims.watched.watches.is in
     let all : (i : ℕ) → i < 256 → (slice_index c.load_heads.new.out i / 2 ≤ c.args.tps) × (time_of (slice_index c.args.times.now i) ≤ (knows c.args.seat.now.view c.args.s).begin) =
     λ i few. let both = c.are_told.ensures c.if-are_told.true i few in (both.0, subst (λ (n : ℕ). time_of (slice_index c.args.times.now i) ≤ n) begin_is both.1) in
-    λ place places. ones_told c.args.store.now c.args.seat.now c.args.s c.args.range 0 c.args.tps c.args.times.now c.consider.ensures r c.requires.range c.args.store.now.layout.valid.columns.0 c.requires.page (slice_index c.load_heads.new.out) c.load_heads.new.seat.view c.load_heads.ensures.loads all 256 (omega arith) place places
-    ∙ sym (count_is (between place (256 * c.args.range) (256 * c.args.range + 256) (table_seen (knows c.args.seat.now.view c.args.s))))
+    λ place places. ap (λ (n : ℕ). n + entries_add (knows c.args.seat.now.view c.args.s).begin (λ (slot : ℕ). 1) c.args.times.now 256) c.none_counted.ensures.none
+    ∙ (ones_told c.args.store.now c.args.seat.now c.args.s c.args.range 0 c.args.tps c.args.times.now c.consider.ensures r c.requires.range c.args.store.now.layout.valid.columns.0 c.requires.page (slice_index c.load_heads.new.out) c.load_heads.new.seat.view c.load_heads.ensures.loads all 256 (omega arith) place places
+    ∙ sym (count_is (between place (256 * c.args.range) (256 * c.args.range + 256) (table_seen (knows c.args.seat.now.view c.args.s)))))
+
+pub returns-then-are_told-clause-seen : goal.returns-then-are_told-clause-seen
+returns-then-are_told-clause-seen c = let r = c.requires.reader in
+    let skims : Skims c.args.seat.now.view c.load_heads.new.seat.view c.args.s = heads_skim c.args.seat.now.view c.load_heads.new.seat.view c.args.s c.args.range (slice_index c.load_heads.new.out) r.host (subst (λ l. c.args.range < l.ranges) (sym r.seat_of.limits) c.requires.range) c.load_heads.ensures.loads c.load_heads.ensures.found in
+    let begin_is : c.begin-begin.result ≡ (knows c.args.seat.now.view c.args.s).begin = c.begin-begin.ensures ∙ ap (λ (k : Known). k.begin) skims.watched.watches.is in
+    λ none i few. entry_seen (knows c.args.seat.now.view c.args.s).begin (slice_index c.args.times.now i) (c.are_present.ensures (c.none_counted.ensures.seen none) i few)
+    (subst (λ (n : ℕ). time_of (slice_index c.args.times.now i) ≤ n) begin_is (c.are_told.ensures c.if-are_told.true i few).1)
+
+pub returns-then-are_told-clause-few : goal.returns-then-are_told-clause-few
+returns-then-are_told-clause-few c = let zero = c.none_counted.ensures.none in omega arith
 
 pub loop-slot-init : goal.loop-slot-init
 loop-slot-init c = let r = c.requires.reader in
