@@ -13,5 +13,6 @@ pub mod Reports
 pub mod Running
 pub mod Scanning
 pub mod SeenAlike
+pub mod Totalling
 pub mod Wholes
 pub mod Writing

@@ -4,4 +4,5 @@ pub mod Orders
 pub mod ParSums
 pub mod Parts
 pub mod Reporting
+pub mod Totals
 pub mod Workers

@@ -12,17 +12,18 @@ mod par_sums;
 mod phases;
 mod reporting;
 mod scripts;
+mod totals;
 mod workers;
 mod working;
 
 pub use gates::{FreeGate, Gate};
 pub use lines::line_reply;
 pub use merging::{MergeQueue, empty_queue, run_merges};
-pub use orders::in_order;
 pub use par_sums::{par_sum, sessions_see_alike};
 pub use phases::run_phase;
 pub use reporting::work;
-pub use scripts::{run_script, whole_phase};
+pub use scripts::run_script;
+pub use totals::work_total;
 pub use workers::{Worker, run_lines, work_phase};
 pub use working::work_on;
 

@@ -1,5 +1,5 @@
 //! The replies of all workers, put into the order of the lines.
-ghost use Rattle.std.specs.Prelude.{◌≡◌, ◌≢◌, ◌+◌, ◌<◌, ◌∷◌, length, map, IfOk, OnOk, ℕ};
+ghost use Rattle.std.specs.Prelude.{◌≡◌, ◌≢◌, ◌+◌, ◌<◌, ◌∷◌, length, map, OnOk, ℕ};
 ghost use Rattle.std.specs.List.{All};
 ghost use Rattle.lst_model.specs.Lines.{LineFits};
 ghost use Rattle.lst_replies.specs.Runs.{speaker_of};
@@ -7,7 +7,6 @@ ghost use Rattle.lst_work.specs.Orders.{queue_at, lines_from, AreInOrder, GrowsB
 ghost use Rattle.lst_legal_work.specs.Orders.{queue_of};
 
 use lst_model::{Line, OutOfMemory, Reply};
-use std::alloc::Global;
 use std::collections::VecDeque;
 
 /// Takes the first reply from a queue.
@@ -54,21 +53,4 @@ pub(crate) fn put_in_order(
         replies.push((speaker, reply))?;
     }
     Ok(())
-}
-
-/// The replies to these lines, in their order. Each session's stand in the queue with its number, and those to merges in the last one.
-pub fn in_order(
-    alloc: Global,
-    sessions: u32,
-    lines: &[Line],
-    queues: &mut [VecDeque<Reply>],
-) -> Result<Vec<(Option<u32>, Reply)>, OutOfMemory>
-    requires wide { length queues.old ≡ sessions + 1 }
-    requires fits { (ranges columns : ℕ) × All (LineFits sessions ranges columns) lines.now }
-    requires long { (queue : ℕ) → length (queue_at (map (λ q. q.items) queues.old) queue) ≡ lines_from sessions queue lines.now }
-    ensures { IfOk result (λ replies. AreInOrder sessions lines.now (map (λ q. q.items) queues.old) replies.items) }
-{
-    let mut replies = Vec::new(alloc);
-    put_in_order(sessions, lines, queues, &mut replies)?;
-    Ok(replies)
 }

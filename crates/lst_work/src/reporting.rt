@@ -9,6 +9,7 @@ ghost use Rattle.lst_legal_work.specs.Legal.{HaveDoneNothing};
 ghost use Rattle.lst_legal_work.specs.Whole.{AreAll};
 ghost use Rattle.lst_legal_work.specs.Worked.{IsWorked};
 ghost use Rattle.lst_work.specs.Reporting.{KnowTheOpening, IsReported};
+ghost use Rattle.lst_work.specs.Totals.{HaveSeenTheHistory};
 
 use crate::gates::Gate;
 use crate::working::work_on;
@@ -37,7 +38,7 @@ fn opened(alloc: Global, layout: &Layout) -> Result<(Store, Sessions, Merger), O
 }
 
 /// The crew of all sessions of a store and its merger. None of them is missing.
-fn gathered(
+pub(crate) fn gathered(
     alloc: Global,
     store: &Store,
     sessions: Sessions,
@@ -81,13 +82,33 @@ fn reported(
     replies: Replies,
 ) -> Result<(Report, Crew), OutOfMemory>
     requires { IsCrewOf store.now crew }
-    ensures { IfOk result (λ reported. IsReported store.now replies crew reported.0 reported.1) }
+    ensures reported { IfOk result (λ reported. IsReported store.now replies crew reported.0 reported.1) }
+    ensures seen { IfOk result (λ reported. HaveSeenTheHistory crew.seat.view → HaveSeenTheHistory reported.1.seat.view) }
 {
     let mut crew = crew;
     let commits = crew.history(alloc, store)?;
     crew.seat.consider();
     let history = stamps_of(alloc, &commits)?;
     Ok((Report { replies, history }, crew))
+}
+
+/// Runs a script by all sessions of a new store and its merger, and gathers them: the report, the store, and its crew.
+pub(crate) fn worked<R: Threads + Wait + Sync, G: Gate + Sync>(
+    rt: &R,
+    alloc: Global,
+    layout: &Layout,
+    script: &Script,
+    gate: &G,
+) -> Result<(Report, Store, Crew), OutOfMemory>
+    requires fits { All (LineFits layout.now.limits.sessions layout.now.limits.ranges layout.now.limits.columns) script.now }
+    ensures worked { IfOk result (λ done. IsWorked layout.now script.now done.0 done.1 done.2) }
+    ensures seen { IfOk result (λ done. HaveSeenTheHistory done.2.seat.view) }
+{
+    let (store, sessions, mut merger) = opened(alloc, layout)?;
+    let (sessions, replies) = work_on(rt, alloc, &store, sessions, &mut merger, script, gate)?;
+    let crew = gathered(alloc, &store, sessions, merger)?;
+    let (report, crew) = reported(alloc, &store, crew, replies)?;
+    Ok((report, store, crew))
 }
 
 /// Runs a script by all sessions of a new store and its merger, as `work_on` does. Answers the report, the store, and its crew, which is gathered
@@ -105,9 +126,5 @@ pub fn work<R: Threads + Wait + Sync, G: Gate + Sync>(
     requires fits { All (LineFits layout.now.limits.sessions layout.now.limits.ranges layout.now.limits.columns) script.now }
     ensures { IfOk result (λ done. IsWorked layout.now script.now done.0 done.1 done.2) }
 {
-    let (store, sessions, mut merger) = opened(alloc, layout)?;
-    let (sessions, replies) = work_on(rt, alloc, &store, sessions, &mut merger, script, gate)?;
-    let crew = gathered(alloc, &store, sessions, merger)?;
-    let (report, crew) = reported(alloc, &store, crew, replies)?;
-    Ok((report, store, crew))
+    worked(rt, alloc, layout, script, gate)
 }

@@ -64,7 +64,8 @@ fn try_phase<R: Threads + Wait + Sync, G: Gate + Sync>(
     Ok(())
 }
 
-/// Runs a phase as `whole_phase` does, and puts the replies behind others. Answers the sessions.
+/// Runs a phase: each session's lines in a thread of its own, where one can be made, and the merges beside them. The list has every session of
+/// the store, in order. Puts the replies behind others, in the order of the lines, and answers the sessions.
 fn phase_onto<R: Threads + Wait + Sync, G: Gate + Sync>(
     rt: &R,
     alloc: Global,
@@ -103,43 +104,6 @@ fn phase_onto<R: Threads + Wait + Sync, G: Gate + Sync>(
     let (sessions, mut queues) = dismissed(alloc, workers, queue.replies)?;
     put_in_order(count, lines, queues.as_mut_slice(), replies)?;
     Ok(sessions)
-}
-
-/// Runs a phase: each session's lines in a thread of its own, where one can be made, and the merges beside them. The list has every session of
-/// the store, in order. Answers the sessions, and the replies in the order of the lines.
-pub fn whole_phase<R: Threads + Wait + Sync, G: Gate + Sync>(
-    rt: &R,
-    alloc: Global,
-    store: &Store,
-    lock: &CommitLock,
-    gate: &G,
-    first: u64,
-    lines: &[Line],
-    sessions: Vec<Session>,
-    merger: &mut Merger,
-) -> Result<(Vec<Session>, Vec<(Option<u32>, Reply)>), OutOfMemory>
-    requires all { AreAll store.now sessions.items }
-    requires merger { IsMergerOf store.now merger.old }
-    requires can { All (CanRun store.now.layout.limits) lines.now }
-    requires places { first + length lines.now < 2 ^ 64 }
-    ensures merger { IsMergerOf store.now merger.new }
-    ensures all { IfOk result (λ done. AreAll store.now done.0.items) }
-    ensures phase { IfOk result (λ done. IsPhase lines.now sessions.items done.0.items merger.old.seat.view merger.new.seat.view done.1.items) }
-{
-    let mut replies = Vec::new(alloc);
-    let sessions = phase_onto(
-        rt,
-        alloc,
-        store,
-        lock,
-        gate,
-        first,
-        lines,
-        sessions,
-        merger,
-        &mut replies,
-    )?;
-    Ok((sessions, replies))
 }
 
 /// Whether a line is the end of a phase.

@@ -6,7 +6,7 @@ ghost use Rattle.lst_model.specs.Lines.{CallFits, LineFits};
 ghost use Rattle.lst_session.specs.Parting.{IsMergerOf};
 ghost use Rattle.lst_legal_work.specs.Whole.{AreAll};
 
-use crate::{FreeGate, Gate, work_on};
+use crate::{FreeGate, Gate, work_on, work_total};
 use lst_layout::Limits;
 use lst_model::{Call, Line, Text};
 use lst_replies::{Replies, push_line};
@@ -365,4 +365,73 @@ fn there_may_be_more_sessions_than_lines(rt: HostRuntime) -> Result<(), Fail> {
         script,
         b"15 begun 0\n3 begun 0\n15 aborted\n",
     )
+}
+
+/// The texts of the replies to a script, and the sum of a column behind it.
+fn totalled<R: AllocGlobal + Threads + Wait + Sync>(
+    rt: &R,
+    text: &[u8],
+    column: u32,
+) -> Result<(Text, Option<u128>), Fail>
+    requires { column < 2 }
+{
+    let alloc = rt.alloc();
+    let limits = PAIR;
+    let Ok(layout) = limits.check() else {
+        return Err(Fail::from("the limits are in range"));
+    };
+    let script = script_of(alloc, &layout.limits, text)?;
+    let (report, total, _, _) = work_total(rt, alloc, &layout, &script, &FreeGate, column)?;
+    Ok((told(alloc, &script, &report.replies)?, total))
+}
+
+/// The same, compared with what is wanted.
+fn totals<R: Abort + AllocGlobal + Threads + Wait + Sync>(
+    rt: &R,
+    text: &[u8],
+    column: u32,
+    wanted: &[u8],
+    sum: Option<u128>,
+) -> Result<(), Fail>
+    requires { column < 2 }
+{
+    let (told, total) = totalled(rt, text, column)?;
+    assert_eq!(rt; told.as_bytes(), wanted);
+    assert_eq!(rt; total, sum);
+    Ok(())
+}
+
+#[test]
+fn a_column_is_added_up_behind_a_script(rt: HostRuntime) -> Result<(), Fail> {
+    totals(
+        &rt,
+        b"0 begin\n0 insert 1 10 20\n0 commit\nphase\n1 begin\n1 insert 2 30 40\n1 commit\n",
+        1,
+        b"0 begun 0\n0 ok\n0 committed 1\n1 begun 1\n1 ok\n1 committed 2\n",
+        Some(60),
+    )
+}
+
+#[test]
+fn there_is_no_sum_behind_a_transaction_that_is_open(rt: HostRuntime) -> Result<(), Fail> {
+    totals(
+        &rt,
+        b"0 begin\n0 insert 1 10 20\n0 commit\nphase\n1 begin\n1 insert 2 30 40\n1 commit\nphase\n0 begin\n",
+        1,
+        b"0 begun 0\n0 ok\n0 committed 1\n1 begun 1\n1 ok\n1 committed 2\n0 begun 2\n",
+        None,
+    )
+}
+
+#[test]
+fn there_is_no_sum_where_a_session_has_begun_as_many_as_it_may(
+    rt: HostRuntime,
+) -> Result<(), Fail> {
+    let thrice = b"1 begin\n1 abort\n1 begin\n1 abort\n1 begin\n1 abort\n";
+    let told = b"1 begun 0\n1 aborted\n1 begun 0\n1 aborted\n1 begun 0\n1 aborted\n";
+    totals(&rt, thrice, 0, told, Some(0))?;
+    let often = b"1 begin\n1 abort\n1 begin\n1 abort\n1 begin\n1 abort\n1 begin\n1 abort\n";
+    let told =
+        b"1 begun 0\n1 aborted\n1 begun 0\n1 aborted\n1 begun 0\n1 aborted\n1 begun 0\n1 aborted\n";
+    totals(&rt, often, 0, told, None)
 }
