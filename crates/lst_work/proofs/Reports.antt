@@ -1,11 +1,13 @@
 -- The report of a script on which all sessions of a new store have worked.
-use Rattle.std.proofs.Common.{◌≡◌, ℕ, ◌<◌, List, eqb, length, get_or, sym, subst, ap, ◌∙◌, arith, true≢false}
+use Rattle.std.proofs.Common.{◌≡◌, ℕ, ◌<◌, List, [], ◌∷◌, eqb, length, map, get_or, refl, sym, subst, ap, ◌∙◌, arith, true≢false}
 use Rattle.std.specs.Prelude.{Option}
 use Rattle.std.proofs.lemmas.Bool.{eq-eqb}
 use Rattle.std.proofs.lemmas.List.Folds.{list_any_at}
 use Rattle.std.specs.List.{All}
 use Rattle.lst_layout.specs.declared.layout.Layout.{Layout}
 use Rattle.lst_layout.specs.declared.limits.Limits.{Limits}
+use Rattle.lst_history.specs.Commits.{without_writes}
+use Rattle.lst_model.specs.declared.commits.Commit.{Commit}
 use Rattle.lst_model.specs.declared.lines.Line.{Line}
 use Rattle.lst_model.specs.declared.replies.Reply.{Reply}
 use Rattle.lst_model.specs.Lines.{LineFits}
@@ -13,7 +15,8 @@ use Rattle.lst_core_state.specs.declared.known.Known.{Known}
 use Rattle.lst_rule.specs.declared.store.Store.{Store}
 use Rattle.lst_rule.specs.Rule.{knows, crew as opening_view}
 use Rattle.lst_replies.specs.declared.reports.Report.{Report}
-use Rattle.lst_replies.specs.Legal.{IsLegal}
+use Rattle.lst_replies.specs.declared.reports.Stamp.{Stamp}
+use Rattle.lst_replies.specs.Legal.{IsLegal, stamp_of}
 use Rattle.lst_replies.specs.Runs.{Answered, run_of}
 use Rattle.lst_session.specs.declared.crew.Crew.{Crew}
 use Rattle.lst_session.specs.declared.passes.Merger.{Merger}
@@ -42,6 +45,11 @@ pub all_ready : (store : Store) (sessions : List Session) → AreAll store sessi
 all_ready store sessions all s d low = all.ready s d low
 
 -- ---- the report
+
+-- a commit without its writes has the same stamp
+pub stamps_bare : (commits : List Commit) → map stamp_of (map without_writes commits) ≡ map stamp_of commits
+stamps_bare [] = refl
+stamps_bare (commit ∷ commits) = ap (λ (stamps : List Stamp). stamp_of commit ∷ stamps) (stamps_bare commits)
 
 module _ (law : WorkedScriptIsLegal) (layout : Layout) (lines : List Line) (store : Store) (old new : List Session) (first last : Merger) (replies : List (Option ℕ × Reply)) (gathered crew : Crew) (report : Report)
     (opened : store.layout ≡ layout) (nothing : HaveDoneNothing store old first.seat.view) (knew : KnowTheOpening layout.limits old first.seat.view)

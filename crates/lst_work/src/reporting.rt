@@ -86,7 +86,7 @@ fn reported(
     ensures seen { IfOk result (λ reported. HaveSeenTheHistory crew.seat.view → HaveSeenTheHistory reported.1.seat.view) }
 {
     let mut crew = crew;
-    let commits = crew.history(alloc, store)?;
+    let commits = crew.commits(alloc, store)?;
     crew.seat.consider();
     let history = stamps_of(alloc, &commits)?;
     Ok((Report { replies, history }, crew))
