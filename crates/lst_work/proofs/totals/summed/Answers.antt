@@ -2,19 +2,19 @@ use Rattle.lst_legal_work.proofs.Lists.{element}
 use Rattle.lst_work.proofs.Totalling.{some_session, some_parted, all_seen_so, can_begin_now, sum_now, all_summed, have_read_once, is_summed}
 use Rattle.lst_work.proofs.totals.summed.Goals as goal
 
-pub seen-requires : goal.seen-requires
-seen-requires g c = c.requires.crew.hosted 0 (some_session c.args.store.now c.args.crew c.requires.crew)
+pub seen-time-requires : goal.seen-time-requires
+seen-time-requires g c = c.requires.crew.hosted 0 (some_session c.args.store.now c.args.crew c.requires.crew)
 
-pub summed_as_of-requires-clause-some : goal.summed_as_of-requires-clause-some
-summed_as_of-requires-clause-some g c κs within = let e = c.in_ok-sessions.ensures in
+pub summed_as_of-total-requires-clause-some : goal.summed_as_of-total-requires-clause-some
+summed_as_of-total-requires-clause-some g c κs within = let e = c.in_ok-sessions.ensures in
     some_parted c.args.store.now c.args.crew c.in_ok-sessions.sessions c.in_ok-sessions.merger c.requires.crew c.requires.seen e.parted e.all c.seen-time.result c.seen-time.ensures.is
 
-pub summed_as_of-requires-clause-can : goal.summed_as_of-requires-clause-can
-summed_as_of-requires-clause-can g c κs within = let e = c.in_ok-sessions.ensures in
+pub summed_as_of-total-requires-clause-can : goal.summed_as_of-total-requires-clause-can
+summed_as_of-total-requires-clause-can g c κs within = let e = c.in_ok-sessions.ensures in
     can_begin_now c.args.store.now c.args.crew c.in_ok-sessions.sessions c.in_ok-sessions.merger c.requires.crew c.requires.seen e.parted e.all c.seen-time.result c.seen-time.ensures.is c.requires.may
 
-pub summed_as_of-requires-clause-alike : goal.summed_as_of-requires-clause-alike
-summed_as_of-requires-clause-alike g c κs within = let e = c.in_ok-sessions.ensures in
+pub summed_as_of-total-requires-clause-alike : goal.summed_as_of-total-requires-clause-alike
+summed_as_of-total-requires-clause-alike g c κs within = let e = c.in_ok-sessions.ensures in
     e.alike c.seen-time.result (all_seen_so c.args.store.now c.args.crew c.in_ok-sessions.sessions c.in_ok-sessions.merger c.requires.crew c.requires.seen e.parted e.all c.seen-time.result c.seen-time.ensures.is)
 
 pub gathered-requires-clause-all : goal.gathered-requires-clause-all

@@ -8,14 +8,14 @@ use Rattle.lst_work.specs.ParSums.{CanBeginAsOf, HaveSeenAlike, HaveSummed}
 use Rattle.lst_work.proofs.Wholes.{written}
 use Rattle.lst_work.proofs.totals.summed_as_of.Goals as goal
 
-pub par_sum-requires-clause-some : goal.par_sum-requires-clause-some
-par_sum-requires-clause-some g c κs within = subst (λ (ss : List Session). 0 < length ss) (sym (c.as_mut_slice.ensures.value ∙ c.into_vec-passes.ensures)) c.requires.some
+pub par_sum-total-requires-clause-some : goal.par_sum-total-requires-clause-some
+par_sum-total-requires-clause-some g c κs within = subst (λ (ss : List Session). 0 < length ss) (sym (c.as_mut_slice.ensures.value ∙ c.into_vec-passes.ensures)) c.requires.some
 
-pub par_sum-requires-clause-can : goal.par_sum-requires-clause-can
-par_sum-requires-clause-can g c κs within = subst (All (CanBeginAsOf c.args.store.now c.args.time)) (sym (c.as_mut_slice.ensures.value ∙ c.into_vec-passes.ensures)) c.requires.can
+pub par_sum-total-requires-clause-can : goal.par_sum-total-requires-clause-can
+par_sum-total-requires-clause-can g c κs within = subst (All (CanBeginAsOf c.args.store.now c.args.time)) (sym (c.as_mut_slice.ensures.value ∙ c.into_vec-passes.ensures)) c.requires.can
 
-pub par_sum-requires-clause-alike : goal.par_sum-requires-clause-alike
-par_sum-requires-clause-alike g c κs within = subst (HaveSeenAlike c.args.time) (sym (c.as_mut_slice.ensures.value ∙ c.into_vec-passes.ensures)) c.requires.alike
+pub par_sum-total-requires-clause-alike : goal.par_sum-total-requires-clause-alike
+par_sum-total-requires-clause-alike g c κs within = subst (HaveSeenAlike c.args.time) (sym (c.as_mut_slice.ensures.value ∙ c.into_vec-passes.ensures)) c.requires.alike
 
 pub returns-clause-sum : goal.returns-clause-sum
 returns-clause-sum g c = subst (λ (ss : List Session). (i : ℕ) (none : Session) → i < length ss → c.par_sum-total.result ≡ sum_of (table_at (seen_at ss i none) c.args.time) c.args.column)
