@@ -280,7 +280,7 @@ pub load_told : (numbers : LoadNumbers) (loaded : Loaded) (both : Store × Crew)
     → IfOk result (HasMade (load_text loaded.rows loaded.total) both) → IfOk result (IsLoadOutput numbers)
 load_told numbers loaded both (Ok output) by made = record {
   owed = record {
-    is_text = made.said ∙ (ap (λ (rows : ℕ). load_text rows loaded.total) by.rows ∙ ap (λ (total : ℕ). load_text numbers.keys total) by.total);
+    is_text = made.said ∙ (ap (λ (rows : ℕ). load_text rows loaded.total) by.holds.rows ∙ ap (λ (total : ℕ). load_text numbers.keys total) by.holds.total);
     loaded = loaded;
     both = both;
     is_left = made.left;

@@ -1,5 +1,6 @@
 -- All sessions of a new store have worked on a generated script.
 use Rattle.std.proofs.Common.{◌≡◌, ℕ, ◌+◌, ◌-◌, ◌*◌, ◌%◌, ◌<◌, ◌≤◌, true, List, [], ◌∷◌, ◌++◌, length, map, Option, Some, None, IfSome, refl, sym, ap, subst, ◌∙◌, arith, append_assoc}
+use Rattle.std.specs.Prelude.{MatchOption}
 use Rattle.std.specs.List.{AllByRecursion, count_by}
 use Rattle.std.proofs.lemmas.List.{take_all, get_or-replicate}
 use Rattle.std.proofs.lemmas.List.Elements.{recursion_from_All}
@@ -26,6 +27,7 @@ use Rattle.lst_rule.specs.Learned.{Possible}
 use Rattle.lst_rule.specs.Rule.{knows, crew as opening_view}
 use Rattle.lst_rule.proofs.Knowing.{knows_own}
 use Rattle.lst_replies.specs.declared.reports.Report.{Report}
+use Rattle.lst_replies.specs.declared.states.SessionState.{SessionState}
 use Rattle.lst_replies.specs.declared.states.Transaction.{Transaction}
 use Rattle.lst_replies.specs.Runs.{Answered, answered, AtEachCall, is_insert, run_of, write_of}
 use Rattle.lst_replies.specs.States.{unbegun, state_of}
@@ -35,15 +37,17 @@ use Rattle.lst_session.specs.Crews.{store_told}
 use Rattle.lst_legal_work.specs.Lines.{session_told}
 use Rattle.lst_legal_work.specs.Worked.{IsWorked}
 use Rattle.lst_legal_work.proofs.Mergers.{all_at}
+use Rattle.lst_work.specs.Totals.{state_behind, MayBeginAgain, HasNoTotal, IsTotal, IsWorkedTotal}
+use Rattle.lst_work.proofs.Totalling.{told_behind, never_both}
 use Rattle.lst_script.specs.Counted.{LineWritesOwn, is_write, IsCounted}
 use Rattle.lst_script.specs.Generated.{range_count, course_at, final_lines, inserts, transfers, generated}
 use Rattle.lst_script.proofs.Counting.{balanced_at, counted}
 use Rattle.lst_load.specs.declared.loading.Loaded.{Loaded}
-use Rattle.lst_load.specs.Scripted.{nothing_done, doing_behind, transactions_of}
-use Rattle.lst_load.specs.Loaded.{load_limits, TellsTotals, IsLoaded, GeneratedIsLoaded}
+use Rattle.lst_load.specs.Scripted.{Doing, nothing_done, doing_behind, transactions_of}
+use Rattle.lst_load.specs.Loaded.{load_limits, TellsTotals, HoldsLoad, GeneratedIsLoaded, GeneratedHasTotal}
 use Rattle.lst_load.proofs.Lists.{acts_in, writes_in, acts_in-map, CommitsOwn, acts_of_own}
 use Rattle.lst_load.proofs.Going.{Goes}
-use Rattle.lst_load.proofs.Lining.{Follows, IsFree}
+use Rattle.lst_load.proofs.Lining.{Follows, IsFree, closed_of}
 use Rattle.lst_load.proofs.Walking.{lines_in, AllSucceed, succeed_behind, Walked, walk}
 use Rattle.lst_load.proofs.Balancing.{row_at}
 use Rattle.lst_load.proofs.Generating.{Through, generated_through}
@@ -149,6 +153,19 @@ module _ (seed keys n : ℕ) (layout : Layout) (report : Report) (store : Store)
     pub commits : map writes_in (commits_of j now.seen) ≡ transactions_of j lines
     commits = walked.follows.done ∙ ap (λ (ls : List Line). (doing_behind j ls nothing_done).done) lines_are
 
+    -- it has none open, and may begin once more
+    pub may_begin_again : MayBeginAgain l (state_behind lines report j)
+    may_begin_again =
+        let told = told_behind layout lines report store crew worked j (subst (λ (k : ℕ). j < k) (sym sessions_are) low) in
+        let behind = ap (λ (ls : List Line). doing_behind j ls nothing_done) lines_are in
+        record {
+          closed = ap (λ (st : SessionState). st.current) (sym told)
+              ∙ closed_of j now.seen (session_told now).current (doing_behind j (lines_in run) nothing_done).current (ap (λ (d : Doing). d.current) behind ∙ through.holds.closed) walked.follows.opens;
+          unspent = λ e.
+              let a = ap (λ (st : SessionState). st.begun) told in let b = walked.follows.begun in let c = ap (λ (d : Doing). d.begun) behind in let h = through.holds.begun in
+              let t : l.txns ≡ 16384 = ap (λ (x : Limits). x.txns) limits in absurd (omega arith);
+        }
+
     row_told : (q : ℕ) → j ≡ (q - 1) % n → row_of (table_at history (length history)) q ≡ row_at (course_at keys n seed keys).balances q
     row_told q has =
         get_table_at history (length history) q
@@ -231,12 +248,8 @@ module _ (seed keys n : ℕ) (layout : Layout) (report : Report) (store : Store)
   told_here = record { front = parts.front; begin = answers.begin; is = replies_told }
 
   -- it is the numbers that the replies tell
-  pub loaded_as : (x : Loaded) → TellsTotals report.replies x.rows x.total → IsLoaded seed keys n x store crew
-  loaded_as x h = let u = same_totals report.replies x.rows x.total answers.rows answers.total h told_here in record {
-    layout = layout;
-    report = report;
-    limits = limits;
-    worked = worked;
+  pub held_as : (x : Loaded) → TellsTotals report.replies x.rows x.total → HoldsLoad seed keys n report x crew
+  held_as x h = let u = same_totals report.replies x.rows x.total answers.rows answers.total h told_here in record {
     told = h;
     rows = u.0 ∙ (told_totals.counted ∙ row_count);
     total = u.1 ∙ (told_totals.added ∙ row_sum);
@@ -248,8 +261,17 @@ module _ (seed keys n : ℕ) (layout : Layout) (report : Report) (store : Store)
   pub some_totals : (rows : ℕ) × (total : ℕ) × TellsTotals report.replies rows total
   some_totals = (answers.rows, answers.total, told_here)
 
-  loaded : (loaded : Loaded) × IsLoaded seed keys n loaded store crew
-  loaded = (record { rows = answers.rows; total = answers.total }, loaded_as (record { rows = answers.rows; total = answers.total }) told_here)
+  held : (loaded : Loaded) × HoldsLoad seed keys n report loaded crew
+  held = (record { rows = answers.rows; total = answers.total }, held_as (record { rows = answers.rows; total = answers.total }) told_here)
 
 pub generated_script_is_loaded : GeneratedIsLoaded
-generated_script_is_loaded seed keys n layout report store crew some few hosts_some limits worked possible = loaded seed keys n layout report store crew some few hosts_some limits worked possible
+generated_script_is_loaded seed keys n layout report store crew some few hosts_some limits worked possible = held seed keys n layout report store crew some few hosts_some limits worked possible
+
+pub generated_script_has_total : GeneratedHasTotal
+generated_script_has_total seed keys n layout column report total store crew some few hosts_some limits x = by_total total x.total_is
+  where
+    by_total : (o : Option ℕ) → MatchOption o (HasNoTotal layout (generated keys n seed) report x.before crew) (λ sum. IsTotal layout (generated keys n seed) report store column x.before sum crew) → (sum : ℕ) × (o ≡ Some sum)
+    by_total (Some sum) h = (sum, refl)
+    by_total None h = let low : h.session < n = subst (λ (k : ℕ). h.session < k) (ap (λ (m : Limits). m.sessions) limits) h.low in
+        absurd (never_both layout.limits (state_behind (generated keys n seed) report h.session)
+        (may_begin_again seed keys n layout report store x.before some few hosts_some limits x.worked x.possible h.session low) h.may_not)

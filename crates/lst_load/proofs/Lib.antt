@@ -1,3 +1,4 @@
+pub mod Adding
 pub mod Assembling
 pub mod Balancing
 pub mod Fitting

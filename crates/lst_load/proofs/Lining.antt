@@ -163,7 +163,7 @@ pub record Passed (j : ℕ) (call : CallKind) (reply : Reply) (d : Doing) (state
   pub succeeds : Succeeds call d reply
   pub follows : Follows j (doing_after_call call d) (after_call call reply state) new
 
-closed_of : (j : ℕ) (seen : List Commit) (c : Option Transaction) (o : Option (List Write)) → o ≡ None → Opens j seen c o → c ≡ None
+pub closed_of : (j : ℕ) (seen : List Commit) (c : Option Transaction) (o : Option (List Write)) → o ≡ None → Opens j seen c o → c ≡ None
 closed_of j seen None None e h = refl
 closed_of j seen (Some t) None e h = absurd h
 closed_of j seen None (Some own) e h = absurd h

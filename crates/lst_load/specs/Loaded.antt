@@ -17,6 +17,7 @@ use Rattle.lst_script.specs.Generated.{range_count, generated}
 use Rattle.lst_session.specs.declared.crew.Crew.{Crew}
 use Rattle.lst_session.specs.Crews.{store_told}
 use Rattle.lst_legal_work.specs.Worked.{IsWorked}
+use Rattle.lst_work.specs.Totals.{IsWorkedTotal}
 use Rattle.lst_load.specs.declared.loading.Loaded.{Loaded}
 use Rattle.lst_load.specs.Scripted.{transactions_of}
 
@@ -37,14 +38,9 @@ pub record TellsTotals (replies : List (Option ℕ × Reply)) (rows total : ℕ)
   pub begin : ℕ
   pub is : replies ≡ front ++ (Some 0, Begun begin) ∷ (Some 0, Count rows) ∷ (Some 0, Sum total) ∷ (Some 0, Ended begin) ∷ []
 
--- The sessions of this store have worked on the script that the seed generates, and are gathered in this crew. The numbers are those of the last
--- replies: as many rows as there are keys, and 1,000 for each. So many rows, with that sum, has the table that the store's commits make. The commits
--- of each session are its transactions with writes in the script, in order, with those writes.
-pub record IsLoaded (seed keys sessions : ℕ) (loaded : Loaded) (store : Store) (crew : Crew) : Type 0 where
-  pub layout : Layout
-  pub report : Report
-  pub limits : layout.limits ≡ load_limits keys sessions
-  pub worked : IsWorked layout (generated keys sessions seed) report store crew
+-- The numbers are those of the last replies of the report: as many rows as there are keys, and 1,000 for each. So many rows, with that sum, has the table
+-- that the commits of the crew's store make. The commits of each session are its transactions with writes in the script, in order, with those writes.
+pub record HoldsLoad (seed keys sessions : ℕ) (report : Report) (loaded : Loaded) (crew : Crew) : Type 0 where
   pub told : TellsTotals report.replies loaded.rows loaded.total
   pub rows : loaded.rows ≡ keys
   pub total : loaded.total ≡ 1000 * keys
@@ -52,9 +48,24 @@ pub record IsLoaded (seed keys sessions : ℕ) (loaded : Loaded) (store : Store)
   pub added : loaded.total ≡ sum_of (table_told crew) 0
   pub commits : (s : ℕ) → s < sessions → map writes_of_commit (mine s (knows crew.seat.view s)) ≡ transactions_of s (generated keys sessions seed)
 
+-- The sessions of this store have worked on the script that the seed generates, and have then added up its column, side by side: the total is that sum.
+-- They are gathered in this crew, which holds the load.
+pub record IsLoaded (seed keys sessions : ℕ) (loaded : Loaded) (store : Store) (crew : Crew) : Type 0 where
+  pub layout : Layout
+  pub report : Report
+  pub limits : layout.limits ≡ load_limits keys sessions
+  pub worked : IsWorkedTotal layout (generated keys sessions seed) 0 report (Some loaded.total) store crew
+  pub holds : HoldsLoad seed keys sessions report loaded crew
+
 -- Where they have worked on it, it is loaded: whatever the schedule
 abbrev pub GeneratedIsLoaded : Type 0
 GeneratedIsLoaded = (seed keys sessions : ℕ) (layout : Layout) (report : Report) (store : Store) (crew : Crew)
     → 0 < keys → keys ≤ 4096 → 0 < sessions → layout.limits ≡ load_limits keys sessions
     → IsWorked layout (generated keys sessions seed) report store crew → Possible crew.seat.view
-    → (loaded : Loaded) × IsLoaded seed keys sessions loaded store crew
+    → (loaded : Loaded) × HoldsLoad seed keys sessions report loaded crew
+
+-- Where they have worked on it and a column was to be added up behind it, there is a sum
+abbrev pub GeneratedHasTotal : Type 0
+GeneratedHasTotal = (seed keys sessions : ℕ) (layout : Layout) (column : ℕ) (report : Report) (total : Option ℕ) (store : Store) (crew : Crew)
+    → 0 < keys → keys ≤ 4096 → 0 < sessions → layout.limits ≡ load_limits keys sessions
+    → IsWorkedTotal layout (generated keys sessions seed) column report total store crew → (sum : ℕ) × (total ≡ Some sum)

@@ -7,5 +7,5 @@
 mod laws;
 mod loading;
 
-pub use laws::generated_script_is_loaded;
+pub use laws::{generated_script_has_total, generated_script_is_loaded};
 pub use loading::{Loaded, load};

@@ -1,6 +1,6 @@
 //! A large input from a number.
-ghost use Rattle.std.specs.Prelude.{◌≡◌, ℕ, ◌<◌, ◌≤◌, IfOk};
-ghost use Rattle.lst_legal_work.specs.Worked.{IsWorked};
+ghost use Rattle.std.specs.Prelude.{◌≡◌, ℕ, ◌<◌, ◌≤◌, IfOk, Option, Some};
+ghost use Rattle.lst_work.specs.Totals.{IsWorkedTotal};
 ghost use Rattle.lst_load.specs.Loaded.{load_limits, IsLoaded, TellsTotals};
 ghost use Rattle.lst_script.specs.Generated.{generated};
 
@@ -10,12 +10,12 @@ use lst_replies::Report;
 use lst_rule::Store;
 use lst_script::generate;
 use lst_session::Crew;
-use lst_work::{Gate, work};
+use lst_work::{Gate, work_total};
 use std::alloc::Global;
 use std::sync::Wait;
 use std::thread::Threads;
 
-/// What the last phase of a generated script tells of the table: the number of its rows, and the sum of its column.
+/// The number of the rows of a table, as the last phase of a generated script tells it, and the sum of its column, as all sessions added it up behind the script.
 #[derive(Clone, Copy, Debug, PartialEq, Eq)]
 pub struct Loaded {
     pub rows: u64,
@@ -56,36 +56,33 @@ fn row_count(reply: &Reply) -> u64
     }
 }
 
-/// The sum that a reply tells.
-fn sum_total(reply: &Reply) -> u128
-    requires { (total : ℕ) × (reply.now ≡ Reply.Sum total) }
-    ensures { reply.now ≡ Reply.Sum result }
-{
-    match reply {
-        Reply::Sum { total } => *total,
-        _ => unreachable!(),
-    }
-}
-
-/// The numbers that the last replies tell.
-fn totals_told(replies: &[(Option<u32>, Reply)]) -> Loaded
+/// The number of rows that the last replies tell.
+fn rows_told(replies: &[(Option<u32>, Reply)]) -> u64
     requires { (rows : ℕ) × (total : ℕ) × TellsTotals replies.now rows total }
-    ensures { TellsTotals replies.now result.rows result.total }
+    ensures { (total : ℕ) × TellsTotals replies.now result total }
 {
-    let count = replies.len();
-    Loaded {
-        rows: row_count(&replies[count - 3].1),
-        total: sum_total(&replies[count - 2].1),
+    row_count(&replies[replies.len() - 3].1)
+}
+
+/// The sum that is there.
+fn sum_made(total: Option<u128>) -> u128
+    requires { (sum : ℕ) × (total ≡ Some sum) }
+    ensures { total ≡ Some result }
+{
+    match total {
+        Some(sum) => sum,
+        None => unreachable!(),
     }
 }
 
-/// What the last phase told, once all sessions of a new store have worked on a generated script.
+/// What was loaded, once all sessions of a new store have worked on a generated script, and its column was to be added up.
 fn load_told(
     seed: u64,
     keys: u32,
     sessions: u32,
     layout: &Layout,
     report: &Report,
+    total: Option<u128>,
     store: &Store,
     crew: &Crew,
 ) -> Loaded
@@ -93,18 +90,20 @@ fn load_told(
     requires few { keys ≤ 4096 }
     requires hosts { 0 < sessions }
     requires limits { layout.now.limits ≡ load_limits keys sessions }
-    requires worked { IsWorked layout.now (generated keys sessions seed) report.now store.now crew.now }
+    requires worked { IsWorkedTotal layout.now (generated keys sessions seed) 0 report.now total store.now crew.now }
     ensures { IsLoaded seed keys sessions result store.now crew.now }
 {
-    crew.seat.consider();
-    totals_told(report.replies.items())
+    Loaded {
+        rows: rows_told(report.replies.items()),
+        total: sum_made(total),
+    }
 }
 
-/// Lets all sessions of a new store work on the script that the seed generates for so many keys, as `work` does. Answers what the last phase told,
-/// the store, and its crew, which is gathered again.
+/// Lets all sessions of a new store work on the script that the seed generates for so many keys, and then adds up its column by all of them side by
+/// side, as `work_total` does. Answers the number of rows that the last phase told, the sum, the store, and its crew, which is gathered again.
 ///
-/// As many rows were told as there are keys, and 1,000 times as much as their sum, whatever the sessions' steps between each other; and the table
-/// that the store's commits make has so many rows, with that sum. The only error is want of memory. Nothing is
+/// As many rows were told as there are keys, and the sum is 1,000 times as much, whatever the sessions' steps between each other; the last phase told
+/// that sum too, and the table that the store's commits make has so many rows, with that sum. The only error is want of memory. Nothing is
 /// promised of when the call returns.
 pub fn load<R: Threads + Wait + Sync, G: Gate + Sync>(
     rt: &R,
@@ -122,7 +121,7 @@ pub fn load<R: Threads + Wait + Sync, G: Gate + Sync>(
 {
     let layout = load_layout(keys, sessions);
     let script = generate(alloc, seed, keys, sessions)?;
-    let (report, store, crew) = work(rt, alloc, &layout, &script, gate)?;
-    let loaded = load_told(seed, keys, sessions, &layout, &report, &store, &crew);
+    let (report, total, store, crew) = work_total(rt, alloc, &layout, &script, gate, 0)?;
+    let loaded = load_told(seed, keys, sessions, &layout, &report, total, &store, &crew);
     Ok((loaded, store, crew))
 }
