@@ -9,6 +9,7 @@ mod packs;
 mod phases;
 mod reports;
 mod runs;
+mod sums;
 mod works;
 
 use engines::engine;
@@ -22,6 +23,7 @@ use std::alloc::Global;
 use std::io;
 use std::sync::Wait;
 use std::thread::Threads;
+use sums::sums;
 use works::{task_of, works};
 
 /// A store of one session that may begin 65,535 transactions.
@@ -53,6 +55,8 @@ fn answer<R: Threads + Wait + Sync>(
         "drawn" => return engine(alloc, false, count).ok(),
         "plain" => return engine(alloc, true, count).ok(),
         "phases" => return phases(alloc, count).ok(),
+        "sums_1" => return sums(rt, alloc, 1, count).ok(),
+        "sums_4" => return sums(rt, alloc, 4, count).ok(),
         "made" => Task::Make,
         "printed" => Task::Print,
         "read" => Task::Read,

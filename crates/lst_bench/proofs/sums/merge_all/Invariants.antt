@@ -1,0 +1,5 @@
+use Rattle.lst_session.specs.Crews.{IsCrewOf}
+use Rattle.lst_bench.proofs.sums.merge_all.Given as goal
+
+abbrev pub invariant-loop-range : goal.invariant-loop-range
+invariant-loop-range l = IsCrewOf l.store l.crew

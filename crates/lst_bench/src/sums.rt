@@ -1,0 +1,180 @@
+//! Sums of a column over merged pages, by one session or by several side by side.
+ghost use Rattle.std.specs.Prelude.{◌≡◌, ◌≤◌, ◌<◌, ℕ, IfOk, IsTrue, length};
+ghost use Rattle.std.specs.List.{All};
+ghost use Rattle.lst_rule.specs.Rule.{knows};
+ghost use Rattle.lst_session.specs.Crews.{IsCrewOf};
+ghost use Rattle.lst_session.specs.Passes.{IsReady};
+ghost use Rattle.lst_work.specs.ParSums.{CanBeginAsOf, HaveSeenAlike};
+
+use lst_layout::Limits;
+use lst_model::{Key, OutOfMemory, Row, Time};
+use lst_rule::Store;
+use lst_session::{Crew, Session, open_crew};
+use lst_work::par_sum;
+use std::alloc::Global;
+use std::thread::Threads;
+
+/// How many ranges the store has, with a row on each record.
+const RANGES: u32 = 1024;
+
+/// The limits of a store for so many sessions.
+fn limits_for(sessions: u32) -> Limits {
+    Limits {
+        columns: 1,
+        ranges: RANGES,
+        tails: 256,
+        sessions,
+        txns: 65_535,
+        spare: 1,
+        indexed: 0,
+    }
+}
+
+/// Puts a row of a key, in the open transaction of session 0, and answers whether it was put.
+fn put(store: &Store, crew: &mut Crew, key: Key) -> bool
+    requires { IsCrewOf store.now crew.old }
+    ensures { IsCrewOf store.now crew.new }
+{
+    let mut row = Row::of_numbers(Default::default());
+    row.push(Some(key));
+    let limits = crew.seat.limits();
+    if limits.sessions == 0 || limits.columns as usize != row.len() {
+        return false;
+    }
+    crew.insert(store, 0, key, &row).is_ok()
+}
+
+/// Puts a row on each record, by one transaction of session 0, and answers whether it was committed.
+fn fill(store: &Store, crew: &mut Crew) -> bool
+    requires { IsCrewOf store.now crew.old }
+    ensures { IsCrewOf store.now crew.new }
+{
+    if crew.seat.limits().sessions == 0 || crew.begin(store, 0).is_err() {
+        return false;
+    }
+    for key in 0..u64::from(256 * RANGES) {
+        if !put(store, crew, key) {
+            return false;
+        }
+    }
+    crew.seat.limits().sessions > 0 && crew.commit(store, 0).is_ok()
+}
+
+/// Merges the page of each range.
+fn merge_all(store: &Store, crew: &mut Crew)
+    requires { IsCrewOf store.now crew.old }
+    ensures { IsCrewOf store.now crew.new }
+{
+    for range in 0..RANGES {
+        let limits = crew.seat.limits();
+        if range < limits.ranges && limits.columns > 0 {
+            crew.merge(store, range, 0);
+        }
+    }
+}
+
+/// Has each session come to know of what was committed, by a begin.
+fn hear(store: &Store, crew: &mut Crew, sessions: u32)
+    requires { IsCrewOf store.now crew.old }
+    ensures { IsCrewOf store.now crew.new }
+{
+    for s in 0..sessions {
+        if s < crew.seat.limits().sessions && crew.begin(store, s).is_ok() {
+            end(store, crew, s);
+        }
+    }
+}
+
+/// Ends a transaction of a session.
+fn end(store: &Store, crew: &mut Crew, s: u32)
+    requires { IsCrewOf store.now crew.old }
+    ensures { IsCrewOf store.now crew.new }
+{
+    if s < crew.seat.limits().sessions {
+        let _ = crew.abort(store, s);
+    }
+}
+
+/// Whether each session of the crew has seen so many commits.
+fn have_seen(store: &Store, crew: &Crew, time: Time) -> bool
+    requires { IsCrewOf store.now crew.now }
+    ensures { IsTrue result → (s : ℕ) → s < crew.now.seat.view.limits.sessions → time ≤ length (knows crew.now.seat.view s).seen }
+{
+    for s in 0..crew.seat.limits().sessions {
+        if crew.seat.seen(s) < time {
+            return false;
+        }
+    }
+    true
+}
+
+/// The sessions of a crew that is parted, each of which has seen the commits up to this time.
+fn parted(alloc: Global, store: &Store, crew: Crew, time: Time) -> Result<Vec<Session>, OutOfMemory>
+    requires { IsCrewOf store.now crew }
+    ensures ready { IfOk result (λ sessions. All (IsReady store.now) sessions.items) }
+    ensures alike { IfOk result (λ sessions. HaveSeenAlike time sessions.items) }
+{
+    if !have_seen(store, &crew, time) {
+        return Err(OutOfMemory);
+    }
+    crew.seat.consider();
+    match crew.part(alloc, store) {
+        Ok((sessions, _)) => Ok(sessions.into_vec()),
+        Err((_, OutOfMemory)) => Err(OutOfMemory),
+    }
+}
+
+/// Whether each of the sessions may begin a transaction as of a time.
+fn can_begin(store: &Store, sessions: &[Session], time: Time) -> bool
+    requires { All (IsReady store.now) sessions.now }
+    ensures { IsTrue result → All (CanBeginAsOf store.now time) sessions.now }
+{
+    for i in 0..sessions.len() {
+        let session = &sessions[i];
+        if !session.is_idle() || session.is_spent() || session.seen() < time {
+            return false;
+        }
+    }
+    true
+}
+
+/// The sum of the column by these sessions side by side, or 0 where one of them may not begin a transaction.
+fn total<R: Threads + Sync>(rt: &R, store: &Store, sessions: &mut [Session], time: Time) -> u128
+    requires ready { All (IsReady store.now) sessions.old }
+    requires alike { HaveSeenAlike time sessions.old }
+    ensures ready { All (IsReady store.now) sessions.new }
+    ensures alike { HaveSeenAlike time sessions.new }
+{
+    if sessions.is_empty()
+        || store.layout().limits.columns == 0
+        || !can_begin(store, sessions, time)
+    {
+        return 0;
+    }
+    par_sum(rt, store, sessions, time, 0)
+}
+
+/// Fills a store of so many sessions and merges its pages, has the sessions add up the column so often, and answers the last sum.
+pub fn sums<R: Threads + Sync>(
+    rt: &R,
+    alloc: Global,
+    sessions: u32,
+    count: u32,
+) -> Result<u64, OutOfMemory> {
+    let limits = limits_for(sessions);
+    let Ok(layout) = limits.check() else {
+        return Ok(0);
+    };
+    let (store, mut crew) = open_crew(alloc, &layout)?;
+    if !fill(&store, &mut crew) {
+        return Ok(0);
+    }
+    merge_all(&store, &mut crew);
+    hear(&store, &mut crew, sessions);
+    let mut sessions = parted(alloc, &store, crew, 1)?;
+    let mut sum = 0;
+    for _ in 0..count {
+        sum = total(rt, &store, sessions.as_mut_slice(), 1);
+    }
+    Ok((sum % (1 << 64)) as u64)
+}
