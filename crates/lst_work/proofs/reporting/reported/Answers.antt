@@ -13,7 +13,7 @@ returns-clause-reported c = record {
   stock = c.commits.ensures.session;
   history = c.in_ok-commits.ensures.all;
   tells = refl;
-  stamps = c.in_ok-history.ensures ∙ (ap (map stamp_of) c.in_ok-commits.ensures.ok ∙ stamps_bare (store_told c.commits.new.crew.seat.view).history);
+  stamps = c.in_ok-history.ensures ∙ (ap (map stamp_of) c.in_ok-commits.ensures.ok ∙ stamps_bare (store_told c.commits.new.self.seat.view).history);
 }
 
 pub returns-clause-seen : goal.returns-clause-seen
