@@ -1,5 +1,5 @@
 //! Scripts that the sessions of a store that opens run side by side: the texts of their replies compared, and where their workers were.
-ghost use Rattle.std.specs.Prelude.{◌≡◌, IsTrue, IfOk};
+ghost use Rattle.std.specs.Prelude.{◌≡◌, ◌<◌, IsTrue, IfOk};
 ghost use Rattle.std.specs.List.{All};
 ghost use Rattle.lst_layout.specs.Limits.{IsValid};
 ghost use Rattle.lst_model.specs.Lines.{CallFits, LineFits};
