@@ -2,4 +2,4 @@ use Rattle.lst_work.proofs.SeenAlike.{seen_alike_is_kept, summers_have_grown}
 use Rattle.lst_bench.proofs.sums.total.Goals as goal
 
 pub returns-clause-alike : goal.returns-clause-alike
-returns-clause-alike c = seen_alike_is_kept c.args.time c.args.sessions.now c.par_sum.new.sessions (summers_have_grown c.args.store.now c.args.sessions.now c.par_sum.new.sessions c.par_sum.ensures.sessions) c.requires.alike
+returns-clause-alike g c = seen_alike_is_kept c.args.time c.args.sessions.now c.par_sum.new.sessions (summers_have_grown c.args.store.now c.args.sessions.now c.par_sum.new.sessions c.par_sum.ensures.sessions) c.requires.alike
