@@ -171,10 +171,11 @@ pub fn sums<R: Threads + Sync>(
     }
     merge_all(&store, &mut crew);
     hear(&store, &mut crew, sessions);
-    let mut sessions = parted(alloc, &store, crew, 1)?;
+    let mut passes = parted(alloc, &store, crew, 1)?;
+    let summers = passes.as_mut_slice();
     let mut sum = 0;
     for _ in 0..count {
-        sum = total(rt, &store, sessions.as_mut_slice(), 1);
+        sum = total(rt, &store, summers, 1);
     }
     Ok((sum % (1 << 64)) as u64)
 }

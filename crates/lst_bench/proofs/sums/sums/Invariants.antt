@@ -4,4 +4,4 @@ use Rattle.lst_work.specs.ParSums.{HaveSeenAlike}
 use Rattle.lst_bench.proofs.sums.sums.Given as goal
 
 abbrev pub invariant-loop : goal.invariant-loop
-invariant-loop g l = All (IsReady l.store) l.sessions.items × HaveSeenAlike 1 l.sessions.items
+invariant-loop g l = All (IsReady l.store) l.summers × HaveSeenAlike 1 l.summers
