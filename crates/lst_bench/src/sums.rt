@@ -14,8 +14,8 @@ use lst_work::par_sum;
 use std::alloc::Global;
 use std::thread::Threads;
 
-/// How many ranges the store has, with a row on each record.
-const RANGES: u32 = 1024;
+/// How many ranges the store has, as many as one may have, with a row on each record.
+const RANGES: u32 = 64;
 
 /// The limits of a store for so many sessions.
 fn limits_for(sessions: u32) -> Limits {
