@@ -1,14 +1,12 @@
 //! Lines of two sessions, each at a seat of its own.
-//!
-//! A script is a table of plain values, and one function makes its calls: the proof of a function grows faster than its calls.
-ghost use Rattle.std.specs.Prelude.{◌≡◌, IfOk, IsTrue};
+ghost use Rattle.std.specs.Prelude.{◌≡◌, IfOk, length};
 ghost use Rattle.std.specs.List.{All};
-ghost use Rattle.lst_model.specs.Lines.{CallFits};
+ghost use Rattle.lst_model.specs.Lines.{CallFits, IsPatch};
 ghost use Rattle.lst_session.specs.Passes.{IsReady};
 
 use crate::line_reply;
 use lst_layout::Limits;
-use lst_model::{Call, Cause, Key, KeyList, OutOfMemory, Patch, Reply, Row, RowList, Time};
+use lst_model::{Call, Cause, KeyList, OutOfMemory, Patch, Reply, Row, RowList};
 use lst_rule::Store;
 use lst_session::{CommitLock, Session, Sessions, open_crew};
 use std::alloc::Global;
@@ -69,47 +67,10 @@ fn open_pair(alloc: Global) -> Result<Pair, Fail> {
     })
 }
 
-/// A session's call, as a value that is copied.
-#[derive(Clone, Copy)]
-enum Asked {
-    Begin,
-    AsOf(Time),
-    Get(Key),
-    Insert(Key, u64, u64),
-    /// It makes the second column null.
-    Empty(Key),
-    Delete(Key),
-    Sum(u32),
-    Count,
-    Scan,
-    Find(u32, u64),
-    Commit,
-    Abort,
-}
-
-/// A reply, as a value that is copied.
-#[derive(Clone, Copy)]
-enum Told {
-    Begun(Time),
-    Done,
-    Row(u64, u64),
-    Absent,
-    Sum(u128),
-    Count(u64),
-    /// One key.
-    Key(Key),
-    /// One row, by its key and its cells.
-    Rows(Key, u64, u64),
-    Committed(Time),
-    Ended(Time),
-    Aborted,
-    Refused(Cause),
-}
-
-/// A session by its number, its call, and the reply.
-type Step = (u32, Asked, Told);
-
-fn row(first: u64, second: u64) -> Row {
+/// A row of two cells.
+fn row(first: u64, second: u64) -> Row
+    ensures { length result ≡ 2 }
+{
     let mut row = Row::of_numbers(Default::default());
     row.push(Some(first));
     row.push(Some(second));
@@ -117,78 +78,26 @@ fn row(first: u64, second: u64) -> Row {
 }
 
 /// Makes the second column null.
-fn patch() -> Patch {
+fn patch() -> Patch
+    ensures { IsPatch 2 result }
+{
     let mut patch = Patch::of_numbers(Default::default());
     patch.push(None);
     patch.push(Some(None));
     patch
 }
 
-fn call_of(asked: Asked) -> Call {
-    match asked {
-        Asked::Begin => Call::Begin,
-        Asked::AsOf(time) => Call::AsOf { time },
-        Asked::Get(key) => Call::Get { key },
-        Asked::Insert(key, first, second) => Call::Insert {
-            key,
-            row: row(first, second),
-        },
-        Asked::Empty(key) => Call::Update {
-            key,
-            patch: patch(),
-        },
-        Asked::Delete(key) => Call::Delete { key },
-        Asked::Sum(column) => Call::Sum { column },
-        Asked::Count => Call::Count,
-        Asked::Scan => Call::Scan,
-        Asked::Find(column, value) => Call::Find { column, value },
-        Asked::Commit => Call::Commit,
-        Asked::Abort => Call::Abort,
-    }
-}
-
-/// One row.
-fn row_list(alloc: Global, key: Key, first: u64, second: u64) -> Result<Reply, OutOfMemory> {
-    let list = RowList::from_items(vec![in alloc; (key, row(first, second))]?);
-    Ok(Reply::Rows { list })
-}
-
-/// One key.
-fn key_list(alloc: Global, key: Key) -> Result<Reply, OutOfMemory> {
-    let list = KeyList::from_items(vec![in alloc; key]?);
-    Ok(Reply::Keys { list })
-}
-
-fn reply_of(alloc: Global, told: Told) -> Result<Reply, OutOfMemory> {
-    match told {
-        Told::Begun(time) => Ok(Reply::Begun { time }),
-        Told::Done => Ok(Reply::Done),
-        Told::Row(first, second) => Ok(Reply::Row {
-            row: row(first, second),
-        }),
-        Told::Absent => Ok(Reply::Absent),
-        Told::Sum(total) => Ok(Reply::Sum { total }),
-        Told::Count(rows) => Ok(Reply::Count { rows }),
-        Told::Key(key) => key_list(alloc, key),
-        Told::Rows(key, first, second) => row_list(alloc, key, first, second),
-        Told::Committed(time) => Ok(Reply::Committed { time }),
-        Told::Ended(time) => Ok(Reply::Ended { time }),
-        Told::Aborted => Ok(Reply::Aborted),
-        Told::Refused(cause) => Ok(Reply::Refused { cause }),
-    }
-}
-
-/// Whether a store with two columns takes a call.
-fn fits(call: &Call) -> bool
-    ensures { IsTrue result → CallFits 2 call.now }
+fn insert(key: u64, first: u64, second: u64) -> Call
+    ensures { CallFits 2 result }
 {
-    match call {
-        Call::Insert { row, .. } => row.len() == 2,
-        Call::Update { patch, .. } => { patch.len() == 2 && patch.sets_some() }
-        Call::Sum { column } => *column < 2,
-        Call::Find { column, .. } => *column < 2,
-        _ => true,
+    Call::Insert {
+        key,
+        row: row(first, second),
     }
+}
+
+fn refused(cause: Cause) -> Reply {
+    Reply::Refused { cause }
 }
 
 /// The reply to a call of the session of this number, of which there are 0 and 1.
@@ -206,116 +115,121 @@ fn answer(
     line_reply(rt, rt.alloc(), &on.store, &mut on.second, &on.lock, call)
 }
 
-/// The calls of a script, and their replies compared.
-fn play(
+/// The session answers the call so.
+fn answers(
     rt: &(impl Abort + AllocGlobal + Wait),
     on: &mut Pair,
-    script: &[Step],
-) -> Result<(), Fail> {
-    for &(s, asked, told) in script {
-        let call = call_of(asked);
-        assert!(rt; fits(&call));
-        let answer = answer(rt, on, s, &call);
-        let wanted = reply_of(rt.alloc(), told)?;
-        assert_eq!(rt; answer, Ok(wanted), "session {s}, {call:?}");
-    }
+    s: u32,
+    call: Call,
+    reply: Reply,
+) -> Result<(), Fail>
+    requires { CallFits 2 call }
+{
+    let told = answer(rt, on, s, &call);
+    assert_eq!(rt; told, Ok(reply), "session {s}, {call:?}");
     Ok(())
 }
 
 /// Session 0 commits a row at time 1, while session 1 has a transaction open that began before.
-const COMMITS_MEANWHILE: [Step; 13] = [
-    (0, Asked::Begin, Told::Begun(0)),
-    (0, Asked::Begin, Told::Refused(Cause::Active)),
-    (0, Asked::Insert(7, 5, 3), Told::Done),
-    (0, Asked::Insert(7, 6, 4), Told::Refused(Cause::Exists)),
-    (1, Asked::Get(7), Told::Refused(Cause::Idle)),
-    (1, Asked::Begin, Told::Begun(0)),
-    (1, Asked::Get(7), Told::Absent),
-    (
+fn commits_meanwhile(rt: &(impl Abort + AllocGlobal + Wait), on: &mut Pair) -> Result<(), Fail> {
+    let unfinished = Cause::Unfinished {
+        session: 0,
+        number: 1,
+    };
+    answers(rt, on, 0, Call::Begin, Reply::Begun { time: 0 })?;
+    answers(rt, on, 0, Call::Begin, refused(Cause::Active))?;
+    answers(rt, on, 0, insert(7, 5, 3), Reply::Done)?;
+    answers(rt, on, 0, insert(7, 6, 4), refused(Cause::Exists))?;
+    answers(rt, on, 1, Call::Get { key: 7 }, refused(Cause::Idle))?;
+    answers(rt, on, 1, Call::Begin, Reply::Begun { time: 0 })?;
+    answers(rt, on, 1, Call::Get { key: 7 }, Reply::Absent)?;
+    answers(rt, on, 1, insert(7, 6, 4), refused(unfinished))?;
+    answers(rt, on, 0, Call::Commit, Reply::Committed { time: 1 })?;
+    answers(
+        rt,
+        on,
         1,
-        Asked::Insert(7, 6, 4),
-        Told::Refused(Cause::Unfinished {
-            session: 0,
-            number: 1,
-        }),
-    ),
-    (0, Asked::Commit, Told::Committed(1)),
-    (
-        1,
-        Asked::Insert(7, 6, 4),
-        Told::Refused(Cause::Newer { time: 1 }),
-    ),
-    (1, Asked::Count, Told::Count(0)),
-    (1, Asked::Delete(8), Told::Refused(Cause::Missing)),
-    (1, Asked::Commit, Told::Ended(0)),
-];
+        insert(7, 6, 4),
+        refused(Cause::Newer { time: 1 }),
+    )?;
+    answers(rt, on, 1, Call::Count, Reply::Count { rows: 0 })?;
+    answers(rt, on, 1, Call::Delete { key: 8 }, refused(Cause::Missing))?;
+    answers(rt, on, 1, Call::Commit, Reply::Ended { time: 0 })
+}
 
 /// Session 1 reads what session 0 has committed, in a transaction as of then.
-const READS_AS_OF_THEN: [Step; 9] = [
-    (1, Asked::AsOf(2), Told::Refused(Cause::Future { clock: 1 })),
-    (1, Asked::AsOf(1), Told::Begun(1)),
-    (1, Asked::Get(7), Told::Row(5, 3)),
-    (1, Asked::Delete(7), Told::Refused(Cause::ReadOnly)),
-    (1, Asked::Sum(1), Told::Sum(3)),
-    (1, Asked::Scan, Told::Rows(7, 5, 3)),
-    (1, Asked::Find(1, 3), Told::Key(7)),
-    (1, Asked::Find(0, 5), Told::Refused(Cause::NotIndexed)),
-    (1, Asked::Commit, Told::Ended(1)),
-];
+fn reads_as_of_then(rt: &(impl Abort + AllocGlobal + Wait), on: &mut Pair) -> Result<(), Fail> {
+    let alloc = rt.alloc();
+    let rows = RowList::from_items(vec![in alloc; (7, row(5, 3))]?);
+    let keys = KeyList::from_items(vec![in alloc; 7]?);
+    let indexed = Call::Find {
+        column: 1,
+        value: 3,
+    };
+    let other = Call::Find {
+        column: 0,
+        value: 5,
+    };
+    let early = Cause::Future { clock: 1 };
+    answers(rt, on, 1, Call::AsOf { time: 2 }, refused(early))?;
+    answers(rt, on, 1, Call::AsOf { time: 1 }, Reply::Begun { time: 1 })?;
+    answers(
+        rt,
+        on,
+        1,
+        Call::Get { key: 7 },
+        Reply::Row { row: row(5, 3) },
+    )?;
+    answers(rt, on, 1, Call::Delete { key: 7 }, refused(Cause::ReadOnly))?;
+    answers(rt, on, 1, Call::Sum { column: 1 }, Reply::Sum { total: 3 })?;
+    answers(rt, on, 1, Call::Scan, Reply::Rows { list: rows })?;
+    answers(rt, on, 1, indexed, Reply::Keys { list: keys })?;
+    answers(rt, on, 1, other, refused(Cause::NotIndexed))?;
+    answers(rt, on, 1, Call::Commit, Reply::Ended { time: 1 })
+}
 
 /// Session 1 gives its last transaction up, and session 0 takes the row away.
-const GIVES_UP: [Step; 11] = [
-    (1, Asked::Begin, Told::Begun(1)),
-    (1, Asked::Empty(7), Told::Done),
-    (1, Asked::Sum(1), Told::Sum(0)),
-    (0, Asked::Begin, Told::Begun(1)),
-    (
-        0,
-        Asked::Delete(7),
-        Told::Refused(Cause::Unfinished {
-            session: 1,
-            number: 3,
-        }),
-    ),
-    (1, Asked::Abort, Told::Aborted),
-    (0, Asked::Delete(7), Told::Done),
-    (0, Asked::Get(7), Told::Absent),
-    (0, Asked::Commit, Told::Committed(2)),
-    (1, Asked::Begin, Told::Refused(Cause::Spent)),
-    (1, Asked::Abort, Told::Refused(Cause::Idle)),
-];
+fn gives_up(rt: &(impl Abort + AllocGlobal + Wait), on: &mut Pair) -> Result<(), Fail> {
+    let update = Call::Update {
+        key: 7,
+        patch: patch(),
+    };
+    let unfinished = Cause::Unfinished {
+        session: 1,
+        number: 3,
+    };
+    answers(rt, on, 1, Call::Begin, Reply::Begun { time: 1 })?;
+    answers(rt, on, 1, update, Reply::Done)?;
+    answers(rt, on, 1, Call::Sum { column: 1 }, Reply::Sum { total: 0 })?;
+    answers(rt, on, 0, Call::Begin, Reply::Begun { time: 1 })?;
+    answers(rt, on, 0, Call::Delete { key: 7 }, refused(unfinished))?;
+    answers(rt, on, 1, Call::Abort, Reply::Aborted)?;
+    answers(rt, on, 0, Call::Delete { key: 7 }, Reply::Done)?;
+    answers(rt, on, 0, Call::Get { key: 7 }, Reply::Absent)?;
+    answers(rt, on, 0, Call::Commit, Reply::Committed { time: 2 })?;
+    answers(rt, on, 1, Call::Begin, refused(Cause::Spent))?;
+    answers(rt, on, 1, Call::Abort, refused(Cause::Idle))
+}
 
 #[test]
 fn two_sessions_answer_their_lines(rt: HostRuntime) -> Result<(), Fail> {
     let mut on = open_pair(rt.alloc())?;
-    play(&rt, &mut on, &COMMITS_MEANWHILE)?;
-    play(&rt, &mut on, &READS_AS_OF_THEN)?;
-    play(&rt, &mut on, &GIVES_UP)
+    commits_meanwhile(&rt, &mut on)?;
+    reads_as_of_then(&rt, &mut on)?;
+    gives_up(&rt, &mut on)
 }
 
 /// With `rt try --test --fail-alloc 14` the list is refused, and else it isn't. The transaction goes on as if it had not been asked for.
 #[test]
 fn a_refused_list_leaves_the_session(rt: HostRuntime) -> Result<(), Fail> {
     let mut on = open_pair(rt.alloc())?;
-    let rows = row_list(rt.alloc(), 7, 5, 3)?;
-    play(
-        &rt,
-        &mut on,
-        &[
-            (0, Asked::Begin, Told::Begun(0)),
-            (0, Asked::Insert(7, 5, 3), Told::Done),
-        ],
-    )?;
+    let rows = RowList::from_items(vec![in rt.alloc(); (7, row(5, 3))]?);
+    answers(&rt, &mut on, 0, Call::Begin, Reply::Begun { time: 0 })?;
+    answers(&rt, &mut on, 0, insert(7, 5, 3), Reply::Done)?;
     let told = answer(&rt, &mut on, 0, &Call::Scan);
-    assert!(rt; told == Ok(rows) || told == Err(OutOfMemory));
-    play(
-        &rt,
-        &mut on,
-        &[
-            (0, Asked::Count, Told::Count(1)),
-            (0, Asked::Commit, Told::Committed(1)),
-            (1, Asked::Begin, Told::Begun(1)),
-            (1, Asked::Count, Told::Count(1)),
-        ],
-    )
+    assert!(rt; told == Ok(Reply::Rows { list: rows }) || told == Err(OutOfMemory));
+    answers(&rt, &mut on, 0, Call::Count, Reply::Count { rows: 1 })?;
+    answers(&rt, &mut on, 0, Call::Commit, Reply::Committed { time: 1 })?;
+    answers(&rt, &mut on, 1, Call::Begin, Reply::Begun { time: 1 })?;
+    answers(&rt, &mut on, 1, Call::Count, Reply::Count { rows: 1 })
 }
