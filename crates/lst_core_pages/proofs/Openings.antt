@@ -9,11 +9,11 @@ use Rattle.lst_layout.specs.Words.{IsOpening}
 use Rattle.lst_layout.proofs.Openings.{opening_is_shown}
 use Rattle.lst_pages.specs.declared.tails.PageTail.{PageTail}
 use Rattle.lst_core_pages.specs.declared.hands.PageId.{PageId}
-use Rattle.lst_page_state.specs.State.{empty_hand, opening_reader, opening}
-use Rattle.lst_page_state.specs.Sound.{Sound}
+use Rattle.lst_pages.specs.State.{empty_hand, opening_reader, opening}
+use Rattle.lst_pages.specs.Sound.{Sound}
 use Rattle.lst_core_pages.specs.Cells.{Queue, Cells, opening_queue, filled, reader_of, state_of, pages_of, IsCore}
-use Rattle.lst_page_state.proofs.Functions.{get-replicate}
-use Rattle.lst_page_state.proofs.Starts.{number_page, page_low, start_sound}
+use Rattle.lst_pages.proofs.Functions.{get-replicate}
+use Rattle.lst_pages.proofs.Starts.{number_page, page_low, start_sound}
 use Rattle.lst_core_pages.proofs.Steppings.{filled-empty}
 use Rattle.lst_core_pages.proofs.Readings.{written_back}
 

@@ -14,19 +14,19 @@ use Rattle.lst_layout.specs.Words.{word_at, shown}
 use Rattle.lst_layout.proofs.Apart.{below}
 use Rattle.lst_layout.proofs.Shown.{areas_are_shown}
 use Rattle.lst_pages.specs.declared.tails.PageTail.{PageTail}
-use Rattle.lst_page_state.specs.declared.events.PageEvent.{PageEvent}
-use Rattle.lst_page_state.specs.declared.events.PageEvent.TheVariants.{Pin, Unpin, LookPage, LookPin, StoreFrame, Swap, Raise}
+use Rattle.lst_pages.specs.declared.events.PageEvent.{PageEvent}
+use Rattle.lst_pages.specs.declared.events.PageEvent.TheVariants.{Pin, Unpin, LookPage, LookPin, StoreFrame, Swap, Raise}
 use Rattle.lst_core_pages.specs.declared.hands.PageId.{PageId}
 use Rattle.lst_core_state.specs.declared.pages.Retired.{Retired}
-use Rattle.lst_page_state.specs.declared.numbers.MergerNumbers.{MergerNumbers}
-use Rattle.lst_page_state.specs.Lists.{HasFirst}
-use Rattle.lst_page_state.specs.Step.{IsWithin, Enabled, place_of}
-use Rattle.lst_page_state.specs.Numbers.{IsWritable, written_of}
-use Rattle.lst_page_state.specs.Sound.{IsPage, late, Sound}
+use Rattle.lst_pages.specs.declared.numbers.MergerNumbers.{MergerNumbers}
+use Rattle.lst_pages.specs.Lists.{HasFirst}
+use Rattle.lst_pages.specs.Step.{IsWithin, Enabled, place_of}
+use Rattle.lst_pages.specs.Numbers.{IsWritable, written_of}
+use Rattle.lst_pages.specs.Sound.{IsPage, late, Sound}
 use Rattle.lst_core_pages.specs.Cells.{Queue, Cells, pages_of, IsCore, found_in, numbers_in, hands_after, HandsFit, queue_after, QueueFits, stepped}
-use Rattle.lst_page_state.proofs.Safety.{epoch_low}
-use Rattle.lst_page_state.proofs.Tellings.{fits_law}
-use Rattle.lst_page_state.proofs.Moves.{built_is}
+use Rattle.lst_pages.proofs.Safety.{epoch_low}
+use Rattle.lst_pages.proofs.Tellings.{fits_law}
+use Rattle.lst_pages.proofs.Moves.{built_is}
 use Rattle.lst_core_pages.proofs.Steppings.{hand_in_is, hand_long, in_hands, word_within, found_is, step_core}
 
 -- few frames

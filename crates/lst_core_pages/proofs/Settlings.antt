@@ -3,7 +3,7 @@ use Rattle.std.proofs.Common.{◌≡◌, ℕ, ◌<◌, List, [], ◌∷◌, ◌+
 use Rattle.std.proofs.lemmas.List.{get_or_default, set-get_or}
 use Rattle.lst_model.specs.declared.memory.OutOfMemory.{OutOfMemory}
 use Rattle.lst_pages.specs.declared.tails.PageTail.{PageTail}
-use Rattle.lst_page_state.specs.Step.{settled}
+use Rattle.lst_pages.specs.Step.{settled}
 use Rattle.lst_core_pages.specs.Cells.{Cells, IsCore, pages_of, settled_in}
 use Rattle.lst_core_pages.proofs.Steppings.{settle_state, settle_core}
 

@@ -1,8 +1,8 @@
 -- The frames that are spare when a store opens, one after the other.
 use Rattle.std.proofs.Common.{◌≡◌, ℕ, zero, suc, ◌+◌, List, [], ◌∷◌, ◌++◌, add-one, ap, ◌∙◌, arith, length}
 use Rattle.lst_core_state.specs.declared.pages.Retired.{Retired}
-use Rattle.lst_page_state.specs.State.{retired_at, spares}
-use Rattle.lst_page_state.proofs.Starts.{length-spares}
+use Rattle.lst_pages.specs.State.{retired_at, spares}
+use Rattle.lst_pages.proofs.Starts.{length-spares}
 
 pub spares_long : (f n : ℕ) → length (spares f n) ≡ n
 spares_long f n = length-spares f n

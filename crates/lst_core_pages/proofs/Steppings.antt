@@ -13,21 +13,21 @@ use Rattle.lst_layout.specs.Words.{Words, word_at, shown, IsShown}
 use Rattle.lst_layout.proofs.Functions.{put_here, put_else, put_in_other}
 use Rattle.lst_layout.proofs.Shown.{areas_are_shown}
 use Rattle.lst_pages.specs.declared.tails.PageTail.{PageTail}
-use Rattle.lst_page_state.specs.declared.events.PageEvent.{PageEvent}
-use Rattle.lst_page_state.specs.declared.events.PageEvent.TheVariants.{Pin, Unpin, LookPage, LookPin, StoreFrame, Swap, Raise}
+use Rattle.lst_pages.specs.declared.events.PageEvent.{PageEvent}
+use Rattle.lst_pages.specs.declared.events.PageEvent.TheVariants.{Pin, Unpin, LookPage, LookPin, StoreFrame, Swap, Raise}
 use Rattle.lst_core_pages.specs.declared.hands.PageId.{PageId}
 use Rattle.lst_core_state.specs.declared.pages.PageInHand.{PageInHand}
 use Rattle.lst_core_state.specs.declared.pages.SessionFrames.{SessionFrames}
-use Rattle.lst_page_state.specs.Lists.{rest, listed}
-use Rattle.lst_page_state.specs.State.{Pages, empty_hand, oldest_epoch, frame_in}
-use Rattle.lst_page_state.specs.Step.{IsWithin, Enabled, lets_go, place_of, with_page, page_at, words_after, after, settled}
-use Rattle.lst_page_state.specs.Numbers.{written_of}
-use Rattle.lst_page_state.specs.Sound.{Sound}
+use Rattle.lst_pages.specs.Lists.{rest, listed}
+use Rattle.lst_pages.specs.State.{Pages, empty_hand, oldest_epoch, frame_in}
+use Rattle.lst_pages.specs.Step.{IsWithin, Enabled, lets_go, place_of, with_page, page_at, words_after, after, settled}
+use Rattle.lst_pages.specs.Numbers.{written_of}
+use Rattle.lst_pages.specs.Sound.{Sound}
 use Rattle.lst_core_pages.specs.Cells.{Cells, page_of, filled, hand_at, reader_of, state_of, pages_of, unheld, IsCore, page_id, hand_in, found_in, numbers_in, hands_after, queue_after, stepped, settled_in}
-use Rattle.lst_page_state.proofs.Functions.{rows-put}
-use Rattle.lst_page_state.proofs.Safety.{keeps, sound_safe}
-use Rattle.lst_page_state.proofs.Keeps.{settle_keeps}
-use Rattle.lst_page_state.proofs.Tellings.{words_law}
+use Rattle.lst_pages.proofs.Functions.{rows-put}
+use Rattle.lst_pages.proofs.Safety.{keeps, sound_safe}
+use Rattle.lst_pages.proofs.Keeps.{settle_keeps}
+use Rattle.lst_pages.proofs.Tellings.{words_law}
 
 -- ---- hands
 

@@ -6,19 +6,19 @@ use Rattle.lst_layout.specs.Addresses.{address}
 use Rattle.lst_layout.specs.Areas.{page_count, frame_count, words_of, directory_start}
 use Rattle.lst_layout.specs.Words.{Words, shown}
 use Rattle.lst_pages.specs.declared.tails.PageTail.{PageTail}
-use Rattle.lst_page_state.specs.declared.events.PageEvent.{PageEvent}
-use Rattle.lst_page_state.specs.declared.events.PageEvent.TheVariants.{Pin, Unpin, LookPage, LookPin, StoreFrame, Swap, Raise}
+use Rattle.lst_pages.specs.declared.events.PageEvent.{PageEvent}
+use Rattle.lst_pages.specs.declared.events.PageEvent.TheVariants.{Pin, Unpin, LookPage, LookPin, StoreFrame, Swap, Raise}
 use Rattle.lst_core_state.specs.declared.pages.PageInHand.{PageInHand}
 use Rattle.lst_core_state.specs.declared.pages.SessionFrames.{SessionFrames}
 use Rattle.lst_core_state.specs.declared.pages.Retired.{Retired}
 use Rattle.lst_core_state.specs.declared.pages.MergerFrames.{MergerFrames}
 use Rattle.lst_core_pages.specs.declared.hands.PageId.{PageId}
-use Rattle.lst_page_state.specs.declared.numbers.MergerNumbers.{MergerNumbers}
-use Rattle.lst_page_state.specs.Lists.{rest, listed, rows_of}
-use Rattle.lst_page_state.specs.State.{Pages, empty_hand, nobody_clear, oldest_epoch, retired_at, spares, frame_in}
-use Rattle.lst_page_state.specs.Step.{lets_go, place_of}
-use Rattle.lst_page_state.specs.Numbers.{written_of}
-use Rattle.lst_page_state.specs.Sound.{Sound}
+use Rattle.lst_pages.specs.declared.numbers.MergerNumbers.{MergerNumbers}
+use Rattle.lst_pages.specs.Lists.{rest, listed, rows_of}
+use Rattle.lst_pages.specs.State.{Pages, empty_hand, nobody_clear, oldest_epoch, retired_at, spares, frame_in}
+use Rattle.lst_pages.specs.Step.{lets_go, place_of}
+use Rattle.lst_pages.specs.Numbers.{written_of}
+use Rattle.lst_pages.specs.Sound.{Sound}
 
 -- the retired frames, oldest first, and how far the oldest is on its way to be used again
 pub record Queue : Type 0 where

@@ -3,7 +3,7 @@ ghost use Rattle.std.specs.Prelude.{◌≡◌, ◌<◌, ◌+◌, Some, None, len
 ghost use Rattle.lst_core_pages.specs.Cells as spec;
 
 use lst_model::OutOfMemory;
-use lst_page_state::PageEvent;
+use lst_pages::PageEvent;
 use std::alloc::Global;
 use std::marker::Model;
 

@@ -1,6 +1,6 @@
 //! The executable page core: a state of frames, pins and base pages that makes single atomic steps.
 //!
-//! `PageCore` holds a state of `lst_page_state`, and answers each step exactly where it may be made.
+//! `PageCore` holds a state of `lst_pages`, and answers each step exactly where it may be made.
 #![tactic(auto)]
 
 mod hands;

@@ -5,17 +5,16 @@ ghost use Rattle.lst_layout.specs.Words.{word_at};
 ghost use Rattle.lst_pages.specs.declared.tails.PageTail.{PageTail};
 ghost use Rattle.lst_core_pages.specs.Cells as spec;
 ghost use Rattle.lst_core_pages.specs.Cells.{pages_of, unheld};
-ghost use Rattle.lst_page_state.specs.Sound.{IsPage, Sound};
-ghost use Rattle.lst_page_state.specs.State.{opening};
-ghost use Rattle.lst_page_state.specs.Step.{IsWithin, MaySwap, Enabled, place_of, after, settled};
+ghost use Rattle.lst_pages.specs.Sound.{IsPage, Sound};
+ghost use Rattle.lst_pages.specs.State.{opening};
+ghost use Rattle.lst_pages.specs.Step.{IsWithin, MaySwap, Enabled, place_of, after, settled};
 
 use crate::hands::{Hand, PageId};
 use crate::queue::FrameQueue;
 use crate::tails::TailList;
 use lst_layout::{FRAME_WORDS, Layout, opening_words};
 use lst_model::OutOfMemory;
-use lst_page_state::{MergerNumbers, PageEvent, target, written};
-use lst_pages::{PageTail, is_right};
+use lst_pages::{MergerNumbers, PageEvent, PageTail, is_right, target, written};
 use std::alloc::Global;
 use std::marker::Model;
 

@@ -2,14 +2,14 @@
 ghost use Rattle.std.specs.Prelude.{◌≡◌, ◌<◌, ◌≤◌, ◌+◌, ◌^◌, ◌↔◌, ℕ, IfOk, IsTrue, Some, None, true, false, length, slice_index_or, replicate};
 ghost use Rattle.lst_layout.specs.Limits.{IsValid};
 ghost use Rattle.lst_core_pages.specs.Cells as spec;
-ghost use Rattle.lst_page_state.specs.Lists.{HasFirst};
-ghost use Rattle.lst_page_state.specs.State as state;
+ghost use Rattle.lst_pages.specs.Lists.{HasFirst};
+ghost use Rattle.lst_pages.specs.State as state;
 
 use arrayvec::ArrayVec;
 use lst_core_state::Retired;
 use lst_layout::Limits;
 use lst_model::OutOfMemory;
-use lst_page_state::{PageEvent, lets_go};
+use lst_pages::{PageEvent, lets_go};
 use std::alloc::Global;
 use std::marker::Model;
 

@@ -1,14 +1,13 @@
 //! The page core run on worked steps, and on drawn ones beside a plain recomputation.
 ghost use Rattle.std.specs.Prelude.{◌≡◌, ◌<◌};
-ghost use Rattle.lst_page_state.specs.Step.{IsWithin};
+ghost use Rattle.lst_pages.specs.Step.{IsWithin};
 
 use crate::{NotEnabled, PageCore};
 use arrayvec::ArrayVec;
 use lst_bits::Kind;
 use lst_layout::{FRAME_NULLS, FRAME_TIMES, FRAME_VALUES, FRAME_WORDS, Limits, RANGE_RECORDS};
 use lst_model::{OutOfMemory, Row};
-use lst_page_state::PageEvent;
-use lst_pages::PageTail;
+use lst_pages::{PageEvent, PageTail};
 use std::alloc::Global;
 use std::test::Fail;
 

@@ -24,14 +24,14 @@ use Rattle.lst_pages.specs.Entries.{blank, entry_by, folded}
 use Rattle.lst_pages.specs.Frames.{tps_in, stamp_in}
 use Rattle.lst_pages.specs.Chains.{Told}
 use Rattle.lst_pages.specs.Pages.{IsRightPage}
-use Rattle.lst_page_state.specs.Settled.{tail_in, settled_tails}
-use Rattle.lst_page_state.specs.Laws.{AreNumbered}
-use Rattle.lst_page_state.specs.Sound.{IsPage}
-use Rattle.lst_page_state.specs.Known.{PagesSound, pages_in}
-use Rattle.lst_page_state.proofs.Growing.{settled_says}
-use Rattle.lst_page_state.proofs.Numbering.{settled_are_numbered}
-use Rattle.lst_page_state.proofs.Safety.{sound_known}
-use Rattle.lst_page_state.specs.Runs.{tps_known}
+use Rattle.lst_pages.specs.Settled.{tail_in, settled_tails}
+use Rattle.lst_pages.specs.StateLaws.{AreNumbered}
+use Rattle.lst_pages.specs.Sound.{IsPage}
+use Rattle.lst_pages.specs.Known.{PagesSound, pages_in}
+use Rattle.lst_pages.proofs.Growing.{settled_says}
+use Rattle.lst_pages.proofs.Numbering.{settled_are_numbered}
+use Rattle.lst_pages.proofs.Safety.{sound_known}
+use Rattle.lst_pages.specs.Runs.{tps_known}
 use Rattle.lst_crew_state.specs.Crews.{IsCrew}
 use Rattle.lst_crew_state.specs.Telling.{accepted_at, accepted_first, told, pages_told, told_state}
 use Rattle.lst_crew_state.specs.Folding.{IsEndedBy, IsFolded, NeedsNoTail}

@@ -12,13 +12,13 @@ use Rattle.lst_core_state.specs.declared.known.Known.{Known}
 use Rattle.lst_core_state.specs.declared.pages.MergerFrames.{MergerFrames}
 use Rattle.lst_core_state.specs.declared.pages.Retired.{Retired}
 use Rattle.lst_core_state.specs.State.{Core}
-use Rattle.lst_page_state.specs.State.{oldest_epoch}
-use Rattle.lst_page_state.specs.Runs.{IsSafe, tps_known}
-use Rattle.lst_page_state.specs.Lists.{Every}
-use Rattle.lst_page_state.specs.Sound.{IsPage, late}
-use Rattle.lst_page_state.specs.Step.{lets_go}
-use Rattle.lst_page_state.specs.Known.{pages_in}
-use Rattle.lst_page_state.proofs.Safety.{sound_safe, sound_known}
+use Rattle.lst_pages.specs.State.{oldest_epoch}
+use Rattle.lst_pages.specs.Runs.{IsSafe, tps_known}
+use Rattle.lst_pages.specs.Lists.{Every}
+use Rattle.lst_pages.specs.Sound.{IsPage, late}
+use Rattle.lst_pages.specs.Step.{lets_go}
+use Rattle.lst_pages.specs.Known.{pages_in}
+use Rattle.lst_pages.proofs.Safety.{sound_safe, sound_known}
 use Rattle.lst_crew_state.specs.Crews.{IsCrew, IsPinnedCrew}
 use Rattle.lst_crew_state.specs.Telling.{opened_of, told, told_pages, pages_told}
 use Rattle.lst_crew_state.specs.Effects.{SamePinEach, SameStock, HasSwapped}

@@ -22,12 +22,12 @@ use Rattle.lst_core_state.specs.declared.known.Known.{Known}
 use Rattle.lst_core_state.specs.declared.pages.MergerFrames.{MergerFrames}
 use Rattle.lst_core_state.specs.State.{newcomer}
 use Rattle.lst_core_state.specs.Pages.{no_pages}
-use Rattle.lst_page_state.specs.State.{opening_merger}
-use Rattle.lst_page_state.specs.State as page_state
-use Rattle.lst_page_state.specs.Runs.{frame_known, IsSafe, IsKnown, tps_known}
-use Rattle.lst_page_state.specs.Sound.{IsPage}
-use Rattle.lst_page_state.proofs.Starts.{start_sound}
-use Rattle.lst_page_state.proofs.Safety.{sound_safe, sound_known}
+use Rattle.lst_pages.specs.State.{opening_merger}
+use Rattle.lst_pages.specs.State as page_state
+use Rattle.lst_pages.specs.Runs.{frame_known, IsSafe, IsKnown, tps_known}
+use Rattle.lst_pages.specs.Sound.{IsPage}
+use Rattle.lst_pages.proofs.Starts.{start_sound}
+use Rattle.lst_pages.proofs.Safety.{sound_safe, sound_known}
 use Rattle.lst_crew_state.specs.Telling.{told_pages}
 use Rattle.lst_crew_state.specs.Effects.{SamePinBut, SameStock, begins_or_ends}
 use Rattle.lst_crew_state.specs.Laws.{OpeningPagesAreTold, PinsAndPagesAreTold, PinnedBeginsAreTold, PinnedEndsAreTold, OtherCallsLeavePages}

@@ -12,9 +12,9 @@ use Rattle.lst_machine.specs.Writes.{time_of}
 use Rattle.lst_machine.specs.Merges as machine
 use Rattle.lst_machine.specs.Merges.{settled_count}
 use Rattle.lst_core_state.specs.State.{Words, Core, writer_at, state_at}
-use Rattle.lst_page_state.specs.Settled.{is_settled, settled_tails}
-use Rattle.lst_page_state.specs.Laws.{AreNumbered}
-use Rattle.lst_page_state.proofs.Numbering.{settled_are_numbered}
+use Rattle.lst_pages.specs.Settled.{is_settled, settled_tails}
+use Rattle.lst_pages.specs.StateLaws.{AreNumbered}
+use Rattle.lst_pages.proofs.Numbering.{settled_are_numbered}
 use Rattle.lst_crew_state.specs.Crews.{IsCrew}
 use Rattle.lst_crew_state.specs.Telling.{accepted_at, accepted_first, told}
 use Rattle.lst_crew_state.specs.Laws.{SettledAreTold}

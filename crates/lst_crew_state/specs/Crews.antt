@@ -5,7 +5,7 @@ use Rattle.lst_core_state.specs.Cells.{record_count}
 use Rattle.lst_core_state.specs.Index.{is_placed}
 use Rattle.lst_core_state.specs.State.{Core, no_hold, rank}
 use Rattle.lst_core_state.specs.Sound.{Sound}
-use Rattle.lst_page_state.specs.Known.{PagesSound}
+use Rattle.lst_pages.specs.Known.{PagesSound}
 
 -- the session has no record, latch, tail or turn in hand
 pub record IsIdle (k : Known) : Type 0 where

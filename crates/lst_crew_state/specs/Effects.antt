@@ -9,8 +9,8 @@ use Rattle.lst_core_state.specs.declared.known.Known.{Known}
 use Rattle.lst_core_state.specs.declared.pages.MergerFrames.{MergerFrames}
 use Rattle.lst_core_state.specs.Cells.{range_of}
 use Rattle.lst_core_state.specs.State.{Words, writer_at, record_in, act_in, name_of}
-use Rattle.lst_page_state.specs.Sound.{IsPage}
-use Rattle.lst_page_state.specs.Runs.{tps_known}
+use Rattle.lst_pages.specs.Sound.{IsPage}
+use Rattle.lst_pages.specs.Runs.{tps_known}
 
 -- the session's transactions are the same
 pub record SameTransactions (u k : Known) : Type 0 where

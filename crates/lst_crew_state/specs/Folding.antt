@@ -7,7 +7,7 @@ use Rattle.lst_machine.specs.Writes as machine
 use Rattle.lst_core_state.specs.Cells.{range_of}
 use Rattle.lst_core_state.specs.State.{Words}
 use Rattle.lst_pages.specs.Frames.{stamp_in}
-use Rattle.lst_page_state.specs.Sound.{tps_at}
+use Rattle.lst_pages.specs.Sound.{tps_at}
 
 -- ---- accepted writes
 

@@ -23,13 +23,13 @@ use Rattle.lst_core_state.specs.Cells.{record_count}
 use Rattle.lst_core_state.specs.Index.{size, is_placed}
 use Rattle.lst_core_state.specs.State.{Words, Core, newcomer, writer_at, state_at, name_of, line, sight}
 use Rattle.lst_sights.specs.Watching.{IsStamped}
-use Rattle.lst_page_state.specs.Lists.{Every}
-use Rattle.lst_page_state.specs.State.{oldest_epoch, opening_merger}
-use Rattle.lst_page_state.specs.Settled.{settled_tails}
-use Rattle.lst_page_state.specs.Sound.{IsPage}
-use Rattle.lst_page_state.specs.Step.{lets_go}
-use Rattle.lst_page_state.specs.Known.{PagesSound}
-use Rattle.lst_page_state.specs.Runs.{tps_known}
+use Rattle.lst_pages.specs.Lists.{Every}
+use Rattle.lst_pages.specs.State.{oldest_epoch, opening_merger}
+use Rattle.lst_pages.specs.Settled.{settled_tails}
+use Rattle.lst_pages.specs.Sound.{IsPage}
+use Rattle.lst_pages.specs.Step.{lets_go}
+use Rattle.lst_pages.specs.Known.{PagesSound}
+use Rattle.lst_pages.specs.Runs.{tps_known}
 use Rattle.lst_crew_state.specs.Crews.{IsCrew, IsPinnedCrew}
 use Rattle.lst_crew_state.specs.Telling.{told_store, told, told_pages, pages_told, told_state}
 use Rattle.lst_crew_state.specs.Folding.{AreFolded, AreAllFolded, NeedsNoTail}

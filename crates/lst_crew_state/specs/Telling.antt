@@ -7,7 +7,7 @@ use Rattle.lst_core_state.specs.declared.known.Known.{Known}
 use Rattle.lst_core_state.specs.declared.pages.MergerFrames.{MergerFrames}
 use Rattle.lst_core_state.specs.Cells.{listed}
 use Rattle.lst_core_state.specs.State.{Words, Core, writer_at, record_in, act_in, history_of}
-use Rattle.lst_page_state.specs.Runs.{tps_known}
+use Rattle.lst_pages.specs.Runs.{tps_known}
 
 -- the write of a tail, and its transaction
 abbrev pub accepted_at : Limits → Words → ℕ → Accepted

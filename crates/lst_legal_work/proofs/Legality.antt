@@ -17,16 +17,16 @@ use Rattle.lst_core_state.specs.declared.known.Hold.{Hold}
 use Rattle.lst_core_state.specs.declared.pages.MergerFrames.{MergerFrames}
 use Rattle.lst_core_state.specs.State.{Core, state_over, history_of, mine}
 use Rattle.lst_core_state.proofs.Statements.{histories_are_sound}
-use Rattle.lst_page_state.specs.Sound.{IsPage}
-use Rattle.lst_page_state.specs.Settled.{settled_tails}
-use Rattle.lst_page_state.proofs.Numbering.{settled_are_numbered}
+use Rattle.lst_pages.specs.Sound.{IsPage}
+use Rattle.lst_pages.specs.Settled.{settled_tails}
+use Rattle.lst_pages.proofs.Numbering.{settled_are_numbered}
 use Rattle.lst_rule.specs.declared.store.Store.{Store}
 use Rattle.lst_rule.specs.declared.view.View.{View}
 use Rattle.lst_rule.specs.Rule.{knows, hosts, Allowed}
 use Rattle.lst_rule.specs.PageSteps.{stock_of}
 use Rattle.lst_rule.proofs.Knowing.{knows_own}
 use Rattle.lst_rule.proofs.Paging.{pages_known, stock_is}
-use Rattle.lst_page_state.specs.Runs.{tps_known}
+use Rattle.lst_pages.specs.Runs.{tps_known}
 use Rattle.lst_replies.specs.Runs.{Answered, answered, run_of, speaker_of, is_by, is_begun, is_merged, is_accepted}
 use Rattle.lst_replies.specs.Explained.{ConflictIsExplained, FullnessIsExplained, MergeIsAnswered}
 use Rattle.lst_replies.specs.Legal.{AtEachWrite}

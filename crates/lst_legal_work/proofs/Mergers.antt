@@ -13,8 +13,8 @@ use Rattle.lst_core_state.specs.declared.facts.Find.{Find}
 use Rattle.lst_core_state.specs.declared.facts.Find.TheVariants.{CountedTails, EmptyStart, UnfinishedVersion}
 use Rattle.lst_core_state.specs.declared.known.Known.{Known}
 use Rattle.lst_core_state.specs.declared.pages.MergerFrames.{MergerFrames}
-use Rattle.lst_page_state.specs.Runs.{tps_known}
-use Rattle.lst_page_state.specs.Sound.{IsPage}
+use Rattle.lst_pages.specs.Runs.{tps_known}
+use Rattle.lst_pages.specs.Sound.{IsPage}
 use Rattle.lst_rule.specs.declared.view.View.{View}
 use Rattle.lst_rule.specs.Rule.{knows}
 use Rattle.lst_rule.specs.PageSteps.{stock_of}

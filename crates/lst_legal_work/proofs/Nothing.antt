@@ -7,14 +7,14 @@ use Rattle.lst_machine.specs.State.{State, opening}
 use Rattle.lst_core_state.specs.declared.known.Known.{Known}
 use Rattle.lst_core_state.specs.Pages.{no_pages}
 use Rattle.lst_core_state.specs.State.{newcomer, mine}
-use Rattle.lst_page_state.specs.Sound.{IsPage}
+use Rattle.lst_pages.specs.Sound.{IsPage}
 use Rattle.lst_rule.specs.declared.store.Store.{Store}
 use Rattle.lst_rule.specs.declared.view.View.{View}
 use Rattle.lst_rule.specs.Rule.{knows, crew as opening_view}
 use Rattle.lst_rule.specs.PageSteps.{stock_of}
 use Rattle.lst_rule.proofs.Opening.{same_at}
 use Rattle.lst_merge.specs.Inspections.{merger_of}
-use Rattle.lst_page_state.specs.Runs.{tps_known}
+use Rattle.lst_pages.specs.Runs.{tps_known}
 use Rattle.lst_replies.specs.States.{unbegun}
 use Rattle.lst_crew_state.proofs.PageParts.{within_is}
 use Rattle.lst_session.specs.declared.session.Session.{Session}

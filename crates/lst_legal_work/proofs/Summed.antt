@@ -14,8 +14,8 @@ use Rattle.lst_core_state.specs.State.{Core, record_in}
 use Rattle.lst_core_state.specs.Cells.{range_of}
 use Rattle.lst_core_state.specs.Sound.{Sound}
 use Rattle.lst_core_state.proofs.VersionsKept.{one_range}
-use Rattle.lst_page_state.specs.Settled.{is_settled, settled_tails}
-use Rattle.lst_page_state.proofs.Numbering.{settled_are_numbered}
+use Rattle.lst_pages.specs.Settled.{is_settled, settled_tails}
+use Rattle.lst_pages.proofs.Numbering.{settled_are_numbered}
 use Rattle.lst_replies.specs.Runs.{Answered, answered, run_of, is_by, is_begun, is_merged}
 use Rattle.lst_replies.specs.Explained.{merged_after}
 use Rattle.lst_legal_work.specs.Laws.{tells_begun}

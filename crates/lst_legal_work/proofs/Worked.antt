@@ -5,7 +5,7 @@ use Rattle.lst_layout.specs.declared.limits.Limits.{Limits}
 use Rattle.lst_model.specs.declared.replies.Reply.{Reply}
 use Rattle.lst_model.specs.declared.replies.Reply.TheVariants.{Merged, NothingNew, NoFrame}
 use Rattle.lst_core_state.specs.declared.known.Known.{Known}
-use Rattle.lst_page_state.specs.Runs.{tps_known}
+use Rattle.lst_pages.specs.Runs.{tps_known}
 use Rattle.lst_rule.specs.declared.view.View.{View}
 use Rattle.lst_merge.specs.Inspections.{merger_of}
 use Rattle.lst_replies.specs.Runs.{Answered, is_by}

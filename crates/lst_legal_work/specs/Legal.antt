@@ -7,7 +7,7 @@ use Rattle.lst_model.specs.Lines.{LineFits}
 use Rattle.lst_core_state.specs.declared.facts.Find.{Find}
 use Rattle.lst_core_state.specs.declared.known.Known.{Known}
 use Rattle.lst_core_state.specs.State.{commits_of, mine}
-use Rattle.lst_page_state.specs.Sound.{IsPage}
+use Rattle.lst_pages.specs.Sound.{IsPage}
 use Rattle.lst_rule.specs.declared.store.Store.{Store}
 use Rattle.lst_rule.specs.declared.view.View.{View}
 use Rattle.lst_rule.specs.Rule.{knows}
@@ -15,7 +15,7 @@ use Rattle.lst_rule.specs.Learned.{Possible}
 use Rattle.lst_rule.specs.PageSteps.{stock_of}
 use Rattle.lst_rule.specs.Surveys.{HostsAll}
 use Rattle.lst_sights.specs.Copies.{Includes}
-use Rattle.lst_page_state.specs.Runs.{tps_known}
+use Rattle.lst_pages.specs.Runs.{tps_known}
 use Rattle.lst_replies.specs.declared.reports.Report.{Report}
 use Rattle.lst_replies.specs.Legal.{IsLegal, stamp_of}
 use Rattle.lst_session.specs.declared.session.Session.{Session}

@@ -13,12 +13,12 @@ use Rattle.lst_model.specs.Histories.{Extends}
 use Rattle.lst_core_state.specs.declared.facts.Find.{Find}
 use Rattle.lst_core_state.specs.declared.facts.Find.TheVariants.{UnfinishedVersion, FullRecords, CountedTails, EmptyStart}
 use Rattle.lst_core_state.specs.declared.known.Known.{Known}
-use Rattle.lst_page_state.specs.Sound.{IsPage}
+use Rattle.lst_pages.specs.Sound.{IsPage}
 use Rattle.lst_rule.specs.declared.store.Store.{Store}
 use Rattle.lst_rule.specs.declared.view.View.{View}
 use Rattle.lst_rule.specs.PageSteps.{stock_of}
 use Rattle.lst_merge.specs.Inspections.{merger_of}
-use Rattle.lst_page_state.specs.Runs.{tps_known}
+use Rattle.lst_pages.specs.Runs.{tps_known}
 use Rattle.lst_sights.specs.Seen.{HasKey}
 use Rattle.lst_replies.specs.declared.states.Transaction.{Transaction}
 use Rattle.lst_replies.specs.declared.states.SessionState.{SessionState}

@@ -22,13 +22,13 @@ use Rattle.lst_pages.specs.Pages.{IsRightPage}
 use Rattle.lst_pages.specs.Tails.{touches}
 use Rattle.lst_pages.proofs.Lists.{listed-same}
 use Rattle.lst_pages.proofs.Pages.{right_same, build_right, entries-told}
-use Rattle.lst_page_state.specs.Lists.{HasFirst}
-use Rattle.lst_page_state.specs.Step.{IsClear}
-use Rattle.lst_page_state.specs.Laws.{AreNumbered}
-use Rattle.lst_page_state.specs.Runs.{frame_known, page_known, tps_known}
-use Rattle.lst_page_state.specs.Settled.{tail_in, is_settled, settled_tails}
-use Rattle.lst_page_state.specs.Sound.{IsPage}
-use Rattle.lst_page_state.proofs.Numbering.{settled_are_numbered}
+use Rattle.lst_pages.specs.Lists.{HasFirst}
+use Rattle.lst_pages.specs.Step.{IsClear}
+use Rattle.lst_pages.specs.StateLaws.{AreNumbered}
+use Rattle.lst_pages.specs.Runs.{frame_known, page_known, tps_known}
+use Rattle.lst_pages.specs.Settled.{tail_in, is_settled, settled_tails}
+use Rattle.lst_pages.specs.Sound.{IsPage}
+use Rattle.lst_pages.proofs.Numbering.{settled_are_numbered}
 use Rattle.lst_retire.proofs.Freeing.{is_unused}
 use Rattle.lst_retire.proofs.Looking.{stock_now, stock_then, still_hosts}
 use Rattle.lst_rule.specs.declared.view.View.{View}

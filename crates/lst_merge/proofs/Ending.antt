@@ -17,12 +17,12 @@ use Rattle.lst_core_state.specs.declared.facts.Find.TheVariants.{CountedTails}
 use Rattle.lst_core_state.specs.declared.known.Known.{Known}
 use Rattle.lst_core_state.specs.Cells.{tail_count, range_of}
 use Rattle.lst_core_state.specs.State.{record_in}
-use Rattle.lst_page_state.specs.Runs.{frame_known, page_known, tps_known}
-use Rattle.lst_page_state.specs.Settled.{is_settled, settled_tails}
-use Rattle.lst_page_state.specs.Sound.{IsPage}
-use Rattle.lst_page_state.specs.Laws.{AreNumbered}
-use Rattle.lst_page_state.proofs.Growing.{settled_says}
-use Rattle.lst_page_state.proofs.Numbering.{settled_are_numbered}
+use Rattle.lst_pages.specs.Runs.{frame_known, page_known, tps_known}
+use Rattle.lst_pages.specs.Settled.{is_settled, settled_tails}
+use Rattle.lst_pages.specs.Sound.{IsPage}
+use Rattle.lst_pages.specs.StateLaws.{AreNumbered}
+use Rattle.lst_pages.proofs.Growing.{settled_says}
+use Rattle.lst_pages.proofs.Numbering.{settled_are_numbered}
 use Rattle.lst_pages.specs.declared.tails.PageTail.{PageTail}
 use Rattle.lst_rule.specs.declared.store.Store.{Store}
 use Rattle.lst_rule.specs.declared.view.View.{View}

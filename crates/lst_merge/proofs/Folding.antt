@@ -11,7 +11,7 @@ use Rattle.lst_pages.specs.Chains.{Told}
 use Rattle.lst_pages.specs.Entries.{entry_by, cell_by}
 use Rattle.lst_pages.specs.Tails.{touches, touches_column}
 use Rattle.lst_pages.proofs.Folds.{folded-append}
-use Rattle.lst_page_state.specs.Settled.{tail_by}
+use Rattle.lst_pages.specs.Settled.{tail_by}
 use Rattle.lst_rule.specs.declared.store.Store.{Store}
 use Rattle.lst_rule.specs.declared.view.View.{View}
 use Rattle.lst_rule.specs.Rule.{hosts}

@@ -12,12 +12,12 @@ use Rattle.lst_core_state.specs.declared.facts.Find.TheVariants.{UnfinishedVersi
 use Rattle.lst_core_state.specs.declared.known.Known.{Known}
 use Rattle.lst_core_state.specs.declared.pages.MergerFrames.{MergerFrames}
 use Rattle.lst_core_state.specs.declared.pages.Retired.{Retired}
-use Rattle.lst_page_state.specs.Lists.{Every}
-use Rattle.lst_page_state.specs.Settled.{settled_tails}
-use Rattle.lst_page_state.specs.Sound.{IsPage}
-use Rattle.lst_page_state.specs.State.{oldest_epoch}
-use Rattle.lst_page_state.specs.Step.{lets_go}
-use Rattle.lst_page_state.specs.Runs.{tps_known}
+use Rattle.lst_pages.specs.Lists.{Every}
+use Rattle.lst_pages.specs.Settled.{settled_tails}
+use Rattle.lst_pages.specs.Sound.{IsPage}
+use Rattle.lst_pages.specs.State.{oldest_epoch}
+use Rattle.lst_pages.specs.Step.{lets_go}
+use Rattle.lst_pages.specs.Runs.{tps_known}
 use Rattle.lst_retire.specs.Frames.{FindsFree, FindsHeld, let_go_by}
 use Rattle.lst_retire.proofs.Looking.{stock_now}
 use Rattle.lst_rule.specs.declared.view.View.{View}

@@ -8,9 +8,9 @@ use Rattle.lst_core_state.specs.Facts.{IsFact}
 use Rattle.lst_core_state.specs.State.{state_over, history_of}
 use Rattle.lst_core_state.proofs.Histories.{starts_length}
 use Rattle.lst_pages.specs.declared.tails.PageTail.{PageTail}
-use Rattle.lst_page_state.specs.Settled.{tail_by}
-use Rattle.lst_page_state.specs.Laws.{IsSettledAs}
-use Rattle.lst_page_state.proofs.Numbering.{facts_settle, commits_settle}
+use Rattle.lst_pages.specs.Settled.{tail_by}
+use Rattle.lst_pages.specs.StateLaws.{IsSettledAs}
+use Rattle.lst_pages.proofs.Numbering.{facts_settle, commits_settle}
 use Rattle.lst_rule.specs.declared.view.View.{View}
 use Rattle.lst_rule.specs.Rule.{knows, hosts, Allowed}
 use Rattle.lst_rule.proofs.Knowing.{is_fact, is_seen, clock_is}

@@ -19,8 +19,8 @@ use Rattle.lst_core_state.specs.Cells.{tail_count}
 use Rattle.lst_core_state.specs.Facts.{IsFact, unfinished}
 use Rattle.lst_core_state.specs.State.{state_at, name_of}
 use Rattle.lst_core_state.proofs.Sights.{is_false}
-use Rattle.lst_page_state.specs.Settled.{tail_by, is_settled}
-use Rattle.lst_page_state.proofs.Growing.{settled_says}
+use Rattle.lst_pages.specs.Settled.{tail_by, is_settled}
+use Rattle.lst_pages.proofs.Growing.{settled_says}
 use Rattle.lst_rule.specs.declared.view.View.{View}
 use Rattle.lst_rule.specs.Rule.{knows, hosts}
 use Rattle.lst_rule.specs.Learned.{Possible}

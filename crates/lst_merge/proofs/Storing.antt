@@ -8,10 +8,10 @@ use Rattle.lst_layout.specs.Addresses.{address}
 use Rattle.lst_layout.specs.Functions.{put_in}
 use Rattle.lst_layout.proofs.Functions.{put_in_else}
 use Rattle.lst_core_state.specs.declared.pages.MergerFrames.{MergerFrames}
-use Rattle.lst_page_state.specs.declared.events.PageEvent.TheVariants.{StoreFrame}
-use Rattle.lst_page_state.specs.Lists.{word_in}
-use Rattle.lst_page_state.specs.Runs.{frame_known}
-use Rattle.lst_page_state.proofs.Functions.{word_in-with, put_in_here, length-with}
+use Rattle.lst_pages.specs.declared.events.PageEvent.TheVariants.{StoreFrame}
+use Rattle.lst_pages.specs.Lists.{word_in}
+use Rattle.lst_pages.specs.Runs.{frame_known}
+use Rattle.lst_pages.proofs.Functions.{word_in-with, put_in_here, length-with}
 use Rattle.lst_retire.proofs.Looking.{stock_same, stock_then}
 use Rattle.lst_rule.specs.declared.view.View.{View}
 use Rattle.lst_rule.specs.Frames.{StoresWords}

@@ -17,16 +17,16 @@ use Rattle.lst_model.specs.declared.commits.Commit.{Commit}
 use Rattle.lst_model.specs.Histories.{Extends}
 use Rattle.lst_layout.specs.Areas.{words_of, frame_count}
 use Rattle.lst_core_state.specs.Step.{known_of}
-use Rattle.lst_page_state.specs.declared.events.PageEvent.TheVariants.{Swap, Raise}
-use Rattle.lst_page_state.specs.Known.{PagesSound}
-use Rattle.lst_page_state.specs.Lists.{rest, word_in}
-use Rattle.lst_page_state.specs.Runs.{frame_known, page_known, IsSwapKnown, tps_known}
-use Rattle.lst_page_state.specs.Settled.{settled_tails}
-use Rattle.lst_page_state.specs.Sound.{IsPage, Rise}
-use Rattle.lst_page_state.specs.State.{retired_at, frame_in}
-use Rattle.lst_page_state.proofs.Functions.{word_in-with, put_in_here}
+use Rattle.lst_pages.specs.declared.events.PageEvent.TheVariants.{Swap, Raise}
+use Rattle.lst_pages.specs.Known.{PagesSound}
+use Rattle.lst_pages.specs.Lists.{rest, word_in}
+use Rattle.lst_pages.specs.Runs.{frame_known, page_known, IsSwapKnown, tps_known}
+use Rattle.lst_pages.specs.Settled.{settled_tails}
+use Rattle.lst_pages.specs.Sound.{IsPage, Rise}
+use Rattle.lst_pages.specs.State.{retired_at, frame_in}
+use Rattle.lst_pages.proofs.Functions.{word_in-with, put_in_here}
 use Rattle.lst_layout.proofs.Functions.{put_in_else}
-use Rattle.lst_page_state.proofs.Moves.{none_some}
+use Rattle.lst_pages.proofs.Moves.{none_some}
 use Rattle.lst_pages.specs.Frames.{tps_in}
 use Rattle.lst_pages.specs.Pages.{IsRightPage}
 use Rattle.lst_retire.specs.Frames.{AreSpares}

@@ -10,12 +10,12 @@ use Rattle.lst_core_state.specs.declared.pages.MergerFrames.{MergerFrames}
 use Rattle.lst_core_state.specs.declared.pages.Retired.{Retired}
 use Rattle.lst_pages.specs.Frames.{tps_in}
 use Rattle.lst_pages.specs.Pages.{IsRightPage}
-use Rattle.lst_page_state.specs.declared.events.PageEvent.TheVariants.{StoreFrame}
-use Rattle.lst_page_state.specs.Lists.{HasFirst}
-use Rattle.lst_page_state.specs.Runs.{frame_known, IsSwapKnown, tps_known}
-use Rattle.lst_page_state.specs.Settled.{settled_tails}
-use Rattle.lst_page_state.specs.Sound.{IsPage}
-use Rattle.lst_page_state.specs.Step.{IsClear}
+use Rattle.lst_pages.specs.declared.events.PageEvent.TheVariants.{StoreFrame}
+use Rattle.lst_pages.specs.Lists.{HasFirst}
+use Rattle.lst_pages.specs.Runs.{frame_known, IsSwapKnown, tps_known}
+use Rattle.lst_pages.specs.Settled.{settled_tails}
+use Rattle.lst_pages.specs.Sound.{IsPage}
+use Rattle.lst_pages.specs.Step.{IsClear}
 use Rattle.lst_retire.specs.Frames.{AreSpares}
 use Rattle.lst_rule.specs.declared.view.View.{View}
 use Rattle.lst_rule.specs.Rule.{Allowed}

@@ -10,8 +10,8 @@ use Rattle.lst_core_state.specs.declared.facts.Fact.TheVariants.{StateAt, CellIs
 use Rattle.lst_core_state.specs.declared.facts.Find.TheVariants.{UnfinishedVersion, CountedTails, EmptyStart}
 use Rattle.lst_core_state.specs.declared.known.Known.{Known}
 use Rattle.lst_pages.specs.declared.tails.PageTail.{PageTail}
-use Rattle.lst_page_state.specs.Runs.{tps_known}
-use Rattle.lst_page_state.specs.Settled.{tail_by, is_settled, settled_tails}
+use Rattle.lst_pages.specs.Runs.{tps_known}
+use Rattle.lst_pages.specs.Settled.{tail_by, is_settled, settled_tails}
 use Rattle.lst_rule.specs.declared.view.View.{View}
 use Rattle.lst_rule.specs.PageSteps.{stock_of}
 use Rattle.lst_rule.specs.Statuses.{FoundSince}

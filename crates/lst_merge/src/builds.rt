@@ -1,7 +1,7 @@
 //! The build of a page.
 ghost use Rattle.std.specs.Prelude.{◌≡◌, ◌<◌, ◌≤◌, true, slice_index};
-ghost use Rattle.lst_page_state.specs.Runs.{frame_known, page_known, tps_known};
-ghost use Rattle.lst_page_state.specs.Sound.{IsPage};
+ghost use Rattle.lst_pages.specs.Runs.{frame_known, page_known, tps_known};
+ghost use Rattle.lst_pages.specs.Sound.{IsPage};
 ghost use Rattle.lst_rule.specs.Rule.{hosts};
 ghost use Rattle.lst_rule.specs.Learned.{Kept, Possible};
 ghost use Rattle.lst_rule.specs.PageSteps.{stock_of, StockIs};

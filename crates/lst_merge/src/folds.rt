@@ -1,7 +1,7 @@
 //! Tails folded into a page in hand.
 ghost use Rattle.std.specs.Prelude.{◌≡◌, ◌+◌, ◌*◌, ◌<◌, ◌≤◌, ◌^◌, true, slice_index};
 ghost use Rattle.lst_core_state.specs.Cells.{tail_count};
-ghost use Rattle.lst_page_state.specs.Sound.{IsPage};
+ghost use Rattle.lst_pages.specs.Sound.{IsPage};
 ghost use Rattle.lst_pages.specs.declared.tails.PageTail.{PageTail};
 ghost use Rattle.lst_rule.specs.Rule.{hosts};
 ghost use Rattle.lst_rule.specs.Stores.{IsSeatOf};

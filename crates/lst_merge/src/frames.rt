@@ -2,8 +2,8 @@
 ghost use Rattle.std.specs.Prelude.{◌≡◌, ℕ, ◌<◌, true, slice_index};
 ghost use Rattle.lst_layout.specs.declared.TheConstants.{FRAME_WORDS};
 ghost use Rattle.lst_layout.specs.Areas.{frame_count};
-ghost use Rattle.lst_page_state.specs.Runs.{frame_known, page_known};
-ghost use Rattle.lst_page_state.specs.Sound.{IsPage};
+ghost use Rattle.lst_pages.specs.Runs.{frame_known, page_known};
+ghost use Rattle.lst_pages.specs.Sound.{IsPage};
 ghost use Rattle.lst_rule.specs.Rule.{hosts};
 ghost use Rattle.lst_rule.specs.Learned.{Learns, Kept};
 ghost use Rattle.lst_rule.specs.PageSteps.{stock_of, StockIs};

@@ -1,7 +1,7 @@
 //! The run of a merge.
 ghost use Rattle.std.specs.Prelude.{◌≡◌, ◌⊎◌, ◌+◌, ◌*◌, ◌<◌, ◌≤◌, true, false};
-ghost use Rattle.lst_page_state.specs.Sound.{IsPage};
-ghost use Rattle.lst_page_state.specs.Runs.{tps_known};
+ghost use Rattle.lst_pages.specs.Sound.{IsPage};
+ghost use Rattle.lst_pages.specs.Runs.{tps_known};
 ghost use Rattle.lst_rule.specs.Rule.{hosts};
 ghost use Rattle.lst_rule.specs.PageSteps.{stock_of};
 ghost use Rattle.lst_rule.specs.Stores.{IsSeatOf};

@@ -1,6 +1,6 @@
 //! A page takes the place of another one.
 ghost use Rattle.std.specs.Prelude.{◌≡◌, true};
-ghost use Rattle.lst_page_state.specs.Sound.{IsPage};
+ghost use Rattle.lst_pages.specs.Sound.{IsPage};
 ghost use Rattle.lst_retire.specs.Frames.{AreSpares};
 ghost use Rattle.lst_rule.specs.Rule.{hosts};
 ghost use Rattle.lst_rule.specs.Stores.{IsSeatOf};

@@ -6,3 +6,11 @@ pub mod Frames
 pub mod Pages
 pub mod Chains
 pub mod Laws
+pub mod State
+pub mod Step
+pub mod Numbers
+pub mod Sound
+pub mod Runs
+pub mod Settled
+pub mod Known
+pub mod StateLaws

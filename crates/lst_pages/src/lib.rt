@@ -1,17 +1,32 @@
-//! Base pages: what a page of a range and a column says of each record, told by the range's settled tails.
+//! Base pages, frames and pins: what a page of a range and a column says of each record, told by the range's settled tails; and
+//! the single atomic steps that pages are built, taken and given up by, so that base pages are right, and no frame is used anew
+//! while a session may read it.
 //!
 //! A page has the tails of its range folded into it, oldest first, up to a number that is its TPS (tail page sequence
-//! number). `specs/` says when the words of a frame are a right page, and what a reader may conclude from an entry.
+//! number). `specs/` says when the words of a frame are a right page, and what a reader may conclude from an entry; then what a
+//! state is, where each kind of step may be made and what it changes, what holds in every state, and how pages lie over the core
+//! of transactions: the same words, and a part of what each session and the merger know. What runs of steps are the numbers that a
+//! program keeps of pages, and the word that a step is on.
 #![tactic(auto)]
 
 mod entries;
+mod events;
 mod frames;
 mod laws;
+mod numbers;
 mod tails;
 #[cfg(test)]
 mod tests;
 
 pub use entries::{Entry, fold_tails};
+pub use events::PageEvent;
 pub use frames::{entry_in, is_right};
-pub use laws::{entries_are_answers, pages_are_built_on, pages_stay_right, zeros_are_a_right_page};
+pub use laws::{
+    entries_are_answers, every_run_is_sound, merger_knows_its_words, opening_pages_are_sound,
+    pages_are_built_on, pages_left_alone_are_sound, pages_stay_right, settled_tails_are_found,
+    sound_states_are_safe, steps_are_made_by_numbers, steps_keep_soundness,
+    steps_of_the_core_leave_pages, steps_on_pages_are_sound, words_of_pages_are_free,
+    zeros_are_a_right_page,
+};
+pub use numbers::{MergerNumbers, lets_go, merger_after, pin_after, target, written};
 pub use tails::PageTail;

@@ -7,13 +7,13 @@ use Rattle.lst_layout.specs.declared.limits.Limits.{Limits}
 use Rattle.lst_core_state.specs.declared.known.Known.{Known}
 use Rattle.lst_core_state.specs.declared.pages.MergerFrames.{MergerFrames}
 use Rattle.lst_core_state.specs.declared.pages.Retired.{Retired}
-use Rattle.lst_page_state.specs.declared.events.PageEvent.TheVariants.{StoreFrame}
-use Rattle.lst_page_state.specs.Known.{pages_in, IsHeld}
-use Rattle.lst_page_state.specs.Lists.{Every, HasFirst}
-use Rattle.lst_page_state.proofs.Moves.{none_some}
-use Rattle.lst_page_state.specs.Sound.{late, Rise}
-use Rattle.lst_page_state.specs.State.{oldest_epoch}
-use Rattle.lst_page_state.specs.Step.{Enabled, IsClear, lets_go}
+use Rattle.lst_pages.specs.declared.events.PageEvent.TheVariants.{StoreFrame}
+use Rattle.lst_pages.specs.Known.{pages_in, IsHeld}
+use Rattle.lst_pages.specs.Lists.{Every, HasFirst}
+use Rattle.lst_pages.proofs.Moves.{none_some}
+use Rattle.lst_pages.specs.Sound.{late, Rise}
+use Rattle.lst_pages.specs.State.{oldest_epoch}
+use Rattle.lst_pages.specs.Step.{Enabled, IsClear, lets_go}
 use Rattle.lst_core_state.specs.State.{state_over}
 use Rattle.lst_core_state.proofs.ListedPart.{contains_last}
 use Rattle.lst_rule.specs.declared.view.View.{View}

@@ -8,8 +8,8 @@ use Rattle.lst_layout.specs.Functions.{put}
 use Rattle.lst_layout.proofs.Functions.{put_here, put_else}
 use Rattle.lst_core_state.specs.declared.known.Known.{Known}
 use Rattle.lst_core_state.specs.declared.pages.MergerFrames.{MergerFrames}
-use Rattle.lst_page_state.specs.Step.{lets_go}
-use Rattle.lst_page_state.proofs.Safety.{lets_not}
+use Rattle.lst_pages.specs.Step.{lets_go}
+use Rattle.lst_pages.proofs.Safety.{lets_not}
 use Rattle.lst_rule.specs.declared.store.Store.{Store}
 use Rattle.lst_rule.specs.declared.view.View.{View}
 use Rattle.lst_rule.specs.Rule.{knows, hosts}

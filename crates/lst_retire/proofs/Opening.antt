@@ -11,7 +11,7 @@ use Rattle.lst_core_state.specs.State.{newcomer}
 use Rattle.lst_rule.specs.Rule.{crew}
 use Rattle.lst_rule.proofs.Opening.{same_at}
 use Rattle.lst_retire.specs.Frames.{AreSpares}
-use Rattle.lst_page_state.proofs.Starts.{length-spares}
+use Rattle.lst_pages.proofs.Starts.{length-spares}
 
 -- these are the first k of the n spares from the frame f on
 pub record FirstSpares (f n k : ℕ) (taken : List Retired) : Type 0 where

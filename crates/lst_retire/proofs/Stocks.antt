@@ -4,8 +4,8 @@ use Rattle.std.proofs.lemmas.List.{append_assoc}
 use mathlib.Core.Logic.{dite}
 use native.Mathlib.Decide.{ℕ_discrete}
 use Rattle.lst_core_state.specs.declared.pages.MergerFrames.{MergerFrames}
-use Rattle.lst_page_state.specs.State.{oldest_epoch}
-use Rattle.lst_page_state.specs.Step.{lets_go}
+use Rattle.lst_pages.specs.State.{oldest_epoch}
+use Rattle.lst_pages.specs.Step.{lets_go}
 use Rattle.lst_rule.specs.PageSteps.{pin_found}
 use Rattle.lst_retire.specs.Frames.{pins_found, AllLetGo, with_clear, sessions_below, let_go_by}
 

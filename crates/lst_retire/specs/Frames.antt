@@ -5,12 +5,12 @@ use Rattle.lst_layout.specs.Words.{shown}
 use Rattle.lst_core_state.specs.declared.known.Known.{Known}
 use Rattle.lst_core_state.specs.declared.pages.MergerFrames.{MergerFrames}
 use Rattle.lst_core_state.specs.declared.pages.Retired.{Retired}
-use Rattle.lst_page_state.specs.declared.events.PageEvent.TheVariants.{StoreFrame}
-use Rattle.lst_page_state.specs.Known.{PageEnabled, IsHeld}
-use Rattle.lst_page_state.specs.Lists.{Every, HasFirst}
-use Rattle.lst_page_state.specs.Sound.{Outside}
-use Rattle.lst_page_state.specs.State.{hand_of, oldest_epoch}
-use Rattle.lst_page_state.specs.Step.{IsClear, IsWithin, lets_go}
+use Rattle.lst_pages.specs.declared.events.PageEvent.TheVariants.{StoreFrame}
+use Rattle.lst_pages.specs.Known.{PageEnabled, IsHeld}
+use Rattle.lst_pages.specs.Lists.{Every, HasFirst}
+use Rattle.lst_pages.specs.Sound.{Outside}
+use Rattle.lst_pages.specs.State.{hand_of, oldest_epoch}
+use Rattle.lst_pages.specs.Step.{IsClear, IsWithin, lets_go}
 use Rattle.lst_rule.specs.declared.view.View.{View}
 use Rattle.lst_rule.specs.Rule.{knows, hosts, Allowed}
 use Rattle.lst_rule.specs.Learned.{Kept}

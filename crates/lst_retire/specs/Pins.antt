@@ -5,7 +5,7 @@ use Rattle.lst_layout.specs.declared.place.Place.TheVariants.{EpochWord, PinWord
 use Rattle.lst_core_state.specs.declared.known.Known.{Known}
 use Rattle.lst_core_state.specs.declared.facts.Fact.TheVariants.{EpochAtLeast}
 use Rattle.lst_core_state.specs.declared.facts.Find.TheVariants.{FreshEpoch}
-use Rattle.lst_page_state.specs.declared.events.PageEvent.TheVariants as steps
+use Rattle.lst_pages.specs.declared.events.PageEvent.TheVariants as steps
 use Rattle.lst_rule.specs.declared.view.View.{View}
 use Rattle.lst_rule.specs.Rule.{knows, hosts}
 use Rattle.lst_rule.specs.Learned.{Learns, PageMade}

@@ -6,7 +6,7 @@ ghost use Rattle.lst_rule.specs.Stores.{IsSeatOf};
 ghost use Rattle.lst_retire.specs.Frames.{AreSpares, NoPinHolds, FirstPinHolds, FindsFree, FindsHeld};
 
 use crate::spares::Spares;
-use lst_page_state::lets_go;
+use lst_pages::lets_go;
 use lst_rule::{Seat, Store, step_look_pin};
 
 /// A session's pin holds the oldest retired frame.

@@ -9,9 +9,9 @@ use Rattle.lst_core_state.specs.declared.known.Known.{Known}
 use Rattle.lst_core_state.specs.declared.events.Event.{Event}
 use Rattle.lst_core_state.specs.declared.numbers.Numbers.{Numbers}
 use Rattle.lst_core_state.specs.Numbers.{numbers_of, place_for, written_of}
-use Rattle.lst_page_state.specs.declared.events.PageEvent.{PageEvent}
-use Rattle.lst_page_state.specs.Step.{place_of}
-use Rattle.lst_page_state.specs.Numbers as page_numbers
+use Rattle.lst_pages.specs.declared.events.PageEvent.{PageEvent}
+use Rattle.lst_pages.specs.Step.{place_of}
+use Rattle.lst_pages.specs.Numbers as page_numbers
 use Rattle.lst_rule.specs.declared.actions.Action.{Action}
 use Rattle.lst_rule.specs.declared.actions.Action.TheVariants.{Core, Page}
 use Rattle.lst_rule.specs.declared.view.View.{View}

@@ -18,7 +18,7 @@ use Rattle.lst_core_state.specs.Step.{known_of}
 use Rattle.lst_core_state.specs.Facts.{IsFact}
 use Rattle.lst_core_state.specs.Sound.{FactsOf, Sound}
 use Rattle.lst_core_state.specs.State.{state_over}
-use Rattle.lst_page_state.specs.Known.{PagesSound}
+use Rattle.lst_pages.specs.Known.{PagesSound}
 use Rattle.lst_rule.specs.declared.actions.Action.{Action}
 use Rattle.lst_rule.specs.declared.actions.Action.TheVariants as action
 use Rattle.lst_rule.specs.declared.view.View.{View}

@@ -20,11 +20,11 @@ use Rattle.lst_core_state.specs.Numbers.{numbers_of}
 use Rattle.lst_core_state.specs.State.{state_over}
 use Rattle.lst_core_state.proofs.Numbered.{numbers_law, look_numbers}
 use Rattle.lst_core_state.proofs.Stepped as stepped
-use Rattle.lst_page_state.specs.declared.events.PageEvent.{PageEvent}
-use Rattle.lst_page_state.specs.declared.events.PageEvent.TheVariants.{Pin, Unpin, LookPage, LookPin, StoreFrame, Swap, Raise}
-use Rattle.lst_page_state.specs.Step as pages
-use Rattle.lst_page_state.specs.Known.{known_after_page}
-use Rattle.lst_page_state.proofs.Tellings.{words_law, stock_law, pin_law}
+use Rattle.lst_pages.specs.declared.events.PageEvent.{PageEvent}
+use Rattle.lst_pages.specs.declared.events.PageEvent.TheVariants.{Pin, Unpin, LookPage, LookPin, StoreFrame, Swap, Raise}
+use Rattle.lst_pages.specs.Step as pages
+use Rattle.lst_pages.specs.Known.{known_after_page}
+use Rattle.lst_pages.proofs.Tellings.{words_law, stock_law, pin_law}
 use Rattle.lst_rule.specs.declared.actions.Action.{Action}
 use Rattle.lst_rule.specs.declared.actions.Action.TheVariants as action
 use Rattle.lst_rule.specs.declared.view.View.{View}

@@ -23,10 +23,10 @@ use Rattle.lst_core_state.specs.Laws.{MayHear}
 use Rattle.lst_core_state.proofs.Functions.{put_here, put_else, either}
 use Rattle.lst_core_state.proofs.RecordedPart.{grows_by, seen_on}
 use Rattle.lst_core_state.proofs.Statements.{seen_may_grow, merger_may_grow}
-use Rattle.lst_page_state.specs.Known.{PagesSound}
-use Rattle.lst_page_state.specs.Settled.{settled_tails}
-use Rattle.lst_page_state.specs.Laws.{LeavesPages}
-use Rattle.lst_page_state.proofs.Leaving.{pages_are_left}
+use Rattle.lst_pages.specs.Known.{PagesSound}
+use Rattle.lst_pages.specs.Settled.{settled_tails}
+use Rattle.lst_pages.specs.StateLaws.{LeavesPages}
+use Rattle.lst_pages.proofs.Leaving.{pages_are_left}
 use Rattle.lst_rule.specs.declared.view.View.{View}
 use Rattle.lst_rule.specs.Rule.{knows, hosts, Fits, Ruled, Sat}
 use Rattle.lst_rule.specs.Joins.{longer, hears, hearing, Heard}

@@ -11,13 +11,13 @@ use Rattle.lst_core_state.specs.Step.{known_of}
 use Rattle.lst_core_state.specs.Facts.{IsFact}
 use Rattle.lst_core_state.specs.Sound.{Sound}
 use Rattle.lst_core_state.proofs.Keeps as kept
-use Rattle.lst_page_state.specs.declared.events.PageEvent.{PageEvent}
-use Rattle.lst_page_state.specs.Step as pages
-use Rattle.lst_page_state.specs.Known.{stepper, PagesSound, IsPageEnabled, after_page}
-use Rattle.lst_page_state.specs.Laws.{PageStepOf, IsAsSound}
-use Rattle.lst_page_state.proofs.Leaving.{pages_are_left, steps_leave_pages}
-use Rattle.lst_page_state.proofs.Freeing.{words_are_free}
-use Rattle.lst_page_state.proofs.MergerSteps.{page_steps_are_sound}
+use Rattle.lst_pages.specs.declared.events.PageEvent.{PageEvent}
+use Rattle.lst_pages.specs.Step as pages
+use Rattle.lst_pages.specs.Known.{stepper, PagesSound, IsPageEnabled, after_page}
+use Rattle.lst_pages.specs.StateLaws.{PageStepOf, IsAsSound}
+use Rattle.lst_pages.proofs.Leaving.{pages_are_left, steps_leave_pages}
+use Rattle.lst_pages.proofs.Freeing.{words_are_free}
+use Rattle.lst_pages.proofs.MergerSteps.{page_steps_are_sound}
 use Rattle.lst_rule.specs.declared.actions.Action.{Action}
 use Rattle.lst_rule.specs.declared.actions.Action.TheVariants.{Core, Page}
 use Rattle.lst_rule.specs.Actions.{actor, IsActionWithin, IsActionEnabled, words_after_action, known_after_action, after_action}

@@ -11,8 +11,8 @@ use Rattle.lst_core_state.specs.declared.events.Event.{Event}
 use Rattle.lst_core_state.specs.State.{newcomer}
 use Rattle.lst_core_state.specs.Step.{session_of, known_after}
 use Rattle.lst_core_state.specs.State.{state_over}
-use Rattle.lst_page_state.specs.declared.events.PageEvent.{PageEvent}
-use Rattle.lst_page_state.specs.Known.{stepper, known_after_page}
+use Rattle.lst_pages.specs.declared.events.PageEvent.{PageEvent}
+use Rattle.lst_pages.specs.Known.{stepper, known_after_page}
 use Rattle.lst_rule.specs.declared.actions.Action.{Action}
 use Rattle.lst_rule.specs.declared.actions.Action.TheVariants.{Core, Page}
 use Rattle.lst_rule.specs.declared.view.View.{View}

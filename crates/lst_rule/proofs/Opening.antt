@@ -17,8 +17,8 @@ use Rattle.lst_core_state.specs.Step.{known_of}
 use Rattle.lst_core_state.specs.Sound.{Sound}
 use Rattle.lst_core_state.proofs.Starts.{opening_sound}
 use Rattle.lst_core_state.specs.State.{state_over}
-use Rattle.lst_page_state.specs.Known.{PagesSound}
-use Rattle.lst_page_state.proofs.Beginning.{opening_is_sound}
+use Rattle.lst_pages.specs.Known.{PagesSound}
+use Rattle.lst_pages.proofs.Beginning.{opening_is_sound}
 use Rattle.lst_rule.specs.declared.view.View.{View}
 use Rattle.lst_rule.specs.Rule.{crew, first_words, hosts, Fits, Ruled}
 use Rattle.lst_rule.specs.Learned.{Possible}

@@ -21,20 +21,20 @@ use Rattle.lst_core_state.specs.State.{state_over}
 use Rattle.lst_core_state.specs.Step.{known_of}
 use Rattle.lst_core_state.specs.Numbers.{numbers_of}
 use Rattle.lst_core_state.proofs.ListedPart.{contains_last}
-use Rattle.lst_page_state.specs.declared.events.PageEvent.{PageEvent}
-use Rattle.lst_page_state.specs.declared.events.PageEvent.TheVariants.{Pin, Unpin, LookPage, LookPin, StoreFrame, Swap, Raise}
-use Rattle.lst_page_state.specs.declared.numbers.MergerNumbers.{MergerNumbers}
-use Rattle.lst_page_state.specs.Lists.{rest, with_word_in}
-use Rattle.lst_page_state.specs.State.{hand_of, nobody_clear, frame_in}
-use Rattle.lst_page_state.specs.Step as pages
-use Rattle.lst_page_state.specs.Step.{page_at}
-use Rattle.lst_page_state.specs.Sound as page_parts
-use Rattle.lst_page_state.specs.Runs.{IsReadable, IsSafe, IsKnown, IsSwapKnown, page_known, frame_known}
-use Rattle.lst_page_state.specs.Numbers as page_numbers
-use Rattle.lst_page_state.specs.Settled.{settled_tails}
-use Rattle.lst_page_state.specs.Known.{pages_in, stepper, PageEnabled, PageStands}
-use Rattle.lst_page_state.proofs.ByWords.{page_steps_are_by_words}
-use Rattle.lst_page_state.proofs.Safety.{sound_safe, sound_known}
+use Rattle.lst_pages.specs.declared.events.PageEvent.{PageEvent}
+use Rattle.lst_pages.specs.declared.events.PageEvent.TheVariants.{Pin, Unpin, LookPage, LookPin, StoreFrame, Swap, Raise}
+use Rattle.lst_pages.specs.declared.numbers.MergerNumbers.{MergerNumbers}
+use Rattle.lst_pages.specs.Lists.{rest, with_word_in}
+use Rattle.lst_pages.specs.State.{hand_of, nobody_clear, frame_in}
+use Rattle.lst_pages.specs.Step as pages
+use Rattle.lst_pages.specs.Step.{page_at}
+use Rattle.lst_pages.specs.Sound as page_parts
+use Rattle.lst_pages.specs.Runs.{IsReadable, IsSafe, IsKnown, IsSwapKnown, page_known, frame_known}
+use Rattle.lst_pages.specs.Numbers as page_numbers
+use Rattle.lst_pages.specs.Settled.{settled_tails}
+use Rattle.lst_pages.specs.Known.{pages_in, stepper, PageEnabled, PageStands}
+use Rattle.lst_pages.proofs.ByWords.{page_steps_are_by_words}
+use Rattle.lst_pages.proofs.Safety.{sound_safe, sound_known}
 use Rattle.lst_rule.specs.declared.actions.Action.TheVariants.{Core, Page}
 use Rattle.lst_rule.specs.declared.view.View.{View}
 use Rattle.lst_rule.specs.Actions.{after_action, stock_numbers, numbers_after_page}

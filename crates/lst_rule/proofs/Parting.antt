@@ -15,7 +15,7 @@ use Rattle.lst_model.specs.Histories.{Extends}
 use Rattle.lst_core_state.specs.declared.known.Known.{Known}
 use Rattle.lst_core_state.specs.State.{Core, newcomer, history_of, state_over}
 use Rattle.lst_core_state.specs.Sound.{Sound, FactsOf, SeenIsRecorded}
-use Rattle.lst_page_state.specs.Known.{PagesSound}
+use Rattle.lst_pages.specs.Known.{PagesSound}
 use Rattle.lst_rule.specs.declared.view.View.{View}
 use Rattle.lst_rule.specs.Rule.{knows, hosts, Fits, Ruled, Allowed}
 use Rattle.lst_rule.specs.Joins.{without, alone, noted}

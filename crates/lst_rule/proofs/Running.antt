@@ -16,8 +16,8 @@ use Rattle.lst_layout.proofs.Functions.{put_here, put_else}
 use Rattle.lst_core_state.specs.declared.facts.Fact.{Fact}
 use Rattle.lst_core_state.specs.declared.known.Known.{Known}
 use Rattle.lst_core_state.specs.Facts.{chain_facts}
-use Rattle.lst_page_state.specs.State.{hand_of}
-use Rattle.lst_page_state.specs.Runs.{frame_known}
+use Rattle.lst_pages.specs.State.{hand_of}
+use Rattle.lst_pages.specs.Runs.{frame_known}
 use Rattle.lst_rule.specs.declared.runs.Run.{Run}
 use Rattle.lst_rule.specs.declared.runs.Run.TheVariants.{Values, Times, Heads}
 use Rattle.lst_rule.specs.declared.store.Store.{Store}

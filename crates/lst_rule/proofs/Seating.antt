@@ -17,7 +17,7 @@ use Rattle.lst_core_state.specs.Sound.{Sound}
 use Rattle.lst_core_state.specs.State.{newcomer, state_over}
 use Rattle.lst_model.specs.declared.commits.Commit.{Commit}
 use Rattle.lst_rule.specs.declared.store.Store.{Store}
-use Rattle.lst_page_state.specs.Known.{PagesSound}
+use Rattle.lst_pages.specs.Known.{PagesSound}
 use Rattle.lst_rule.specs.declared.view.View.{View}
 use Rattle.lst_rule.specs.Rule.{knows, hosts, Fits, Ruled, Sat}
 use Rattle.lst_rule.specs.Learned.{Possible}

@@ -11,7 +11,7 @@ use Rattle.lst_core_state.specs.declared.numbers.Numbers.{Numbers}
 use Rattle.lst_core_state.specs.State.{state_over}
 use Rattle.lst_core_state.specs.Sound.{Sound}
 use Rattle.lst_rule.specs.declared.store.Store.{Store}
-use Rattle.lst_page_state.specs.Known.{PagesSound}
+use Rattle.lst_pages.specs.Known.{PagesSound}
 use Rattle.lst_rule.specs.declared.view.View.{View}
 use Rattle.lst_rule.specs.Rule.{hosts, Fits, Ruled, Allowed}
 use Rattle.lst_rule.specs.Learned.{Possible, Kept}

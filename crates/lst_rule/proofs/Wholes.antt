@@ -13,10 +13,10 @@ use Rattle.lst_layout.proofs.Functions.{put_here, put_else}
 use Rattle.lst_core_state.specs.declared.known.Known.{Known}
 use Rattle.lst_core_state.specs.declared.numbers.Numbers.{Numbers}
 use Rattle.lst_core_state.specs.declared.pages.MergerFrames.{MergerFrames}
-use Rattle.lst_page_state.specs.declared.events.PageEvent.TheVariants.{StoreFrame}
-use Rattle.lst_page_state.specs.Known.{PageEnabled}
-use Rattle.lst_page_state.specs.State.{hand_of}
-use Rattle.lst_page_state.specs.Runs.{frame_known}
+use Rattle.lst_pages.specs.declared.events.PageEvent.TheVariants.{StoreFrame}
+use Rattle.lst_pages.specs.Known.{PageEnabled}
+use Rattle.lst_pages.specs.State.{hand_of}
+use Rattle.lst_pages.specs.Runs.{frame_known}
 use Rattle.lst_rule.specs.declared.store.Store.{Store}
 use Rattle.lst_rule.specs.declared.view.View.{View}
 use Rattle.lst_rule.specs.Actions.{numbers_after_page}

@@ -10,11 +10,11 @@ use Rattle.lst_core_state.specs.State.{Core}
 use Rattle.lst_core_state.specs.Step as core
 use Rattle.lst_core_state.specs.Numbers as core_numbers
 use Rattle.lst_core_state.specs.Targets as core_targets
-use Rattle.lst_page_state.specs.declared.events.PageEvent.{PageEvent}
-use Rattle.lst_page_state.specs.declared.numbers.MergerNumbers.{MergerNumbers}
-use Rattle.lst_page_state.specs.Step as pages
-use Rattle.lst_page_state.specs.Numbers as page_numbers
-use Rattle.lst_page_state.specs.Known.{stepper, PageEnabled, PageStands, IsPageEnabled, words_after_page, known_after_page, after_page}
+use Rattle.lst_pages.specs.declared.events.PageEvent.{PageEvent}
+use Rattle.lst_pages.specs.declared.numbers.MergerNumbers.{MergerNumbers}
+use Rattle.lst_pages.specs.Step as pages
+use Rattle.lst_pages.specs.Numbers as page_numbers
+use Rattle.lst_pages.specs.Known.{stepper, PageEnabled, PageStands, IsPageEnabled, words_after_page, known_after_page, after_page}
 use Rattle.lst_rule.specs.declared.actions.Action.{Action}
 use Rattle.lst_rule.specs.declared.actions.Action.TheVariants as action
 

@@ -2,9 +2,9 @@
 use Rattle.std.specs.Prelude.{◌≡◌, ℕ, ◌+◌, ◌<◌, Some, slice_index}
 use Rattle.lst_layout.specs.declared.place.Place.TheVariants.{FrameWord}
 use Rattle.lst_core_state.specs.declared.pages.PageInHand.{PageInHand}
-use Rattle.lst_page_state.specs.declared.events.PageEvent.TheVariants.{StoreFrame}
-use Rattle.lst_page_state.specs.State.{hand_of}
-use Rattle.lst_page_state.specs.Runs.{frame_known}
+use Rattle.lst_pages.specs.declared.events.PageEvent.TheVariants.{StoreFrame}
+use Rattle.lst_pages.specs.State.{hand_of}
+use Rattle.lst_pages.specs.Runs.{frame_known}
 use Rattle.lst_rule.specs.declared.view.View.{View}
 use Rattle.lst_rule.specs.Rule.{knows}
 use Rattle.lst_rule.specs.Learned.{Learns, Kept, PageMade}

@@ -7,8 +7,8 @@ use Rattle.lst_core_state.specs.declared.known.Known.{Known}
 use Rattle.lst_core_state.specs.declared.events.Event.{Event}
 use Rattle.lst_core_state.specs.Step.{session_of, Stands, known_after}
 use Rattle.lst_core_state.specs.Targets.{time_for}
-use Rattle.lst_page_state.specs.declared.events.PageEvent.{PageEvent}
-use Rattle.lst_page_state.specs.Known.{stepper, PageStands, known_after_page}
+use Rattle.lst_pages.specs.declared.events.PageEvent.{PageEvent}
+use Rattle.lst_pages.specs.Known.{stepper, PageStands, known_after_page}
 use Rattle.lst_rule.specs.declared.actions.Action.{Action}
 use Rattle.lst_rule.specs.declared.actions.Action.TheVariants as action
 use Rattle.lst_rule.specs.declared.view.View.{View}

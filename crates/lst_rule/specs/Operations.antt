@@ -3,8 +3,8 @@ use Rattle.lst_layout.specs.declared.place.Place.{Place}
 use Rattle.lst_layout.specs.declared.place.Place.TheVariants.{ClockWord, RecordCounter, KeyWord, IndexWord, TailCounter}
 use Rattle.lst_core_state.specs.declared.events.Event.{Event}
 use Rattle.lst_core_state.specs.declared.events.Event.TheVariants.{Look, Take, DrawRecord, Claim, Latch, DrawTail, Post}
-use Rattle.lst_page_state.specs.declared.events.PageEvent.{PageEvent}
-use Rattle.lst_page_state.specs.declared.events.PageEvent.TheVariants.{LookPage, LookPin}
+use Rattle.lst_pages.specs.declared.events.PageEvent.{PageEvent}
+use Rattle.lst_pages.specs.declared.events.PageEvent.TheVariants.{LookPage, LookPin}
 
 -- a store
 abbrev pub IsStore : Event → Type 0

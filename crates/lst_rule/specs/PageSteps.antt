@@ -7,12 +7,12 @@ use Rattle.lst_core_state.specs.declared.pages.PageInHand.{PageInHand}
 use Rattle.lst_core_state.specs.declared.pages.SessionFrames.{SessionFrames}
 use Rattle.lst_core_state.specs.declared.pages.MergerFrames.{MergerFrames}
 use Rattle.lst_core_state.specs.State.{state_over}
-use Rattle.lst_page_state.specs.declared.events.PageEvent.TheVariants.{LookPage, LookPin, Swap}
-use Rattle.lst_page_state.specs.Lists.{rest, with_word_in}
-use Rattle.lst_page_state.specs.State.{hand_of, nobody_clear, empty_hand, oldest_epoch, retired_at, frame_in}
-use Rattle.lst_page_state.specs.Step.{lets_go}
-use Rattle.lst_page_state.specs.Runs.{IsReadable, frame_known, page_known}
-use Rattle.lst_page_state.specs.Known.{pages_in}
+use Rattle.lst_pages.specs.declared.events.PageEvent.TheVariants.{LookPage, LookPin, Swap}
+use Rattle.lst_pages.specs.Lists.{rest, with_word_in}
+use Rattle.lst_pages.specs.State.{hand_of, nobody_clear, empty_hand, oldest_epoch, retired_at, frame_in}
+use Rattle.lst_pages.specs.Step.{lets_go}
+use Rattle.lst_pages.specs.Runs.{IsReadable, frame_known, page_known}
+use Rattle.lst_pages.specs.Known.{pages_in}
 use Rattle.lst_rule.specs.declared.view.View.{View}
 use Rattle.lst_rule.specs.Rule.{knows}
 use Rattle.lst_rule.specs.Learned.{Learns, Kept, PageMade, PageMet}

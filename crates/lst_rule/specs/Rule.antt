@@ -14,7 +14,7 @@ use Rattle.lst_core_state.specs.State.{Core, newcomer, history_of}
 use Rattle.lst_core_state.specs.Step.{known_of}
 use Rattle.lst_core_state.specs.Sound.{FactsOf, SeenIsRecorded, Sound}
 use Rattle.lst_core_state.specs.State.{state_over}
-use Rattle.lst_page_state.specs.Known.{PagesSound}
+use Rattle.lst_pages.specs.Known.{PagesSound}
 use Rattle.lst_rule.specs.declared.actions.Action.{Action}
 use Rattle.lst_rule.specs.declared.view.View.{View}
 use Rattle.lst_rule.specs.Actions.{actor, IsActionWithin, ActionEnabled, ActionStands, IsActionEnabled, words_after_action, known_after_action, after_action}

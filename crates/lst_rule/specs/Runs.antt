@@ -7,8 +7,8 @@ use Rattle.lst_layout.specs.declared.place.Place.TheVariants.{FrameWord, HeadWor
 use Rattle.lst_layout.specs.Addresses.{IsWithin}
 use Rattle.lst_core_state.specs.declared.facts.Fact.{Fact}
 use Rattle.lst_core_state.specs.declared.pages.PageInHand.{PageInHand}
-use Rattle.lst_page_state.specs.State.{hand_of}
-use Rattle.lst_page_state.specs.Runs.{frame_known}
+use Rattle.lst_pages.specs.State.{hand_of}
+use Rattle.lst_pages.specs.Runs.{frame_known}
 use Rattle.lst_rule.specs.declared.runs.Run.{Run}
 use Rattle.lst_rule.specs.declared.runs.Run.TheVariants.{Values, Times, Heads}
 use Rattle.lst_rule.specs.declared.view.View.{View}

@@ -4,8 +4,8 @@ ghost use Rattle.lst_layout.specs.declared.TheConstants.{FRAME_WORDS};
 ghost use Rattle.lst_layout.specs.declared.place.Place.TheVariants.{FrameWord};
 ghost use Rattle.lst_layout.specs.Addresses as addresses;
 ghost use Rattle.lst_layout.specs.Areas.{frame_count};
-ghost use Rattle.lst_page_state.specs.declared.events.PageEvent.TheVariants.{StoreFrame};
-ghost use Rattle.lst_page_state.specs.Known.{PageEnabled};
+ghost use Rattle.lst_pages.specs.declared.events.PageEvent.TheVariants.{StoreFrame};
+ghost use Rattle.lst_pages.specs.Known.{PageEnabled};
 ghost use Rattle.lst_rule.specs.Frames.{FrameFound, LoadsFrame, FrameStored, StoresWords};
 ghost use Rattle.lst_rule.specs.Rule.{knows, hosts};
 ghost use Rattle.lst_rule.specs.PageSteps.{stock_of, FrameLoaded};
@@ -18,7 +18,7 @@ use crate::seat::Seat;
 use crate::store::Store;
 use crate::store_word;
 use lst_layout::{FRAME_WORDS, Place};
-use lst_page_state::PageEvent;
+use lst_pages::PageEvent;
 
 const WORDS: usize = FRAME_WORDS as usize;
 

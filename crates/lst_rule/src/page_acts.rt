@@ -1,8 +1,8 @@
 //! One atomic step of a seat on pages: a store, or a load.
 ghost use Rattle.std.specs.Prelude.{◌≡◌, true};
-ghost use Rattle.lst_page_state.specs.Known.{stepper, PageEnabled};
-ghost use Rattle.lst_page_state.specs.Numbers as numbers;
-ghost use Rattle.lst_page_state.specs.Step.{IsWithin, place_of};
+ghost use Rattle.lst_pages.specs.Known.{stepper, PageEnabled};
+ghost use Rattle.lst_pages.specs.Numbers as numbers;
+ghost use Rattle.lst_pages.specs.Step.{IsWithin, place_of};
 ghost use Rattle.lst_rule.specs.Actions.{stock_numbers, numbers_after_page};
 ghost use Rattle.lst_rule.specs.Rule.{knows, hosts};
 ghost use Rattle.lst_rule.specs.Learned.{PageCanStand, PageMade, PageMet};
@@ -15,7 +15,7 @@ use crate::seat::Seat;
 use crate::store::Store;
 use crate::{load_word, store_word};
 use lst_core_state::Numbers;
-use lst_page_state::{MergerNumbers, PageEvent, merger_after, pin_after, target, written};
+use lst_pages::{MergerNumbers, PageEvent, merger_after, pin_after, target, written};
 
 /// Changes the numbers as a step on pages does.
 #[inline(always)]

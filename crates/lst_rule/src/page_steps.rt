@@ -1,9 +1,9 @@
 //! The steps on pins, pages and frames, one call for each kind.
 ghost use Rattle.std.specs.Prelude.{◌≡◌, ◌+◌, ◌<◌, true};
 ghost use Rattle.lst_layout.specs.declared.place.Place.TheVariants.{EpochWord, DirectoryWord, FrameWord, PinWord};
-ghost use Rattle.lst_page_state.specs.declared.events.PageEvent.TheVariants.{Pin, Unpin, LookPage, LookPin, StoreFrame, Swap, Raise};
-ghost use Rattle.lst_page_state.specs.Known.{PageEnabled};
-ghost use Rattle.lst_page_state.specs.Step.{IsWithin};
+ghost use Rattle.lst_pages.specs.declared.events.PageEvent.TheVariants.{Pin, Unpin, LookPage, LookPin, StoreFrame, Swap, Raise};
+ghost use Rattle.lst_pages.specs.Known.{PageEnabled};
+ghost use Rattle.lst_pages.specs.Step.{IsWithin};
 ghost use Rattle.lst_rule.specs.Rule.{knows, hosts};
 ghost use Rattle.lst_rule.specs.Learned.{Learns, PageCanStand, PageMade};
 ghost use Rattle.lst_rule.specs.PageSteps.{pinned_at, unpinned, PageLooked, PinLooked, frame_stored, stock_of, StockIs, Swapped, raised};
@@ -12,7 +12,7 @@ ghost use Rattle.lst_rule.specs.Stores.{IsSeatOf};
 use crate::page_acts::{load_page, store_page};
 use crate::seat::Seat;
 use crate::store::Store;
-use lst_page_state::PageEvent;
+use lst_pages::PageEvent;
 
 /// Stores the session's pin word: the epoch plus one. Allowed where it has no pin, for an epoch that the epoch word has reached, as a
 /// session knows that has loaded it. No frame is in hand afterwards.

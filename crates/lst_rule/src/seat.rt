@@ -4,7 +4,7 @@ ghost use Rattle.std.specs.Prelude.{◌≡◌, ◌+◌, MatchOption};
 use crate::TableSeat;
 use lst_core_state::{Event, Numbers};
 use lst_layout::Limits;
-use lst_page_state::{MergerNumbers, PageEvent};
+use lst_pages::{MergerNumbers, PageEvent};
 use std::marker::Model;
 
 /// A seat at the table of a store. It hosts sessions, and for each keeps the numbers of what that session knows.
@@ -36,9 +36,9 @@ impl Seat {
     ghost use Rattle.lst_core_state.specs.Step.{session_of, Enabled, IsWithin};
     ghost use Rattle.lst_core_state.specs.Numbers.{numbers_of, place_for};
     ghost use Rattle.lst_core_state.specs.Bounds.{IsWritable};
-    ghost use Rattle.lst_page_state.specs.Known.{stepper, PageEnabled};
-    ghost use Rattle.lst_page_state.specs.Numbers as page_numbers;
-    ghost use Rattle.lst_page_state.specs.Step as page_step;
+    ghost use Rattle.lst_pages.specs.Known.{stepper, PageEnabled};
+    ghost use Rattle.lst_pages.specs.Numbers as page_numbers;
+    ghost use Rattle.lst_pages.specs.Step as page_step;
     ghost use Rattle.lst_rule.specs.Actions.{stock_numbers};
     ghost use Rattle.lst_rule.specs.Rule.{knows, hosts};
     ghost use Rattle.lst_rule.specs.Learned.{Possible, PageCanStand};

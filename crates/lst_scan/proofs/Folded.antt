@@ -7,7 +7,7 @@ use Rattle.lst_layout.specs.Words.{Words, shown, word_at}
 use Rattle.lst_machine.specs.State.{State}
 use Rattle.lst_core_state.specs.declared.known.Known.{Known}
 use Rattle.lst_core_state.specs.Cells.{record_count, range_of}
-use Rattle.lst_page_state.specs.Sound.{tps_at}
+use Rattle.lst_pages.specs.Sound.{tps_at}
 use Rattle.lst_rule.specs.declared.view.View.{View}
 use Rattle.lst_rule.specs.Rule.{knows}
 use Rattle.lst_rule.specs.Learned.{Possible}

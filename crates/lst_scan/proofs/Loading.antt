@@ -14,7 +14,7 @@ use Rattle.lst_pack.specs.declared.forms.Form.{Form}
 use Rattle.lst_pack.specs.declared.forms.Form.TheVariants.{Constant, Dictionary, Runs, Reference, Plain}
 use Rattle.lst_pack.specs.Forms.{form_word, form_words, Packs, IsPacked}
 use Rattle.lst_pack.proofs.Reading.{rest_is_free}
-use Rattle.lst_page_state.specs.State.{hand_of}
+use Rattle.lst_pages.specs.State.{hand_of}
 use Rattle.lst_rule.specs.declared.view.View.{View}
 use Rattle.lst_rule.specs.declared.store.Store.{Store}
 use Rattle.lst_rule.specs.Rule.{knows}

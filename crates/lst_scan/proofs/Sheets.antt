@@ -25,10 +25,10 @@ use Rattle.lst_core_state.specs.State.{state_over}
 use Rattle.lst_pack.specs.Forms.{Packs, IsPacked}
 use Rattle.lst_pages.specs.Frames.{tps_in, stamp_in, packed_in}
 use Rattle.lst_pages.specs.Pages.{IsRightPage}
-use Rattle.lst_page_state.specs.Runs.{IsReadable}
-use Rattle.lst_page_state.specs.Known.{pages_in}
-use Rattle.lst_page_state.specs.Settled.{settled_tails}
-use Rattle.lst_page_state.specs.State.{hand_of}
+use Rattle.lst_pages.specs.Runs.{IsReadable}
+use Rattle.lst_pages.specs.Known.{pages_in}
+use Rattle.lst_pages.specs.Settled.{settled_tails}
+use Rattle.lst_pages.specs.State.{hand_of}
 use Rattle.lst_rule.specs.declared.runs.Run.TheVariants.{Times, Heads}
 use Rattle.lst_rule.specs.declared.view.View.{View}
 use Rattle.lst_rule.specs.declared.store.Store.{Store}

@@ -6,7 +6,7 @@ use Rattle.lst_layout.specs.Frames.{lineage_place, time_place}
 use Rattle.lst_layout.specs.Words.{Words, shown, word_at}
 use Rattle.lst_bits.specs.Times.{time_of}
 use Rattle.lst_core_state.specs.Cells.{range_of}
-use Rattle.lst_page_state.specs.Sound.{tps_at}
+use Rattle.lst_pages.specs.Sound.{tps_at}
 use Rattle.lst_pages.specs.Frames.{stamp_in}
 use Rattle.lst_rule.specs.declared.runs.Run.{Run}
 use Rattle.lst_rule.specs.declared.runs.Run.TheVariants.{Times, Heads}

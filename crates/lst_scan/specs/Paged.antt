@@ -14,12 +14,12 @@ stamps_of words = listed words FRAME_TIMES RANGE_RECORDS
 
 -- the session s has the page of the range and the column in hand, in this frame, and some tail record is merged into it
 abbrev pub IsInHand : View → (s range column frame : ℕ) → Type 0
-IsInHand v s range column frame = (tps : ℕ) × Keeps v s range column record { frame = frame; tps = tps } × (0 < tps)
+IsInHand v s range column frame = (tps : ℕ) × Keeps v s range column frame tps × (0 < tps)
 
 -- the session s has the page of the range and the column in hand, some tail record is merged into it, and these are its TPS and its time words
 pub record HasPage (v : View) (s range column tps : ℕ) (stamps : List ℕ) : Type 0 where
   pub frame : ℕ
-  pub keeps : Keeps v s range column record { frame = frame; tps = tps }
+  pub keeps : Keeps v s range column frame tps
   pub some : 0 < tps
   pub are : stamps ≡ stamps_of (slice_index keeps.page.words)
 

@@ -2,7 +2,7 @@
 use Rattle.std.specs.Prelude.{◌≡◌, ℕ, ◌<◌, ◌≤◌, List, true, slice_index}
 use Rattle.lst_layout.specs.declared.TheConstants.{RANGE_RECORDS}
 use Rattle.lst_pages.specs.Frames.{stamp_in}
-use Rattle.lst_page_state.specs.Sound.{tps_at}
+use Rattle.lst_pages.specs.Sound.{tps_at}
 use Rattle.lst_rule.specs.declared.view.View.{View}
 use Rattle.lst_rule.specs.Rule.{knows}
 use Rattle.lst_crew_state.specs.Folding.{AreAllFolded, NeedsNoTail}

@@ -37,7 +37,7 @@ use Rattle.lst_crew_state.proofs.PageParts.{pins_and_pages_are_told}
 use Rattle.lst_crew_state.proofs.Stamped.{stamps_tell_nothing}
 use Rattle.lst_rule.specs.declared.store.Store.{Store}
 use Rattle.lst_session.specs.declared.crew.Crew.{Crew}
-use Rattle.lst_page_state.specs.Runs.{tps_known}
+use Rattle.lst_pages.specs.Runs.{tps_known}
 use Rattle.lst_session.specs.Crews.{words_of, IsCrewOf, TellsState, store_told, pages_known, state_told}
 
 -- ---- a crew that tells the machine's state

@@ -37,7 +37,7 @@ use Rattle.lst_session.specs.Replies.{begin_cause, begin_reply, commit_reply, ab
 use Rattle.lst_session.proofs.Crewed.{StoreAnswers, opened_by, opened_some}
 use Rattle.lst_session.proofs.Growing.{stock_stays, pins_stay}
 use Rattle.lst_session.proofs.Keeping.{called_same}
-use Rattle.lst_page_state.specs.Runs.{tps_known}
+use Rattle.lst_pages.specs.Runs.{tps_known}
 use Rattle.lst_session.proofs.Turning as turning
 
 pub same_stock : (l : Limits) (m o : MergerFrames) → o ≡ m → SameStock l m o

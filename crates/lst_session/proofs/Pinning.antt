@@ -15,7 +15,7 @@ use Rattle.lst_rule.specs.Rule.{knows}
 use Rattle.lst_rule.specs.Learned.{Possible, Learns}
 use Rattle.lst_rule.specs.PageSteps.{pinned_at, unpinned}
 use Rattle.lst_rule.proofs.Learning.{possible_after}
-use Rattle.lst_page_state.specs.declared.events.PageEvent.TheVariants as steps
+use Rattle.lst_pages.specs.declared.events.PageEvent.TheVariants as steps
 use Rattle.lst_retire.specs.Pins.{epoch_loaded, Pins, Unpins}
 use Rattle.lst_crew_state.specs.Crews.{IsIdle}
 use Rattle.lst_crew_state.specs.Effects.{SameTransactions, TellAlike}

@@ -1,6 +1,6 @@
 //! The parts of a merge called by hand on a crew's seat: the run, a free frame, the page that is built there, and the swap.
 ghost use Rattle.std.specs.Prelude.{◌≡◌, ◌<◌, true, IfOk};
-ghost use Rattle.lst_page_state.specs.Sound.{IsPage};
+ghost use Rattle.lst_pages.specs.Sound.{IsPage};
 ghost use Rattle.lst_rule.specs.Rule.{hosts};
 ghost use Rattle.lst_rule.specs.Stores.{IsSeatOf};
 ghost use Rattle.lst_session.specs.Crews.{IsCrewOf};

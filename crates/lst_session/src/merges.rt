@@ -7,7 +7,7 @@ use lst_rule::Store;
 impl Crew {
     ghost use Rattle.std.specs.Prelude.{◌≡◌};
     ghost use Rattle.lst_model.specs.declared.lines.Line.TheVariants as line;
-    ghost use Rattle.lst_page_state.specs.Sound.{IsPage};
+    ghost use Rattle.lst_pages.specs.Sound.{IsPage};
     ghost use Rattle.lst_merge.specs.Merges.{Merges};
     ghost use Rattle.lst_session.specs.Crews.{IsCrewOf, TellsState, AnswersLine};
     ghost use Rattle.lst_session.specs.Replies.{merge_reply};
@@ -27,7 +27,6 @@ impl Crew {
 }
 
 impl Merger {
-    ghost use Rattle.lst_page_state.specs.Sound.{IsPage};
     ghost use Rattle.lst_merge.specs.Merges.{Merges};
     ghost use Rattle.lst_session.specs.Parting.{IsMergerOf};
 

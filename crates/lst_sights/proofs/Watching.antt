@@ -23,9 +23,9 @@ use Rattle.lst_core_state.specs.Facts.{index_facts, chain_facts, state_fact, sto
 use Rattle.lst_core_state.specs.declared.events.Event.TheVariants.{Look}
 use Rattle.lst_core_state.specs.State.{Words, record_in, history_of, commits_of, mine, state_over}
 use Rattle.lst_core_state.specs.Step.{look_at, refreshed}
-use Rattle.lst_page_state.specs.State.{hand_of}
-use Rattle.lst_page_state.specs.Runs.{IsReadable}
-use Rattle.lst_page_state.specs.Known.{pages_in}
+use Rattle.lst_pages.specs.State.{hand_of}
+use Rattle.lst_pages.specs.Runs.{IsReadable}
+use Rattle.lst_pages.specs.Known.{pages_in}
 use Rattle.lst_rule.specs.declared.view.View.{View}
 use Rattle.lst_rule.specs.Rule.{knows, hosts}
 use Rattle.lst_rule.specs.Learned.{Learns}

@@ -24,10 +24,10 @@ use Rattle.lst_pages.specs.Tails.{is_on}
 use Rattle.lst_pages.specs.Rows.{act_of, column_of}
 use Rattle.lst_pages.specs.Chains.{IsWalked, entry_at}
 use Rattle.lst_pages.proofs.Chains.{told_front, entry_is_answer}
-use Rattle.lst_page_state.specs.Settled.{tail_in, is_settled, settled_tails}
-use Rattle.lst_page_state.specs.Laws.{AreNumbered}
-use Rattle.lst_page_state.proofs.Growing.{settled_says}
-use Rattle.lst_page_state.proofs.Numbering.{settled_are_numbered}
+use Rattle.lst_pages.specs.Settled.{tail_in, is_settled, settled_tails}
+use Rattle.lst_pages.specs.StateLaws.{AreNumbered}
+use Rattle.lst_pages.proofs.Growing.{settled_says}
+use Rattle.lst_pages.proofs.Numbering.{settled_are_numbered}
 use Rattle.lst_sights.specs.Copies.{Version, tails_of, Leads}
 use Rattle.lst_sights.specs.Seen.{is_early, sees, seen_acts}
 use Rattle.lst_sights.proofs.Copying.{versions_at, length-listed}

@@ -8,7 +8,7 @@ use Rattle.lst_layout.proofs.Functions.{listed_same, length-listed, get-listed}
 use Rattle.lst_core_state.specs.declared.known.Known.{Known}
 use Rattle.lst_core_state.specs.declared.pages.PageInHand.{PageInHand}
 use Rattle.lst_core_state.specs.declared.pages.SessionFrames.{SessionFrames}
-use Rattle.lst_page_state.specs.State.{hand_of}
+use Rattle.lst_pages.specs.State.{hand_of}
 use Rattle.lst_pages.specs.Frames.{packed_in}
 use Rattle.lst_rule.specs.declared.view.View.{View}
 use Rattle.lst_rule.specs.Rule.{knows, hosts}

@@ -16,9 +16,9 @@ use Rattle.lst_core_state.specs.State.{state_over}
 use Rattle.lst_pack.specs.Forms.{Packs, IsPacked}
 use Rattle.lst_pages.specs.Frames.{tps_in, stamp_in}
 use Rattle.lst_pages.specs.Pages.{IsRightPage}
-use Rattle.lst_page_state.specs.Runs.{IsReadable}
-use Rattle.lst_page_state.specs.Known.{pages_in}
-use Rattle.lst_page_state.specs.Settled.{settled_tails}
+use Rattle.lst_pages.specs.Runs.{IsReadable}
+use Rattle.lst_pages.specs.Known.{pages_in}
+use Rattle.lst_pages.specs.Settled.{settled_tails}
 use Rattle.lst_rule.specs.declared.view.View.{View}
 use Rattle.lst_rule.specs.declared.store.Store.{Store}
 use Rattle.lst_rule.specs.Rule.{knows, hosts}
@@ -295,9 +295,6 @@ module _ (store : Store) (v : View) (a : Sitting) (s rec column n : ℕ) (entry 
   -- and where there is none
   pub page_absent : entry.is_present ≡ false → IsCellOf v s rec column None
   page_absent none = (seen_acts (knows v s) s (walk.passed ++ walk.versions), sight, ap (λ (b : Bool). cond b (Some (slice_index values (rec % 256))) None) (sym none ∙ serves.is.present) ∙ by_presence (is_present (stamp_in serves.words (rec % 256))) refl)
-
-  pub page_packs : Packs (packed_words a.view s entry.frame) serves.page.right.entries.values
-  page_packs = packs
 
   pub page_used : (result : Option ℕ) → ((vs : List ℕ) → Packs (packed_words a.view s entry.frame) vs → result ≡ cond entry.is_present (Some (slice_index vs (rec % 256))) None) → IsCellOf v s rec column result
   page_used result is = (seen_acts (knows v s) s (walk.passed ++ walk.versions), sight, is values packs ∙ (ap (λ (b : Bool). cond b (Some (slice_index values (rec % 256))) None) serves.is.present ∙ by_presence (is_present (stamp_in serves.words (rec % 256))) refl))

@@ -20,7 +20,7 @@ use Rattle.lst_pages.specs.Frames as frames
 use Rattle.lst_pages.specs.Frames.{tps_in, stamp_in, entry_in, IsEntry, HasEntries}
 use Rattle.lst_pages.specs.Rows.{cell_at, column_of}
 use Rattle.lst_pages.specs.Chains.{entry_at}
-use Rattle.lst_page_state.specs.Settled.{settled_tails}
+use Rattle.lst_pages.specs.Settled.{settled_tails}
 use Rattle.lst_rule.specs.declared.view.View.{View}
 use Rattle.lst_rule.specs.Rule.{knows, hosts}
 use Rattle.lst_rule.specs.Learned.{Possible}

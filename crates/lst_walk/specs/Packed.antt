@@ -3,7 +3,7 @@ use Rattle.std.specs.Prelude.{◌≡◌, ℕ, ◌<◌, List, [], Option, Some, N
 use Rattle.std.proofs.Common.{◌∙◌}
 use Rattle.lst_layout.specs.Areas.{frame_count}
 use Rattle.lst_core_state.specs.declared.pages.PageInHand.{PageInHand}
-use Rattle.lst_page_state.specs.State.{hand_of}
+use Rattle.lst_pages.specs.State.{hand_of}
 use Rattle.lst_pages.specs.Frames.{packed_in}
 use Rattle.lst_rule.specs.declared.view.View.{View}
 use Rattle.lst_rule.specs.declared.store.Store.{Store}

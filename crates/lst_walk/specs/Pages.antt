@@ -12,7 +12,7 @@ use Rattle.lst_core_state.specs.Cells.{range_of}
 use Rattle.lst_pages.specs.Tails.{touches_column}
 use Rattle.lst_pages.specs.Frames.{tps_in, stamp_in}
 use Rattle.lst_pages.specs.Pages.{IsRightPage}
-use Rattle.lst_page_state.specs.Settled.{settled_tails}
+use Rattle.lst_pages.specs.Settled.{settled_tails}
 use Rattle.lst_rule.specs.declared.view.View.{View}
 use Rattle.lst_rule.specs.Rule.{knows}
 use Rattle.lst_rule.specs.Learned.{Possible}

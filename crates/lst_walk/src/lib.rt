@@ -10,11 +10,9 @@ mod packed;
 mod pages;
 mod rows;
 mod stamps;
-mod taken;
 mod whole;
 mod words;
 
 pub use columns::{column, column_by_chain};
 pub use rows::{put_row, row};
 pub use stamps::stamp;
-pub use taken::{TakenPage, column_by, is_there_by, page_of};

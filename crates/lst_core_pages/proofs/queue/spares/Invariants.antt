@@ -1,5 +1,5 @@
 use Rattle.std.proofs.Common.{◌≡◌}
-use Rattle.lst_page_state.specs.State as state
+use Rattle.lst_pages.specs.State as state
 use Rattle.lst_core_pages.proofs.queue.spares.Given as goal
 
 abbrev pub invariant-loop-k : goal.invariant-loop-k

@@ -1,5 +1,5 @@
 use Rattle.std.proofs.Common.{◌≡◌, ℕ, true, sym, subst, ap, ◌∙◌}
-use Rattle.lst_page_state.specs.Runs.{frame_known}
+use Rattle.lst_pages.specs.Runs.{frame_known}
 use Rattle.lst_rule.specs.Learned.{Learns}
 use Rattle.lst_rule.specs.Rule.{knows, hosts}
 use Rattle.lst_merge.proofs.Statuses.{merger_is}

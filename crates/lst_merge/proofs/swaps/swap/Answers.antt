@@ -1,7 +1,7 @@
 use Rattle.std.proofs.Common.{◌+◌, ℕ, sym, ap, subst, ◌∙◌, arith}
 use Rattle.lst_layout.specs.declared.limits.Limits.{Limits}
-use Rattle.lst_page_state.specs.Runs.{page_known}
-use Rattle.lst_page_state.specs.Sound.{IsPage}
+use Rattle.lst_pages.specs.Runs.{page_known}
+use Rattle.lst_pages.specs.Sound.{IsPage}
 use Rattle.lst_rule.specs.PageSteps.{stock_of}
 use Rattle.lst_merge.proofs.Swapping.{spares_long, spares_latest, epoch_fits, spares_few, swap_host, swap_built, swap_ready, raise_host, raise_ready, swaps, spares_after, look_known}
 use Rattle.lst_merge.proofs.swaps.swap.Goals as goal

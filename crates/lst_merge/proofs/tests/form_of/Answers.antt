@@ -1,5 +1,5 @@
 use Rattle.std.proofs.Common.{arith, replicate}
-use Rattle.lst_page_state.proofs.Functions.{get-replicate}
+use Rattle.lst_pages.proofs.Functions.{get-replicate}
 use Rattle.lst_merge.proofs.Wording.{zeros_are_numbers}
 use Rattle.lst_merge.proofs.tests.form_of.Goals as goal
 

@@ -1,5 +1,5 @@
 use Rattle.std.proofs.Common.{◌≡◌, ℕ, true, refl, ap, subst, ◌∙◌}
-use Rattle.lst_page_state.specs.Known.{PageEnabled}
+use Rattle.lst_pages.specs.Known.{PageEnabled}
 use Rattle.lst_rule.specs.declared.actions.Action.TheVariants.{Page}
 use Rattle.lst_rule.specs.declared.view.View.{View}
 use Rattle.lst_rule.specs.Actions.{stock_numbers}

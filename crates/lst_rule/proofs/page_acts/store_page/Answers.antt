@@ -1,8 +1,8 @@
 use Rattle.std.proofs.Common.{◌≡◌, ℕ, true, refl, ap, sym, subst, ◌∙◌, arith}
-use Rattle.lst_page_state.specs.Known.{PageEnabled}
-use Rattle.lst_page_state.specs.Numbers as page_numbers
-use Rattle.lst_page_state.specs.declared.numbers.MergerNumbers.{MergerNumbers}
-use Rattle.lst_page_state.specs.Step.{place_of}
+use Rattle.lst_pages.specs.Known.{PageEnabled}
+use Rattle.lst_pages.specs.Numbers as page_numbers
+use Rattle.lst_pages.specs.declared.numbers.MergerNumbers.{MergerNumbers}
+use Rattle.lst_pages.specs.Step.{place_of}
 use Rattle.lst_core_state.specs.declared.numbers.Numbers.{Numbers}
 use Rattle.lst_rule.specs.declared.actions.Action.TheVariants.{Page}
 use Rattle.lst_rule.specs.declared.view.View.{View}

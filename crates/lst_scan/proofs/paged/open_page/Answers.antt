@@ -3,7 +3,7 @@ use Rattle.lst_layout.specs.declared.limits.Limits.{Limits}
 use Rattle.lst_layout.specs.Areas.{frame_count}
 use Rattle.lst_core_state.specs.declared.known.Known.{Known}
 use Rattle.lst_pack.specs.Forms.{Packs}
-use Rattle.lst_page_state.specs.State.{hand_of}
+use Rattle.lst_pages.specs.State.{hand_of}
 use Rattle.lst_walk.specs.Packed.{skims_on, packed_of}
 use Rattle.lst_scan.proofs.Sheets.{hand_low, hand_packed, hand_kept, stamps_loaded, stamps_values, stamps_skim}
 use Rattle.lst_scan.proofs.Untold.{frame_still, stamps_told}

@@ -1,7 +1,7 @@
 use Rattle.std.proofs.Common.{◌≡◌, ℕ, true, Option, Some, None, refl, ap, sym, subst, ◌∙◌, true≢false}
 use Rattle.std.specs.Option.{is_some}
 use Rattle.lst_core_pages.specs.Cells.{Cells, pages_of}
-use Rattle.lst_page_state.specs.Step.{Enabled}
+use Rattle.lst_pages.specs.Step.{Enabled}
 use Rattle.lst_core_pages.proofs.page_core.PageCore.is_enabled.Goals as goal
 
 there : (o : Option ℕ) → is_some o ≡ true → (f : ℕ) × (o ≡ Some f)

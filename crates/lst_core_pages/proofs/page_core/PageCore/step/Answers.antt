@@ -1,6 +1,6 @@
 use Rattle.std.proofs.Common.{ap, sym, subst, ◌∙◌}
 use Rattle.lst_core_pages.specs.Cells.{Cells, pages_of}
-use Rattle.lst_page_state.specs.Sound.{Sound}
+use Rattle.lst_pages.specs.Sound.{Sound}
 use Rattle.lst_core_pages.proofs.Steppings.{found_is, step_state, step_core}
 use Rattle.lst_core_pages.proofs.page_core.PageCore.step.Goals as goal
 

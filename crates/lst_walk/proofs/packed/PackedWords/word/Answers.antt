@@ -1,7 +1,7 @@
 use Rattle.std.proofs.Common.{rules, arith, ◌+◌, ◌<◌, sym, subst}
 use Rattle.lst_layout.specs.declared.limits.Limits.{Limits}
 use Rattle.lst_layout.specs.Areas.{frame_count}
-use Rattle.lst_page_state.specs.State.{hand_of}
+use Rattle.lst_pages.specs.State.{hand_of}
 use Rattle.lst_rule.specs.Rule.{knows}
 use Rattle.lst_walk.proofs.Reading.{reader_on}
 use Rattle.lst_walk.proofs.Loading.{frame_skims, frame_knows, packed_low, packed_word}

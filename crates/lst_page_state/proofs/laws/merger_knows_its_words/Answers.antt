@@ -1,5 +1,0 @@
-use Rattle.lst_page_state.proofs.Safety.{sound_known}
-use Rattle.lst_page_state.proofs.laws.merger_knows_its_words.Goals as goal
-
-pub returns : goal.returns
-returns c = sound_known

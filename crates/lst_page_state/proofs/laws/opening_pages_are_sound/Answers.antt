@@ -1,5 +1,0 @@
-use Rattle.lst_page_state.proofs.Beginning.{opening_is_sound}
-use Rattle.lst_page_state.proofs.laws.opening_pages_are_sound.Goals as goal
-
-pub returns : goal.returns
-returns c = opening_is_sound

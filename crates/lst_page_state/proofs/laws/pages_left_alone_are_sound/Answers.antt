@@ -1,5 +1,0 @@
-use Rattle.lst_page_state.proofs.Leaving.{pages_are_left}
-use Rattle.lst_page_state.proofs.laws.pages_left_alone_are_sound.Goals as goal
-
-pub returns : goal.returns
-returns c = pages_are_left

@@ -1,9 +1,0 @@
-pub mod Lists
-pub mod State
-pub mod Step
-pub mod Numbers
-pub mod Sound
-pub mod Runs
-pub mod Settled
-pub mod Known
-pub mod Laws
