@@ -16,8 +16,8 @@ use Rattle.lst_rule.proofs.Knowing.{knows_own}
 use Rattle.lst_rule.proofs.Bounded.{numbers_few}
 use Rattle.lst_sights.specs.Watching.{Watched}
 use Rattle.lst_txn.specs.declared.ends.Idle.{Idle}
-use Rattle.lst_calls.specs.declared.kinds.Outcome.{Outcome}
-use Rattle.lst_calls.specs.declared.kinds.Outcome.TheVariants.{Committed, Ended}
+use Rattle.lst_session.specs.declared.kinds.Outcome.{Outcome}
+use Rattle.lst_session.specs.declared.kinds.Outcome.TheVariants.{Committed, Ended}
 use Rattle.lst_session.specs.declared.session.Session.{Session}
 use Rattle.lst_session.specs.Calls.{Called}
 use Rattle.lst_session.specs.Passes.{IsReady}

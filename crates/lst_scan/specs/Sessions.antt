@@ -9,7 +9,7 @@ use Rattle.lst_model.specs.declared.replies.Cause.TheVariants as cause
 use Rattle.lst_machine.specs.Calls.{is_indexed}
 use Rattle.lst_rule.specs.declared.view.View.{View}
 use Rattle.lst_rule.specs.Rule.{knows}
-use Rattle.lst_calls.specs.declared.kinds.Outcome.TheVariants as outcome
+use Rattle.lst_session.specs.declared.kinds.Outcome.TheVariants as outcome
 use Rattle.lst_session.specs.Calls.{Called}
 use Rattle.lst_session.specs.Waits.{ConcludesAtLast}
 use Rattle.lst_session.specs.Lines.{IsOpen, IsClosed, SessionLeaves}

@@ -1,7 +1,7 @@
 //! Sums and counts over the records of a range by the page of a column: of its words those are loaded that its form takes, and its time words by
 //! one call, and the indirection words of the range by another. The page tells of each record whose newest version is at most its TPS, where the
 //! entry's time is at most the begin. The other records are walked along their chains, without another look at the page.
-ghost use Rattle.std.specs.Prelude.{◌≡◌, ℕ, ◌+◌, ◌*◌, ◌/◌, ◌%◌, ◌^◌, ◌<◌, ◌≤◌, List, IfSome, None, length, slice_index, nat_le, ◌&&◌, true};
+ghost use Rattle.std.specs.Prelude.{◌≡◌, ℕ, ◌+◌, ◌*◌, ◌/◌, ◌%◌, ◌^◌, ◌<◌, ◌≤◌, List, IfSome, Some, None, length, slice_index, nat_le, ◌&&◌, true};
 ghost use Rattle.lst_model.specs.Tables.{sum_of, count_of};
 ghost use Rattle.lst_bits.specs.Times.{time_of};
 ghost use Rattle.lst_layout.specs.Areas.{frame_count};
@@ -135,29 +135,26 @@ fn is_told(head: u64, stamp: u64, tps: u64, begin: u64) -> bool
     head / 2 <= tps && stamp / 2 <= begin
 }
 
-/// Whether a page with this TPS tells of all records of a range, by the indirection words and the page's time words. Half of each word gets the
-/// room that its greatest number has below 2^63 added: one that is above comes to 2^63 or more. So all are looked at without a branch.
-fn are_told(heads: &[u64; 256], times: &[u64; 256], tps: u64, begin: u64) -> bool
-    ensures { result ≡ true → (i : ℕ) → i < 256 → (slice_index heads.now i / 2 ≤ tps) × (time_of (slice_index times.now i) ≤ begin) }
+/// Whether all entries of a page are present, where a page with this TPS tells of all records of a range, by the indirection words and the page's time
+/// words; None where it doesn't. Half of each word gets the room that its greatest number has below 2^63 added: one that is above comes to 2^63 or
+/// more. So all are looked at once, without a branch.
+fn all_told(heads: &[u64; 256], times: &[u64; 256], tps: u64, begin: u64) -> Option<bool>
+    ensures told { IfSome result (λ _. (i : ℕ) → i < 256 → (slice_index heads.now i / 2 ≤ tps) × (time_of (slice_index times.now i) ≤ begin)) }
+    ensures present { result ≡ Some true → (i : ℕ) → i < 256 → slice_index times.now i % 2 ≡ 1 }
 {
     let head_room = LAST - tps.min(LAST);
     let time_room = LAST - begin.min(LAST);
     let mut late = 0;
-    for slot in 0..256 {
-        late |= (heads[slot] / 2 + head_room) | (times[slot] / 2 + time_room);
-    }
-    late <= LAST
-}
-
-/// Whether all entries of a page are present, by its time words.
-fn are_present(times: &[u64; 256]) -> bool
-    ensures { result ≡ true → (i : ℕ) → i < 256 → slice_index times.now i % 2 ≡ 1 }
-{
     let mut present = 1;
     for slot in 0..256 {
+        late |= (heads[slot] / 2 + head_room) | (times[slot] / 2 + time_room);
         present &= times[slot];
     }
-    present % 2 == 1
+    if late <= LAST {
+        Some(present % 2 == 1)
+    } else {
+        None
+    }
 }
 
 /// The numbers of a column, 0 for null, added over the rows of one range, by the page in this frame, which is in hand.
@@ -244,8 +241,8 @@ fn sum_untold(
     seat.consider();
     load_heads(store, seat, s, range, heads);
     let begin = seat.begin(s);
-    if are_told(heads, times, tps, begin) {
-        return none_walked(are_present(times));
+    if let Some(all_present) = all_told(heads, times, tps, begin) {
+        return none_walked(all_present);
     }
     let mut total: u128 = 0;
     for slot in 0..256 {
@@ -331,8 +328,8 @@ fn count_untold(
     seat.consider();
     load_heads(store, seat, s, range, heads);
     let begin = seat.begin(s);
-    if are_told(heads, times, tps, begin) {
-        return none_counted(are_present(times));
+    if let Some(all_present) = all_told(heads, times, tps, begin) {
+        return none_counted(all_present);
     }
     let mut rows: u64 = 0;
     for slot in 0..256 {

@@ -22,7 +22,7 @@ use Rattle.lst_rule.proofs.Knowing.{whole_words}
 use Rattle.lst_rule.proofs.Learning.{learns_on}
 use Rattle.lst_second.specs.Posting.{ChangesPostings}
 use Rattle.lst_write.specs.Appending.{ChangesTail, with_count}
-use Rattle.lst_calls.specs.Traces.{Prepared, Installs}
+use Rattle.lst_session.specs.Traces.{Prepared, Installs}
 use Rattle.lst_crew_state.specs.Crews.{IsIdle}
 use Rattle.lst_crew_state.specs.Effects.{SameTransactions, IsWritten}
 use Rattle.lst_crew_state.proofs.Openings.{transactions_are_told}

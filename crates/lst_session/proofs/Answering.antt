@@ -22,10 +22,10 @@ use Rattle.lst_txn.specs.declared.begins.BeginFault.{BeginFault}
 use Rattle.lst_txn.specs.declared.begins.BeginFault.TheVariants.{Active, Spent, Future}
 use Rattle.lst_txn.specs.Transactions as txn
 use Rattle.lst_crew_state.specs.Crews.{IsIdle, IsPinnedWhereOpen}
-use Rattle.lst_calls.specs.declared.kinds.WriteRefusal.{WriteRefusal}
-use Rattle.lst_calls.specs.declared.kinds.WriteRefusal.TheVariants.{Idle, ReadOnly, Missing, Exists, TableFull, Latched, Newer, Unfinished, TailFull}
-use Rattle.lst_calls.specs.Traces as traces
-use Rattle.lst_calls.specs.Traces.{is_put, misfit_of, FindsNone, FindsFullTable, Reads, TriesPlaced, TriesFound, MayWrite, Inserts, Changes}
+use Rattle.lst_session.specs.declared.kinds.WriteRefusal.{WriteRefusal}
+use Rattle.lst_session.specs.declared.kinds.WriteRefusal.TheVariants.{Idle, ReadOnly, Missing, Exists, TableFull, Latched, Newer, Unfinished, TailFull}
+use Rattle.lst_session.specs.Traces as traces
+use Rattle.lst_session.specs.Traces.{is_put, misfit_of, FindsNone, FindsFullTable, Reads, TriesPlaced, TriesFound, MayWrite, Inserts, Changes}
 use Rattle.lst_walk.proofs.Walking.{row_of_key}
 use Rattle.lst_session.specs.declared.session.Session.{Session}
 use Rattle.lst_session.specs.Calls.{FindsOneFull, SameLists, Begins, Gets, Accepts, Refuses, Cause, row_seen}

@@ -26,7 +26,7 @@ use Rattle.lst_crew_state.proofs.Began.{begins_are_told}
 use Rattle.lst_session.specs.Crews.{words_of, store_told}
 use Rattle.lst_session.specs.Replies.{begin_reply}
 use Rattle.lst_session.proofs.Crewed.{IsCrewView, StoreAnswers, allowed_whole, core_of, known_is, is_crew, told_is, others_on, begins_is, opened_by, opened_some, opened_none, kept_words, set_words, stamped_is, same_draws, crew_after, told_on, told_stays, away_still}
-use Rattle.lst_calls.specs.Traces as traces
+use Rattle.lst_session.specs.Traces as traces
 use Rattle.lst_session.proofs.Ending.{not_true}
 use Rattle.lst_session.proofs.Pinning.{learnt_low, learnt_closed, learnt_more, pinned_crew, pinned_told, pinned_possible, answers_from}
 

@@ -27,9 +27,9 @@ use Rattle.lst_rule.proofs.Learning.{learns_then}
 use Rattle.lst_rule.specs.Stores.{clocked}
 use Rattle.lst_txn.specs.Transactions as txn
 use Rattle.lst_retire.specs.Pins.{Unpins}
-use Rattle.lst_calls.specs.Traces.{TakesAndCommits, Ends}
-use Rattle.lst_calls.specs.declared.kinds.Outcome.{Outcome}
-use Rattle.lst_calls.specs.declared.kinds.Outcome.TheVariants.{Committed, Ended}
+use Rattle.lst_session.specs.Traces.{TakesAndCommits, Ends}
+use Rattle.lst_session.specs.declared.kinds.Outcome.{Outcome}
+use Rattle.lst_session.specs.declared.kinds.Outcome.TheVariants.{Committed, Ended}
 use Rattle.lst_crew_state.specs.Effects.{HasEnded, committed_words}
 use Rattle.lst_crew_state.proofs.Counts.{counts_are_told}
 use Rattle.lst_crew_state.proofs.Owns.{own_writes_are_told}

@@ -22,9 +22,9 @@ use Rattle.lst_index.specs.Searches.{IsPlaced}
 use Rattle.lst_index.specs.Placings.{HasNone, HasRecord, PlacedAnew}
 use Rattle.lst_index.proofs.Leaving.{ended_none}
 use Rattle.lst_index.proofs.Placed.{placed_in}
-use Rattle.lst_calls.specs.declared.kinds.WriteRefusal.{WriteRefusal}
-use Rattle.lst_calls.specs.declared.kinds.WriteRefusal.TheVariants as refusal
-use Rattle.lst_calls.specs.Traces.{FindsNone, FindsFullTable, Releases, Tries, TriesPlaced, TriesFound, MayWrite, Inserts, Changes}
+use Rattle.lst_session.specs.declared.kinds.WriteRefusal.{WriteRefusal}
+use Rattle.lst_session.specs.declared.kinds.WriteRefusal.TheVariants as refusal
+use Rattle.lst_session.specs.Traces.{FindsNone, FindsFullTable, Releases, Tries, TriesPlaced, TriesFound, MayWrite, Inserts, Changes}
 use Rattle.lst_session.specs.Crews.{words_of, store_told}
 use Rattle.lst_session.specs.Replies.{write_reply}
 use Rattle.lst_session.proofs.Crewed.{IsCrewView, allowed_whole, hosted_all, opened_by, opened_some, opened_none}

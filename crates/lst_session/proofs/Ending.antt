@@ -22,7 +22,7 @@ use Rattle.lst_crew_state.specs.Effects.{HasEnded, closed_words}
 use Rattle.lst_crew_state.proofs.Ended.{closes_are_told}
 use Rattle.lst_session.specs.Crews.{words_of, store_told}
 use Rattle.lst_session.specs.Replies.{abort_reply}
-use Rattle.lst_calls.specs.Traces.{Closes}
+use Rattle.lst_session.specs.Traces.{Closes}
 use Rattle.lst_session.proofs.Pinning.{unpinned_crew, unpinned_told, answers_to}
 use Rattle.lst_session.proofs.Crewed.{IsCrewView, StoreAnswers, allowed_whole, core_of, known_is, is_crew, told_is, others_on, opened_some, opened_none, set_words, same_draws, crew_after, told_on}
 

@@ -18,11 +18,11 @@ use Rattle.lst_rule.proofs.Learning.{learns_same}
 use Rattle.lst_txn.specs.declared.begins.BeginFault.{BeginFault}
 use Rattle.lst_txn.specs.declared.begins.BeginFault.TheVariants as begins
 use Rattle.lst_txn.specs.declared.ends.Idle.{Idle}
-use Rattle.lst_calls.specs.declared.kinds.WriteRefusal.{WriteRefusal}
-use Rattle.lst_calls.specs.declared.kinds.WriteRefusal.TheVariants as writes
-use Rattle.lst_calls.specs.declared.kinds.Outcome.{Outcome}
-use Rattle.lst_calls.specs.declared.kinds.Outcome.TheVariants.{Committed, Ended}
-use Rattle.lst_calls.specs.Traces as traces
+use Rattle.lst_session.specs.declared.kinds.WriteRefusal.{WriteRefusal}
+use Rattle.lst_session.specs.declared.kinds.WriteRefusal.TheVariants as writes
+use Rattle.lst_session.specs.declared.kinds.Outcome.{Outcome}
+use Rattle.lst_session.specs.declared.kinds.Outcome.TheVariants.{Committed, Ended}
+use Rattle.lst_session.specs.Traces as traces
 use Rattle.lst_crew_state.specs.Crews.{IsIdle, IsPinnedWhereOpen}
 use Rattle.lst_session.specs.declared.crew.Crew.{Crew}
 use Rattle.lst_session.specs.Calls.{Called, Begins, IsAhead, Accepts, Refuses, Cause, FindsLatch, Ends}

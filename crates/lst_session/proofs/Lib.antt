@@ -1,3 +1,5 @@
+pub mod Agreeing
+pub mod Tried
 pub mod Growing
 pub mod Turning
 pub mod Judging

@@ -25,10 +25,10 @@ use Rattle.lst_txn.specs.declared.ends.Idle.{Idle}
 use Rattle.lst_crew_state.specs.Effects.{SamePinEach, SamePinBut, SameStock, begins_or_ends}
 use Rattle.lst_crew_state.specs.Telling.{told_pages}
 use Rattle.lst_crew_state.proofs.PageParts.{pins_and_pages_are_told, pinned_begins_are_told, pinned_ends_are_told, other_calls_leave_pages}
-use Rattle.lst_calls.specs.declared.kinds.WriteRefusal.{WriteRefusal}
-use Rattle.lst_calls.specs.declared.kinds.Outcome.{Outcome}
-use Rattle.lst_calls.specs.declared.kinds.Outcome.TheVariants.{Committed, Ended}
-use Rattle.lst_calls.specs.Traces as traces
+use Rattle.lst_session.specs.declared.kinds.WriteRefusal.{WriteRefusal}
+use Rattle.lst_session.specs.declared.kinds.Outcome.{Outcome}
+use Rattle.lst_session.specs.declared.kinds.Outcome.TheVariants.{Committed, Ended}
+use Rattle.lst_session.specs.Traces as traces
 use Rattle.lst_session.specs.Calls as calls
 use Rattle.lst_sights.specs.Watching.{SamePins}
 use Rattle.lst_session.specs.Calls.{Called, TakesPinAway, OnlyLooks, Begins, IsAhead, Gets, Accepts, Refuses}

@@ -32,7 +32,7 @@ use Rattle.lst_rule.specs.Learned.{Possible, Learns}
 use Rattle.lst_rule.proofs.Learning.{learns_on}
 use Rattle.lst_index.specs.Searches.{Works, Keeps}
 use Rattle.lst_index.specs.Placings.{HasNone, drawn_words, claimed_words, PlacedAnew}
-use Rattle.lst_calls.specs.Traces.{FindsNone, FindsRecord, PlacesRecord, FindsFullTable}
+use Rattle.lst_session.specs.Traces.{FindsNone, FindsRecord, PlacesRecord, FindsFullTable}
 use Rattle.lst_crew_state.specs.Crews.{IsIdle}
 use Rattle.lst_crew_state.specs.Effects.{SameTransactions, placed_words}
 use Rattle.lst_crew_state.proofs.Counts.{counts_are_told}

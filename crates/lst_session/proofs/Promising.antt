@@ -8,11 +8,11 @@ use Rattle.lst_rule.specs.Rule.{knows, hosts}
 use Rattle.lst_rule.specs.Learned.{Possible}
 use Rattle.lst_rule.specs.Seats.{Sitting}
 use Rattle.lst_txn.specs.declared.ends.Idle.{Idle}
-use Rattle.lst_calls.specs.declared.kinds.WriteRefusal.{WriteRefusal}
-use Rattle.lst_calls.specs.declared.kinds.Outcome.{Outcome}
-use Rattle.lst_calls.specs.declared.kinds.Outcome.TheVariants.{Committed, Ended}
-use Rattle.lst_calls.specs.Traces as traces
-use Rattle.lst_calls.specs.Traces.{is_put, Reads, Inserts, Changes}
+use Rattle.lst_session.specs.declared.kinds.WriteRefusal.{WriteRefusal}
+use Rattle.lst_session.specs.declared.kinds.Outcome.{Outcome}
+use Rattle.lst_session.specs.declared.kinds.Outcome.TheVariants.{Committed, Ended}
+use Rattle.lst_session.specs.Traces as traces
+use Rattle.lst_session.specs.Traces.{is_put, Reads, Inserts, Changes}
 use Rattle.lst_crew_state.specs.Crews.{IsIdle}
 use Rattle.lst_session.specs.Calls.{Gets, Accepts, Refuses, Cause, Commits, Ends}
 use Rattle.lst_session.proofs.Growing.{begun_early}

@@ -14,9 +14,9 @@ use Rattle.lst_rule.specs.Learned.{Possible, Learns}
 use Rattle.lst_rule.proofs.Knowing.{whole_words, knows_own}
 use Rattle.lst_rule.proofs.Learning.{learns_on}
 use Rattle.lst_sights.specs.Watching.{Watched}
-use Rattle.lst_calls.specs.declared.kinds.WriteRefusal.{WriteRefusal}
-use Rattle.lst_calls.specs.declared.kinds.WriteRefusal.TheVariants as refusal
-use Rattle.lst_calls.specs.Traces.{Judges, FoundTailsFull, Releases, Tries}
+use Rattle.lst_session.specs.declared.kinds.WriteRefusal.{WriteRefusal}
+use Rattle.lst_session.specs.declared.kinds.WriteRefusal.TheVariants as refusal
+use Rattle.lst_session.specs.Traces.{Judges, FoundTailsFull, Releases, Tries}
 use Rattle.lst_session.specs.Crews.{words_of, store_told}
 use Rattle.lst_session.proofs.Crewed.{IsCrewView}
 use Rattle.lst_session.specs.Replies.{write_cause}

@@ -28,8 +28,8 @@ use Rattle.lst_sights.specs.Watching.{IsStamped}
 use Rattle.lst_sights.proofs.Stamps.{made_words}
 use Rattle.lst_write.specs.Judgements.{FoundNewer, FoundUnfinished}
 use Rattle.lst_write.specs.Appending.{FindsFull}
-use Rattle.lst_calls.specs.declared.kinds.WriteRefusal.{WriteRefusal}
-use Rattle.lst_calls.specs.Traces.{misfit_of, Judges}
+use Rattle.lst_session.specs.declared.kinds.WriteRefusal.{WriteRefusal}
+use Rattle.lst_session.specs.Traces.{misfit_of, Judges}
 use Rattle.lst_crew_state.specs.Telling.{told}
 use Rattle.lst_crew_state.specs.Effects.{SameTransactions}
 use Rattle.lst_crew_state.proofs.Keys.{keys_are_placed}

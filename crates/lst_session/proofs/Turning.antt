@@ -25,11 +25,11 @@ use Rattle.lst_rule.specs.Stores.{clocked}
 use Rattle.lst_write.specs.Standings.{FoundSince}
 use Rattle.lst_txn.specs.Transactions as txn
 use Rattle.lst_crew_state.specs.Crews.{IsIdle}
-use Rattle.lst_calls.specs.declared.kinds.Outcome.{Outcome}
-use Rattle.lst_calls.specs.declared.kinds.Outcome.TheVariants.{Committed, Ended}
-use Rattle.lst_calls.specs.declared.kinds.CommitRefusal.{CommitRefusal}
-use Rattle.lst_calls.specs.declared.kinds.CommitRefusal.TheVariants.{Idle, Busy}
-use Rattle.lst_calls.specs.Traces as traces
+use Rattle.lst_session.specs.declared.kinds.Outcome.{Outcome}
+use Rattle.lst_session.specs.declared.kinds.Outcome.TheVariants.{Committed, Ended}
+use Rattle.lst_session.specs.declared.kinds.CommitRefusal.{CommitRefusal}
+use Rattle.lst_session.specs.declared.kinds.CommitRefusal.TheVariants.{Idle, Busy}
+use Rattle.lst_session.specs.Traces as traces
 use Rattle.lst_session.specs.Calls.{FindsNoneFull, Begins, IsAhead, Commits, Ends, FindsHeld}
 use Rattle.lst_session.proofs.Growing.{merger_hosted, stock_stays, Grown, grown_on, pins_by, found_on, none_full_on, called, same_extends, same_facts, same_finds, none_full_still, away_stays}
 

@@ -12,8 +12,8 @@ use Rattle.lst_rule.specs.declared.store.Store.{Store}
 use Rattle.lst_rule.specs.Rule.{knows}
 use Rattle.lst_rule.proofs.Learning.{learns_on}
 use Rattle.lst_txn.specs.declared.ends.Idle.{Idle}
-use Rattle.lst_calls.specs.declared.kinds.Outcome.{Outcome}
-use Rattle.lst_calls.specs.declared.kinds.Outcome.TheVariants.{Committed, Ended}
+use Rattle.lst_session.specs.declared.kinds.Outcome.{Outcome}
+use Rattle.lst_session.specs.declared.kinds.Outcome.TheVariants.{Committed, Ended}
 use Rattle.lst_session.specs.declared.session.Session.{Session}
 use Rattle.lst_session.specs.Calls.{Called, SameLists, Gets, FindsHeld, Commits, Ends}
 use Rattle.lst_session.specs.Passes.{IsReady}

@@ -35,10 +35,10 @@ use Rattle.lst_write.specs.Standings.{FoundSince}
 use Rattle.lst_write.specs.Appending.{Appends, FindsFull, tail_of}
 use Rattle.lst_write.specs.Appending as appending
 use Rattle.lst_crew_state.specs.Crews.{IsIdle}
-use Rattle.lst_calls.specs.declared.kinds.WriteRefusal.{WriteRefusal}
-use Rattle.lst_calls.specs.declared.kinds.WriteRefusal.TheVariants.{Idle, ReadOnly, Missing, Exists, TableFull, Latched, Newer, Unfinished, TailFull}
-use Rattle.lst_calls.specs.Traces.{Prepares, Holding, Installs, Releases, IsLatched, Tries, MayWrite, FindsRecord, PlacesRecord}
-use Rattle.lst_calls.proofs.Trying.{never_idle, never_read_only, never_table_full}
+use Rattle.lst_session.specs.declared.kinds.WriteRefusal.{WriteRefusal}
+use Rattle.lst_session.specs.declared.kinds.WriteRefusal.TheVariants.{Idle, ReadOnly, Missing, Exists, TableFull, Latched, Newer, Unfinished, TailFull}
+use Rattle.lst_session.specs.Traces.{Prepares, Holding, Installs, Releases, IsLatched, Tries, MayWrite, FindsRecord, PlacesRecord}
+use Rattle.lst_session.proofs.Tried.{never_idle, never_read_only, never_table_full}
 use Rattle.lst_write.specs.Judgements.{HasJudged}
 use Rattle.lst_session.specs.Calls.{FindsNoneFull, FindsOneFull, IsTailOf, Accepts, Refuses, HasLatched, WasJudged, Cause, row_seen}
 use Rattle.lst_session.proofs.Judging.{judged_then, stops_then, newer_then}

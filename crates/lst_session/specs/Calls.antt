@@ -28,9 +28,9 @@ use Rattle.lst_write.specs.Holding.{Latches}
 use Rattle.lst_write.specs.Standings.{FoundSince}
 use Rattle.lst_write.specs.Judgements.{HasJudged, Stops, FoundNewer}
 use Rattle.lst_crew_state.specs.Effects.{SameTransactions, HasBegun, HasEnded}
-use Rattle.lst_calls.specs.Traces.{is_put, misfit_of, MayWrite}
-use Rattle.lst_calls.specs.declared.kinds.WriteRefusal.{WriteRefusal}
-use Rattle.lst_calls.specs.declared.kinds.WriteRefusal.TheVariants.{Idle, ReadOnly, Missing, Exists, TableFull, Latched, Newer, Unfinished, TailFull}
+use Rattle.lst_session.specs.Traces.{is_put, misfit_of, MayWrite}
+use Rattle.lst_session.specs.declared.kinds.WriteRefusal.{WriteRefusal}
+use Rattle.lst_session.specs.declared.kinds.WriteRefusal.TheVariants.{Idle, ReadOnly, Missing, Exists, TableFull, Latched, Newer, Unfinished, TailFull}
 
 -- ---- every call
 

@@ -1,3 +1,4 @@
+pub mod Traces
 pub mod Calls
 pub mod Laws
 pub mod Passes

@@ -11,7 +11,7 @@ use Rattle.lst_model.specs.declared.replies.Reply.TheVariants.{Begun, Done, Row,
 use Rattle.lst_model.specs.declared.replies.Cause.TheVariants as cause
 use Rattle.lst_rule.specs.declared.view.View.{View}
 use Rattle.lst_rule.specs.Rule.{knows}
-use Rattle.lst_calls.specs.declared.kinds.WriteRefusal.{WriteRefusal}
+use Rattle.lst_session.specs.declared.kinds.WriteRefusal.{WriteRefusal}
 use Rattle.lst_merge.specs.declared.answers.Merge.TheVariants as merges
 use Rattle.lst_merge.specs.Merges.{Merges}
 use Rattle.lst_session.specs.Calls.{Begins, IsAhead, Gets, Accepts, Refuses, Cause, Commits, Ends}

@@ -12,10 +12,10 @@ use Rattle.lst_model.specs.declared.lines.Line.TheVariants.{Phase, Merge as Merg
 use Rattle.lst_txn.specs.declared.begins.BeginFault.{BeginFault}
 use Rattle.lst_txn.specs.declared.begins.BeginFault.TheVariants as begins
 use Rattle.lst_txn.specs.declared.ends.Idle.{Idle}
-use Rattle.lst_calls.specs.declared.kinds.WriteRefusal.{WriteRefusal}
-use Rattle.lst_calls.specs.declared.kinds.WriteRefusal.TheVariants as writes
-use Rattle.lst_calls.specs.declared.kinds.Outcome.{Outcome}
-use Rattle.lst_calls.specs.declared.kinds.Outcome.TheVariants as outcome
+use Rattle.lst_session.specs.declared.kinds.WriteRefusal.{WriteRefusal}
+use Rattle.lst_session.specs.declared.kinds.WriteRefusal.TheVariants as writes
+use Rattle.lst_session.specs.declared.kinds.Outcome.{Outcome}
+use Rattle.lst_session.specs.declared.kinds.Outcome.TheVariants as outcome
 use Rattle.lst_merge.specs.declared.answers.Merge.{Merge}
 use Rattle.lst_merge.specs.declared.answers.Merge.TheVariants as merges
 use Rattle.lst_machine.specs.Calls.{row_reply}

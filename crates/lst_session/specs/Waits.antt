@@ -3,8 +3,8 @@ use Rattle.std.specs.Prelude.{◌≡◌, ℕ, zero, suc, [], true}
 use Rattle.lst_rule.specs.declared.view.View.{View}
 use Rattle.lst_rule.specs.Rule.{knows}
 use Rattle.lst_rule.specs.declared.store.Store.{Store}
-use Rattle.lst_calls.specs.declared.kinds.Outcome.{Outcome}
-use Rattle.lst_calls.specs.declared.kinds.Outcome.TheVariants.{Committed, Ended}
+use Rattle.lst_session.specs.declared.kinds.Outcome.{Outcome}
+use Rattle.lst_session.specs.declared.kinds.Outcome.TheVariants.{Committed, Ended}
 use Rattle.lst_session.specs.declared.session.Session.{Session}
 use Rattle.lst_session.specs.Calls.{Commits, Ends, FindsHeld}
 use Rattle.lst_session.specs.Passes.{IsReady}

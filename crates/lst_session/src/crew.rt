@@ -9,9 +9,11 @@ ghost use Rattle.lst_session.specs.Calls.{Begins, IsAhead, Gets, Accepts, Refuse
 ghost use Rattle.lst_session.specs.Crews.{IsCrewOf, TellsState, Answers, SavesTails, state_told};
 ghost use Rattle.lst_session.specs.Replies.{begin_reply, get_reply, write_reply, commit_reply, abort_reply};
 
-use lst_calls::{
-    CommitRefusal, Outcome, WriteRefusal, abort, as_of, begin, change, end, insert, read,
-};
+use crate::begins::{as_of, begin};
+use crate::commits::{abort, end};
+use crate::kinds::{CommitRefusal, Outcome, WriteRefusal};
+use crate::reads::read;
+use crate::writes::{change, insert};
 use lst_layout::Layout;
 use lst_model::{Act, Key, OutOfMemory, Patch, Row, Time};
 use lst_retire::{Spares, opening_spares};

@@ -4,11 +4,14 @@
 //! calls answers as the machine of one thread does.
 #![tactic(auto)]
 
+mod begins;
+mod commits;
 mod crew;
 #[cfg(test)]
 mod crew_tests;
 mod gathers;
 mod histories;
+mod kinds;
 mod laws;
 mod lines;
 mod locks;
@@ -21,18 +24,20 @@ mod parts;
 mod passes;
 mod phases;
 mod reader;
+mod reads;
 mod replies;
 mod session;
 #[cfg(test)]
 mod tests;
 #[cfg(test)]
 mod thread_tests;
+mod writes;
 
 pub use crew::{Crew, open_crew};
 pub use gathers::gather;
+pub use kinds::{CommitRefusal, Outcome, WriteRefusal};
 pub use laws::seen_is_sound;
 pub use locks::CommitLock;
-pub use lst_calls::{CommitRefusal, Outcome, WriteRefusal};
 pub use lst_merge::Merge;
 pub use lst_seat::Note;
 pub use lst_txn::{BeginFault as BeginRefusal, Idle as NotBegun};

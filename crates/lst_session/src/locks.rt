@@ -5,8 +5,8 @@ ghost use Rattle.lst_session.specs.Calls.{FindsHeld};
 ghost use Rattle.lst_session.specs.Passes.{IsReady};
 ghost use Rattle.lst_session.specs.Waits.{Concludes, ConcludesAtLast};
 
+use crate::kinds::{CommitRefusal, Outcome};
 use crate::session::Session;
-use lst_calls::{CommitRefusal, Outcome};
 use lst_rule::Store;
 use lst_txn::Idle as NotBegun;
 use std::sync::{Mutex, Wait};

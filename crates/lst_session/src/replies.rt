@@ -2,7 +2,7 @@
 ghost use Rattle.std.specs.Prelude.{◌≡◌};
 ghost use Rattle.lst_session.specs.Replies as replies;
 
-use lst_calls::{Outcome, WriteRefusal};
+use crate::kinds::{Outcome, WriteRefusal};
 use lst_merge::Merge;
 use lst_model::{Cause, Reply, Row, Time};
 use lst_txn::{BeginFault as BeginRefusal, Idle as NotBegun};

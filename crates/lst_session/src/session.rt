@@ -6,9 +6,11 @@ ghost use Rattle.lst_rule.specs.Rule.{knows, hosts};
 ghost use Rattle.lst_session.specs.Calls.{Begins, IsAhead, Gets, Accepts, Refuses, Cause, Commits, Ends, FindsHeld};
 ghost use Rattle.lst_session.specs.Passes.{IsReady};
 
-use lst_calls::{
-    CommitRefusal, Outcome, WriteRefusal, abort, as_of, begin, change, end, insert, read,
-};
+use crate::begins::{as_of, begin};
+use crate::commits::{abort, end};
+use crate::kinds::{CommitRefusal, Outcome, WriteRefusal};
+use crate::reads::read;
+use crate::writes::{change, insert};
 use lst_model::{Act, Key, Patch, Row, Time};
 use lst_rule::{Seat, Store};
 use lst_txn::{BeginFault as BeginRefusal, Idle as NotBegun};

@@ -11,7 +11,7 @@ use Rattle.lst_model.specs.declared.replies.Cause.{Cause}
 use Rattle.lst_model.specs.declared.replies.Cause.TheVariants as cause
 use Rattle.lst_rule.specs.declared.view.View.{View}
 use Rattle.lst_rule.specs.Rule.{knows}
-use Rattle.lst_calls.specs.Traces.{is_put}
+use Rattle.lst_session.specs.Traces.{is_put}
 use Rattle.lst_session.specs.Lines.{CanBegin, BeginLeaves, AsOfLeaves, GetLeaves, WriteLeaves, AbortLeaves}
 use Rattle.lst_scan.specs.Lines.{SumLeaves, CountLeaves, ScanLeaves, FindLeaves}
 use Rattle.lst_legal_work.specs.Lines.{AfterLine}

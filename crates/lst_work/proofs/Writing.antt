@@ -20,9 +20,9 @@ use Rattle.lst_core_state.specs.Writes.{write}
 use Rattle.lst_rule.specs.declared.view.View.{View}
 use Rattle.lst_rule.specs.Rule.{knows}
 use Rattle.lst_index.specs.Placings.{Drew}
-use Rattle.lst_calls.specs.declared.kinds.WriteRefusal.{WriteRefusal}
-use Rattle.lst_calls.specs.declared.kinds.WriteRefusal.TheVariants.{Idle, ReadOnly, Missing, Exists, TableFull, Latched, Newer, Unfinished, TailFull}
-use Rattle.lst_calls.specs.Traces.{is_put, misfit_of}
+use Rattle.lst_session.specs.declared.kinds.WriteRefusal.{WriteRefusal}
+use Rattle.lst_session.specs.declared.kinds.WriteRefusal.TheVariants.{Idle, ReadOnly, Missing, Exists, TableFull, Latched, Newer, Unfinished, TailFull}
+use Rattle.lst_session.specs.Traces.{is_put, misfit_of}
 use Rattle.lst_session.specs.Calls.{Accepts, Refuses, Cause as CauseOf, HasLatched, HasNotLatched, HasNoRecord, WasJudged, row_seen}
 use Rattle.lst_replies.specs.declared.states.Transaction.{Transaction}
 use Rattle.lst_replies.specs.declared.states.SessionState.{SessionState}

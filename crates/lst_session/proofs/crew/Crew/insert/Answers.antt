@@ -1,7 +1,7 @@
 use Rattle.std.proofs.Common.{List, OnOk, IfErr, refl, subst}
 use Rattle.lst_model.specs.Cells.{Cell}
 use Rattle.lst_model.specs.declared.acts.Act.TheVariants.{Put}
-use Rattle.lst_calls.specs.Traces.{Inserts}
+use Rattle.lst_session.specs.Traces.{Inserts}
 use Rattle.lst_session.specs.Calls.{Accepts, Refuses, Cause}
 use Rattle.lst_session.specs.Crews.{TellsState}
 use Rattle.lst_session.proofs.Crewed.{crew_view, told_by}

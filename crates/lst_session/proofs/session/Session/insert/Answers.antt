@@ -1,7 +1,7 @@
 use Rattle.std.proofs.Common.{List, OnOk, IfErr, refl, subst}
 use Rattle.lst_model.specs.declared.acts.Act.TheVariants.{Put}
 use Rattle.lst_model.specs.Cells.{Cell}
-use Rattle.lst_calls.specs.Traces.{Inserts}
+use Rattle.lst_session.specs.Traces.{Inserts}
 use Rattle.lst_session.specs.Calls.{Accepts, Refuses, Cause}
 use Rattle.lst_session.proofs.Answering.{ready, inserted, not_inserted, inserted_idle, inserted_hosted}
 use Rattle.lst_session.proofs.Pinned.{write_pinned}

@@ -1,7 +1,7 @@
 use Rattle.std.proofs.Common.{List, Option, OnOk, IfErr, refl, subst}
 use Rattle.lst_model.specs.declared.acts.Act.TheVariants.{Set}
 use Rattle.lst_model.specs.Cells.{Cell}
-use Rattle.lst_calls.specs.Traces.{Changes}
+use Rattle.lst_session.specs.Traces.{Changes}
 use Rattle.lst_session.specs.Calls.{Accepts, Refuses, Cause}
 use Rattle.lst_session.proofs.Answering.{ready, changed, not_changed, changed_idle, changed_hosted}
 use Rattle.lst_session.proofs.Pinned.{write_pinned}

@@ -1,0 +1,105 @@
+-- Whether an act fits the row that a transaction sees, and what stays of a judged chain while the row is read.
+use Rattle.std.proofs.Common.{slice_index_or, ◌≡◌, ◌⊎◌, ℕ, ◌<◌, List, [], ◌∷◌, ◌++◌, Bool, true, false, Option, Some, None, is_some, Result, Ok, Err, refl, sym, subst, ap, ◌∙◌, inl, inr, true≢false}
+use mathlib.Core.Bool.{beq}
+use Rattle.std.specs.List.{Contains}
+use Rattle.lst_layout.specs.declared.limits.Limits.{Limits}
+use Rattle.lst_model.specs.declared.acts.Act.{Act}
+use Rattle.lst_model.specs.declared.acts.Act.TheVariants.{Put, Set, Del}
+use Rattle.lst_model.specs.Cells.{Cell}
+use Rattle.lst_model.specs.Histories.{acts_on, all_acts_on, row_from}
+use Rattle.lst_model.specs.Soundness.{Fits}
+use Rattle.lst_core_state.specs.declared.known.Known.{Known}
+use Rattle.lst_core_state.specs.declared.facts.Fact.{Fact}
+use Rattle.lst_core_state.specs.Cells.{record_count}
+use Rattle.lst_core_state.specs.State.{sight}
+use Rattle.lst_rule.specs.declared.view.View.{View}
+use Rattle.lst_rule.specs.Rule.{knows, hosts}
+use Rattle.lst_rule.specs.Learned.{Possible}
+use Rattle.lst_sights.specs.Copies.{Version, IsCopy, Includes}
+use Rattle.lst_sights.specs.Seen.{sees, SeesAlike, HasKey}
+use Rattle.lst_sights.specs.Judging.{IsClosed, IsJudged}
+use Rattle.lst_sights.specs.Watching.{Watched}
+use Rattle.lst_sights.specs.Laws.{KeptBy}
+use Rattle.lst_sights.proofs.Copying.{copies_stay}
+use Rattle.lst_sights.proofs.Seeing.{same_sees}
+use Rattle.lst_sights.proofs.Watching.{watches_join, watchers_keep}
+use Rattle.lst_write.specs.Judgements.{HasJudged}
+use Rattle.lst_write.specs.Appending.{FitsSight}
+use Rattle.lst_write.proofs.Latching.{record_low}
+use Rattle.lst_walk.specs.Walks.{IsRowOf}
+use Rattle.lst_walk.proofs.Walking.{row_of_key}
+use Rattle.lst_session.specs.declared.kinds.WriteRefusal.{WriteRefusal}
+use Rattle.lst_session.specs.Traces.{is_put, misfit_of, AgreesWith, Agrees, Judges}
+
+pub rec_low : (v : View) (l : Limits) (s rec key : ℕ) → v.limits ≡ l → Possible v → hosts v s ≡ true → HasKey (knows v s).facts rec key → rec < record_count l
+rec_low v l s rec key same p hosted has = subst (λ (m : Limits). rec < record_count m) same (record_low v s rec p hosted (key, has))
+
+both_misfit : (act : Act) (row : Option (List Cell)) → is_some row ≡ is_put act → ¬ Fits row act
+both_misfit (Put r) (Some x) e f = f
+both_misfit (Put r) None e f = true≢false (sym e)
+both_misfit (Set p) (Some x) e f = true≢false e
+both_misfit (Set p) None e f = f
+both_misfit Del (Some x) e f = true≢false e
+both_misfit Del None e f = f
+
+other_fits : (act : Act) (row : Option (List Cell)) → ¬ (is_some row ≡ is_put act) → Fits row act
+other_fits (Put r) (Some x) ne = ne refl
+other_fits (Put r) None ne = tt
+other_fits (Set p) (Some x) ne = tt
+other_fits (Set p) None ne = ne refl
+other_fits Del (Some x) ne = tt
+other_fits Del None ne = ne refl
+
+module _ (v w : View) (s rec key : ℕ) (act : Act) (row : Option (List Cell)) (watched : Watched v w s) (is : IsRowOf v s rec row) (has : HasKey (knows v s).facts rec key) where
+  the_row : Option (List Cell)
+  the_row = row_from None (sight (knows v s) key)
+
+  pub misfits : (refusal : WriteRefusal) → refusal ≡ misfit_of act → is_some row ≡ is_put act → Agrees v w s key act (Err refusal)
+  misfits refusal same e = record { watched = watched; agrees = (both_misfit act (row_from None (sight (knows v s) key)) (ap is_some (sym (row_of_key v s rec row is key has)) ∙ e), same) }
+
+  pub fits : ¬ (is_some row ≡ is_put act) → Agrees v w s key act (Ok tt)
+  fits ne = record { watched = watched; agrees = other_fits act (row_from None (sight (knows v s) key)) (λ e. ne (ap is_some (row_of_key v s rec row is key has) ∙ e)) }
+
+-- ---- a judged chain
+
+judged_stays : (u k : Known) (s : ℕ) (copy : List Version) → SeesAlike u k → Includes k.facts u.facts → IsJudged u s copy → IsJudged k s copy
+judged_stays u k s [] alike more is = tt
+judged_stays u k s (c ∷ cs) alike more (inl seen) = inl (same_sees u k s c.writer alike ∙ seen)
+judged_stays u k s (c ∷ cs) alike more (inr rest) = inr (more _ rest.0, judged_stays u k s cs alike more rest.1)
+
+pub judged_on : (v w : View) (s rec head : ℕ) → w.limits ≡ v.limits → KeptBy (knows v s) (knows w s) → HasJudged v.limits (knows v s) s rec head → HasJudged w.limits (knows w s) s rec head
+judged_on v w s rec head same kept has = (has.0, subst (λ (l : Limits). IsCopy l (knows w s).facts rec head has.0) (sym same) (copies_stay v.limits (knows v s).facts (knows w s).facts rec head has.0 kept.facts has.1), judged_stays (knows v s) (knows w s) s has.0 kept.alike kept.facts has.2)
+
+sights_same : (u k : Known) (key : ℕ) → SeesAlike u k → sight k key ≡ sight u key
+sights_same u k key alike = λ i. all_acts_on key (alike.front i) ++ acts_on key (alike.own i)
+
+-- the row was read after the chain was judged
+pub judges : (u v w : View) (s rec head key : ℕ) (act : Act) (result : Result (Unit {0}) WriteRefusal) → Possible v → hosts v s ≡ true → (knows v s).is_open ≡ true → Watched u v s → HasJudged v.limits (knows v s) s rec head → Agrees v w s key act result
+    → Judges u w s rec head key act result
+judges u v w s rec head key act result p hosted opened first judged agrees = let kept = watchers_keep v w s p hosted opened agrees.watched in record {
+  watched = watches_join u v w s first agrees.watched;
+  judged = judged_on v w s rec head agrees.watched.learns.limits kept judged;
+  agrees = subst (λ (acts : List Act). AgreesWith act (row_from None acts) result) (sym (sights_same (knows v s) (knows w s) key kept.alike)) agrees.agrees;
+}
+
+pub hosted_on : (v w : View) (s : ℕ) → Watched v w s → hosts v s ≡ true → hosts w s ≡ true
+hosted_on v w s watched host = ap (λ (hs : List Bool). slice_index_or hs s false) watched.learns.hosted ∙ host
+
+pub key_on : (v w : View) (s rec key : ℕ) → Possible v → hosts v s ≡ true → (knows v s).is_open ≡ true → Watched v w s → HasKey (knows v s).facts rec key → HasKey (knows w s).facts rec key
+key_on v w s rec key p hosted opened watched has = (has.0, (watchers_keep v w s p hosted opened watched).facts _ has.1)
+
+pub same_bool : (a b : Bool) → beq a b ≡ true → a ≡ b
+same_bool true true e = refl
+same_bool true false e = absurd (true≢false (sym e))
+same_bool false true e = absurd (true≢false (sym e))
+same_bool false false e = refl
+
+pub other_bool : (a b : Bool) → beq a b ≡ false → ¬ (a ≡ b)
+other_bool true true e f = true≢false e
+other_bool true false e f = true≢false f
+other_bool false true e f = true≢false (sym f)
+other_bool false false e f = true≢false e
+
+-- what the judge and the row leave, after a load of neither, with the key's record still known
+pub fits_sight : (v w : View) (s rec head key : ℕ) (act : Act) → HasKey (knows w s).facts rec key → Judges v w s rec head key act (Ok tt) → FitsSight (knows w s) rec act
+fits_sight v w s rec head key act has j = (key, has, j.agrees)
