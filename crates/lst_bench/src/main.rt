@@ -37,6 +37,9 @@ const LIMITS: Limits = Limits {
     indexed: 0,
 };
 
+/// How often each row is written after the commit that sums are as of.
+const LATER: u32 = 15;
+
 /// What the kind of run came to, or None for want of memory. A kind that there isn't comes to 0.
 fn answer<R: Threads + Wait + Sync>(
     rt: &R,
@@ -55,8 +58,10 @@ fn answer<R: Threads + Wait + Sync>(
         "drawn" => return engine(alloc, false, count).ok(),
         "plain" => return engine(alloc, true, count).ok(),
         "phases" => return phases(alloc, count).ok(),
-        "sums_1" => return sums(rt, alloc, 1, count).ok(),
-        "sums_4" => return sums(rt, alloc, 4, count).ok(),
+        "sums_1" => return sums(rt, alloc, 1, 0, count).ok(),
+        "sums_4" => return sums(rt, alloc, 4, 0, count).ok(),
+        "old_sums_1" => return sums(rt, alloc, 1, LATER, count).ok(),
+        "old_sums_4" => return sums(rt, alloc, 4, LATER, count).ok(),
         "made" => Task::Make,
         "printed" => Task::Print,
         "read" => Task::Read,

@@ -1,13 +1,15 @@
-//! Sums of a column over merged pages, by one session or by several side by side.
+//! Sums of a column, by one session or by several side by side: over merged pages, or as of the first commit, along chains of later versions.
 ghost use Rattle.std.specs.Prelude.{◌≡◌, ◌≤◌, ◌<◌, ℕ, IfOk, IsTrue, length};
 ghost use Rattle.std.specs.List.{All};
+ghost use Rattle.lst_model.specs.Lines.{IsPatch};
 ghost use Rattle.lst_rule.specs.Rule.{knows};
 ghost use Rattle.lst_session.specs.Crews.{IsCrewOf};
 ghost use Rattle.lst_session.specs.Passes.{IsReady};
 ghost use Rattle.lst_work.specs.ParSums.{CanBeginAsOf, HaveSeenAlike};
 
+use arrayvec::ArrayVec;
 use lst_layout::Limits;
-use lst_model::{Key, OutOfMemory, Row, Time};
+use lst_model::{Key, OutOfMemory, Patch, Row, Time};
 use lst_rule::Store;
 use lst_session::{Crew, Session, open_crew};
 use lst_work::par_sum;
@@ -17,12 +19,14 @@ use std::thread::Threads;
 /// How many ranges the store has, as many as one may have, with a row on each record.
 const RANGES: u32 = 64;
 
-/// The limits of a store for so many sessions.
-fn limits_for(sessions: u32) -> Limits {
+/// The limits of a store for so many sessions, in which each row is written so often.
+fn limits_for(sessions: u32, writes: u32) -> Limits
+    requires { writes ≤ 256 }
+{
     Limits {
         columns: 1,
         ranges: RANGES,
-        tails: 256,
+        tails: 256 * writes,
         sessions,
         txns: 65_535,
         spare: 1,
@@ -44,8 +48,31 @@ fn put(store: &Store, crew: &mut Crew, key: Key) -> bool
     crew.insert(store, 0, key, &row).is_ok()
 }
 
-/// Puts a row on each record, by one transaction of session 0, and answers whether it was committed.
-fn fill(store: &Store, crew: &mut Crew) -> bool
+/// A patch of the only column.
+fn patch(number: u64) -> Patch
+    ensures { IsPatch 1 result }
+{
+    let mut cells = ArrayVec::new();
+    cells.push(Some(number));
+    Patch::of_numbers(cells)
+}
+
+/// Sets the number of a key's row, in the open transaction of session 0, and answers whether it was set.
+fn set(store: &Store, crew: &mut Crew, key: Key, number: u64) -> bool
+    requires { IsCrewOf store.now crew.old }
+    ensures { IsCrewOf store.now crew.new }
+{
+    let patch = patch(number);
+    let limits = crew.seat.limits();
+    if limits.sessions == 0 || limits.columns != 1 {
+        return false;
+    }
+    crew.update(store, 0, key, &patch).is_ok()
+}
+
+/// Writes the row on each record, by one transaction of session 0, and answers whether it was committed. Without a number the rows are put; with one, they
+/// are set to it.
+fn write_all(store: &Store, crew: &mut Crew, number: Option<u64>) -> bool
     requires { IsCrewOf store.now crew.old }
     ensures { IsCrewOf store.now crew.new }
 {
@@ -53,11 +80,28 @@ fn fill(store: &Store, crew: &mut Crew) -> bool
         return false;
     }
     for key in 0..u64::from(256 * RANGES) {
-        if !put(store, crew, key) {
+        let is_done = match number {
+            Some(number) => set(store, crew, key, number),
+            None => put(store, crew, key),
+        };
+        if !is_done {
             return false;
         }
     }
     crew.seat.limits().sessions > 0 && crew.commit(store, 0).is_ok()
+}
+
+/// Sets the number of each row so often, and answers whether each time was committed.
+fn rewrite(store: &Store, crew: &mut Crew, later: u32) -> bool
+    requires { IsCrewOf store.now crew.old }
+    ensures { IsCrewOf store.now crew.new }
+{
+    for number in 0..later {
+        if !write_all(store, crew, Some(number.into())) {
+            return false;
+        }
+    }
+    true
 }
 
 /// Merges the page of each range.
@@ -154,22 +198,29 @@ fn total<R: Threads + Sync>(rt: &R, store: &Store, sessions: &mut [Session], tim
     par_sum(rt, store, sessions, time, 0)
 }
 
-/// Fills a store of so many sessions and merges its pages, has the sessions add up the column so often, and answers the last sum.
+/// Fills a store of so many sessions and merges its pages, sets the number of each row so often, has the sessions add up the column as of the first commit so
+/// often, and answers the last sum.
 pub fn sums<R: Threads + Sync>(
     rt: &R,
     alloc: Global,
     sessions: u32,
+    later: u32,
     count: u32,
-) -> Result<u64, OutOfMemory> {
-    let limits = limits_for(sessions);
+) -> Result<u64, OutOfMemory>
+    requires { later < 256 }
+{
+    let limits = limits_for(sessions, later + 1);
     let Ok(layout) = limits.check() else {
         return Ok(0);
     };
     let (store, mut crew) = open_crew(alloc, &layout)?;
-    if !fill(&store, &mut crew) {
+    if !write_all(&store, &mut crew, None) {
         return Ok(0);
     }
     merge_all(&store, &mut crew);
+    if !rewrite(&store, &mut crew, later) {
+        return Ok(0);
+    }
     hear(&store, &mut crew, sessions);
     let mut passes = parted(alloc, &store, crew, 1)?;
     let summers = passes.as_mut_slice();

@@ -6,9 +6,9 @@ use Rattle.lst_pages.specs.State.{hand_of}
 use Rattle.lst_rule.specs.declared.view.View.{View}
 use Rattle.lst_rule.specs.Rule.{knows}
 
--- the session s has the page of the range and the column in hand, in this frame and with this TPS
-pub record Keeps (v : View) (s range column frame tps : ℕ) : Type 0 where
+-- the session s has the page of the range and the column in hand, in this frame, and this is its TPS
+pub record Keeps (v : View) (s range column frame lineage : ℕ) : Type 0 where
   pub page : PageInHand
   pub in_hand : hand_of (knows v s).pages.session frame ≡ Some page
   pub names : (page.range ≡ range) × (page.column ≡ column)
-  pub tps : tps ≡ tps_in (slice_index page.words)
+  pub tps : lineage ≡ tps_in (slice_index page.words)
