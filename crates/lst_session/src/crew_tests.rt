@@ -1,4 +1,6 @@
 //! Worked scripts on a store and its crew: each call with its reply.
+//!
+//! A script is a table of plain values, and one function makes its calls: the proof of a function grows faster than its calls.
 ghost use Rattle.std.specs.Prelude.{◌<◌, IsTrue};
 ghost use Rattle.lst_model.specs.Lines.{CallFits};
 ghost use Rattle.lst_session.specs.Crews.{IsCrewOf, TellsState};
@@ -7,7 +9,7 @@ ghost use Rattle.lst_session.specs.Replies.{IsCrewCall};
 use crate::{Crew, open_crew};
 use arrayvec::ArrayVec;
 use lst_layout::Limits;
-use lst_model::{Act, Call, Cause, History, Key, Line, OutOfMemory, Patch, Reply, Row};
+use lst_model::{Act, Call, Cause, History, Key, Line, OutOfMemory, Patch, Reply, Row, Time};
 use lst_rule::Store;
 use std::alloc::Global;
 use std::process::Abort;
@@ -32,58 +34,87 @@ struct Pair {
     ghost own: { IsCrewOf store crew × TellsState crew.seat.view },
 }
 
-pub(crate) fn row(first: u64, second: u64) -> Row {
+/// A session's call, as a value that is copied.
+#[derive(Clone, Copy)]
+pub(crate) enum Asked {
+    Begin,
+    AsOf(Time),
+    Get(Key),
+    Insert(Key, u64, u64),
+    Update(Key, Option<u64>, Option<u64>),
+    Delete(Key),
+    Commit,
+    Abort,
+}
+
+/// A reply, as a value that is copied.
+#[derive(Clone, Copy)]
+pub(crate) enum Told {
+    Begun(Time),
+    Done,
+    Row(u64, u64),
+    Absent,
+    Committed(Time),
+    Ended(Time),
+    Aborted,
+    Refused(Cause),
+    Merged(u32),
+    NothingNew(u32),
+    NoFrame(u32),
+}
+
+/// A session by its number, its call, and the reply.
+pub(crate) type Step = (u32, Asked, Told);
+
+fn row(first: u64, second: u64) -> Row {
     let mut cells = ArrayVec::new();
     cells.push(first);
     cells.push(second);
     Row::of_numbers(cells)
 }
 
-pub(crate) fn patch(first: Option<u64>, second: Option<u64>) -> Patch {
+fn patch(first: Option<u64>, second: Option<u64>) -> Patch {
     let mut cells = ArrayVec::new();
     cells.push(first);
     cells.push(second);
     Patch::of_numbers(cells)
 }
 
-pub(crate) fn insert(key: Key, first: u64, second: u64) -> Call {
-    Call::Insert {
-        key,
-        row: row(first, second),
+pub(crate) fn call_of(asked: Asked) -> Call {
+    match asked {
+        Asked::Begin => Call::Begin,
+        Asked::AsOf(time) => Call::AsOf { time },
+        Asked::Get(key) => Call::Get { key },
+        Asked::Insert(key, first, second) => Call::Insert {
+            key,
+            row: row(first, second),
+        },
+        Asked::Update(key, first, second) => Call::Update {
+            key,
+            patch: patch(first, second),
+        },
+        Asked::Delete(key) => Call::Delete { key },
+        Asked::Commit => Call::Commit,
+        Asked::Abort => Call::Abort,
     }
 }
 
-pub(crate) fn update(key: Key, first: Option<u64>, second: Option<u64>) -> Call {
-    Call::Update {
-        key,
-        patch: patch(first, second),
+pub(crate) fn reply_of(told: Told) -> Reply {
+    match told {
+        Told::Begun(time) => Reply::Begun { time },
+        Told::Done => Reply::Done,
+        Told::Row(first, second) => Reply::Row {
+            row: row(first, second),
+        },
+        Told::Absent => Reply::Absent,
+        Told::Committed(time) => Reply::Committed { time },
+        Told::Ended(time) => Reply::Ended { time },
+        Told::Aborted => Reply::Aborted,
+        Told::Refused(cause) => Reply::Refused { cause },
+        Told::Merged(tps) => Reply::Merged { tps },
+        Told::NothingNew(tps) => Reply::NothingNew { tps },
+        Told::NoFrame(session) => Reply::NoFrame { session },
     }
-}
-
-pub(crate) fn get(key: Key) -> Call {
-    Call::Get { key }
-}
-
-pub(crate) fn begun(time: u64) -> Reply {
-    Reply::Begun { time }
-}
-
-pub(crate) fn found(first: u64, second: u64) -> Reply {
-    Reply::Row {
-        row: row(first, second),
-    }
-}
-
-pub(crate) fn committed(time: u64) -> Reply {
-    Reply::Committed { time }
-}
-
-pub(crate) fn ended(time: u64) -> Reply {
-    Reply::Ended { time }
-}
-
-fn refused(cause: Cause) -> Reply {
-    Reply::Refused { cause }
 }
 
 /// Whether the crew takes a session's call.
@@ -110,60 +141,60 @@ fn opened(alloc: Global, limits: Limits) -> Result<Pair, Fail> {
     Ok(Pair { store, crew })
 }
 
-/// A session's call, and its reply compared.
-fn answers(
-    rt: &impl Abort,
-    pair: &mut Pair,
-    session: u32,
-    call: Call,
-    wanted: Reply,
-) -> Result<(), Fail> {
+/// The reply to a session's call.
+fn answer(rt: &impl Abort, pair: &mut Pair, session: u32, call: Call) -> Result<Reply, Fail> {
     assert!(rt; fits(pair.crew.seat.limits(), session, &call));
-    let reply = pair.crew.line(&pair.store, &Line::Call { session, call })?;
-    assert_eq!(rt; reply, wanted);
+    Ok(pair.crew.line(&pair.store, &Line::Call { session, call })?)
+}
+
+/// The calls of a script, and their replies compared.
+fn play(rt: &impl Abort, pair: &mut Pair, script: &[Step]) -> Result<(), Fail> {
+    for (at, &(session, asked, told)) in script.iter().enumerate() {
+        let reply = answer(rt, pair, session, call_of(asked))?;
+        assert_eq!(rt; reply, reply_of(told), "at step {at}");
+    }
     Ok(())
 }
 
-/// A merge, and its reply compared.
-fn merges(
-    rt: &impl Abort,
-    pair: &mut Pair,
-    range: u32,
-    column: u32,
-    wanted: Reply,
-) -> Result<(), Fail> {
+/// The same on a new store.
+fn run(rt: &impl Abort, alloc: Global, limits: Limits, script: &[Step]) -> Result<(), Fail> {
+    let mut pair = opened(alloc, limits)?;
+    play(rt, &mut pair, script)
+}
+
+/// The reply to a merge.
+fn merge(rt: &impl Abort, pair: &mut Pair, range: u32, column: u32) -> Result<Reply, Fail> {
     let limits = pair.crew.seat.limits();
     assert!(rt; range < limits.ranges && column < limits.columns);
-    let reply = pair.crew.line(&pair.store, &Line::Merge { range, column })?;
-    assert_eq!(rt; reply, wanted);
+    Ok(pair.crew.line(&pair.store, &Line::Merge { range, column })?)
+}
+
+/// Merges of columns of the one range, in order, and their replies compared.
+fn merge_each(rt: &impl Abort, pair: &mut Pair, columns: &[(u32, Told)]) -> Result<(), Fail> {
+    for &(column, told) in columns {
+        let reply = merge(rt, pair, 0, column)?;
+        assert_eq!(rt; reply, reply_of(told), "at column {column}");
+    }
     Ok(())
 }
 
 /// A new store in which session 0 has committed a row.
 fn with_a_row(rt: &impl Abort, alloc: Global) -> Result<Pair, Fail> {
     let mut pair = opened(alloc, SMALL)?;
-    answers(rt, &mut pair, 0, Call::Begin, begun(0))?;
-    answers(rt, &mut pair, 0, insert(7, 10, 20), Reply::Done)?;
-    answers(rt, &mut pair, 0, Call::Commit, committed(1))?;
+    play(
+        rt,
+        &mut pair,
+        &[
+            (0, Asked::Begin, Told::Begun(0)),
+            (0, Asked::Insert(7, 10, 20), Told::Done),
+            (0, Asked::Commit, Told::Committed(1)),
+        ],
+    )?;
     Ok(pair)
 }
 
 fn history(alloc: Global, pair: &mut Pair) -> Result<History, OutOfMemory> {
     pair.crew.history(alloc, &pair.store)
-}
-
-/// The calls of sessions on a new store, each with its reply.
-fn run<const N: usize>(
-    rt: &impl Abort,
-    alloc: Global,
-    limits: Limits,
-    script: [(u32, Call, Reply); N],
-) -> Result<(), Fail> {
-    let mut pair = opened(alloc, limits)?;
-    for (session, call, wanted) in Vec::from_array(alloc, script)? {
-        answers(rt, &mut pair, session, call, wanted)?;
-    }
-    Ok(())
 }
 
 #[test]
@@ -172,13 +203,13 @@ fn a_row_is_inserted_and_read(rt: HostRuntime) -> Result<(), Fail> {
         &rt,
         rt.alloc(),
         SMALL,
-        [
-            (0, Call::Begin, begun(0)),
-            (0, insert(7, 10, 20), Reply::Done),
-            (0, get(7), found(10, 20)),
-            (0, Call::Commit, committed(1)),
-            (1, Call::Begin, begun(1)),
-            (1, get(7), found(10, 20)),
+        &[
+            (0, Asked::Begin, Told::Begun(0)),
+            (0, Asked::Insert(7, 10, 20), Told::Done),
+            (0, Asked::Get(7), Told::Row(10, 20)),
+            (0, Asked::Commit, Told::Committed(1)),
+            (1, Asked::Begin, Told::Begun(1)),
+            (1, Asked::Get(7), Told::Row(10, 20)),
         ],
     )
 }
@@ -189,21 +220,21 @@ fn a_newer_commit_is_a_conflict(rt: HostRuntime) -> Result<(), Fail> {
         &rt,
         rt.alloc(),
         SMALL,
-        [
-            (0, Call::Begin, begun(0)),
-            (0, insert(7, 10, 20), Reply::Done),
-            (0, Call::Commit, committed(1)),
-            (0, Call::Begin, begun(1)),
-            (1, Call::Begin, begun(1)),
-            (0, update(7, Some(11), None), Reply::Done),
-            (0, Call::Commit, committed(2)),
-            (1, get(7), found(10, 20)),
+        &[
+            (0, Asked::Begin, Told::Begun(0)),
+            (0, Asked::Insert(7, 10, 20), Told::Done),
+            (0, Asked::Commit, Told::Committed(1)),
+            (0, Asked::Begin, Told::Begun(1)),
+            (1, Asked::Begin, Told::Begun(1)),
+            (0, Asked::Update(7, Some(11), None), Told::Done),
+            (0, Asked::Commit, Told::Committed(2)),
+            (1, Asked::Get(7), Told::Row(10, 20)),
             (
                 1,
-                update(7, None, Some(21)),
-                refused(Cause::Newer { time: 2 }),
+                Asked::Update(7, None, Some(21)),
+                Told::Refused(Cause::Newer { time: 2 }),
             ),
-            (1, Call::Commit, ended(1)),
+            (1, Asked::Commit, Told::Ended(1)),
         ],
     )
 }
@@ -214,26 +245,26 @@ fn an_open_write_is_a_conflict_until_its_abort(rt: HostRuntime) -> Result<(), Fa
         &rt,
         rt.alloc(),
         SMALL,
-        [
-            (0, Call::Begin, begun(0)),
-            (0, insert(7, 10, 20), Reply::Done),
-            (0, Call::Commit, committed(1)),
-            (0, Call::Begin, begun(1)),
-            (1, Call::Begin, begun(1)),
-            (0, update(7, Some(11), None), Reply::Done),
+        &[
+            (0, Asked::Begin, Told::Begun(0)),
+            (0, Asked::Insert(7, 10, 20), Told::Done),
+            (0, Asked::Commit, Told::Committed(1)),
+            (0, Asked::Begin, Told::Begun(1)),
+            (1, Asked::Begin, Told::Begun(1)),
+            (0, Asked::Update(7, Some(11), None), Told::Done),
             (
                 1,
-                update(7, None, Some(21)),
-                refused(Cause::Unfinished {
+                Asked::Update(7, None, Some(21)),
+                Told::Refused(Cause::Unfinished {
                     session: 0,
                     number: 2,
                 }),
             ),
-            (0, Call::Abort, Reply::Aborted),
-            (1, update(7, None, Some(21)), Reply::Done),
-            (1, Call::Commit, committed(2)),
-            (1, Call::Begin, begun(2)),
-            (1, get(7), found(10, 21)),
+            (0, Asked::Abort, Told::Aborted),
+            (1, Asked::Update(7, None, Some(21)), Told::Done),
+            (1, Asked::Commit, Told::Committed(2)),
+            (1, Asked::Begin, Told::Begun(2)),
+            (1, Asked::Get(7), Told::Row(10, 21)),
         ],
     )
 }
@@ -244,24 +275,24 @@ fn each_time_has_its_row(rt: HostRuntime) -> Result<(), Fail> {
         &rt,
         rt.alloc(),
         SMALL,
-        [
-            (0, Call::Begin, begun(0)),
-            (0, insert(7, 10, 20), Reply::Done),
-            (0, Call::Commit, committed(1)),
-            (0, Call::Begin, begun(1)),
-            (0, Call::Delete { key: 7 }, Reply::Done),
-            (0, Call::Commit, committed(2)),
-            (0, Call::Begin, begun(2)),
-            (0, insert(7, 30, 40), Reply::Done),
-            (0, Call::Commit, committed(3)),
-            (1, Call::AsOf { time: 1 }, begun(1)),
-            (1, get(7), found(10, 20)),
-            (1, Call::Commit, ended(1)),
-            (1, Call::AsOf { time: 2 }, begun(2)),
-            (1, get(7), Reply::Absent),
-            (1, Call::Commit, ended(2)),
-            (1, Call::Begin, begun(3)),
-            (1, get(7), found(30, 40)),
+        &[
+            (0, Asked::Begin, Told::Begun(0)),
+            (0, Asked::Insert(7, 10, 20), Told::Done),
+            (0, Asked::Commit, Told::Committed(1)),
+            (0, Asked::Begin, Told::Begun(1)),
+            (0, Asked::Delete(7), Told::Done),
+            (0, Asked::Commit, Told::Committed(2)),
+            (0, Asked::Begin, Told::Begun(2)),
+            (0, Asked::Insert(7, 30, 40), Told::Done),
+            (0, Asked::Commit, Told::Committed(3)),
+            (1, Asked::AsOf(1), Told::Begun(1)),
+            (1, Asked::Get(7), Told::Row(10, 20)),
+            (1, Asked::Commit, Told::Ended(1)),
+            (1, Asked::AsOf(2), Told::Begun(2)),
+            (1, Asked::Get(7), Told::Absent),
+            (1, Asked::Commit, Told::Ended(2)),
+            (1, Asked::Begin, Told::Begun(3)),
+            (1, Asked::Get(7), Told::Row(30, 40)),
         ],
     )
 }
@@ -272,13 +303,21 @@ fn a_write_that_does_not_fit_is_refused(rt: HostRuntime) -> Result<(), Fail> {
         &rt,
         rt.alloc(),
         SMALL,
-        [
-            (0, Call::Begin, begun(0)),
-            (0, insert(7, 1, 1), Reply::Done),
-            (0, insert(7, 1, 1), refused(Cause::Exists)),
-            (0, update(9, Some(1), None), refused(Cause::Missing)),
-            (0, Call::Delete { key: 7 }, Reply::Done),
-            (0, update(7, Some(1), None), refused(Cause::Missing)),
+        &[
+            (0, Asked::Begin, Told::Begun(0)),
+            (0, Asked::Insert(7, 1, 1), Told::Done),
+            (0, Asked::Insert(7, 1, 1), Told::Refused(Cause::Exists)),
+            (
+                0,
+                Asked::Update(9, Some(1), None),
+                Told::Refused(Cause::Missing),
+            ),
+            (0, Asked::Delete(7), Told::Done),
+            (
+                0,
+                Asked::Update(7, Some(1), None),
+                Told::Refused(Cause::Missing),
+            ),
         ],
     )
 }
@@ -289,20 +328,16 @@ fn transactions_open_and_end_in_turn(rt: HostRuntime) -> Result<(), Fail> {
         &rt,
         rt.alloc(),
         SMALL,
-        [
-            (0, get(7), refused(Cause::Idle)),
-            (0, Call::Commit, refused(Cause::Idle)),
-            (0, Call::Begin, begun(0)),
-            (0, Call::Begin, refused(Cause::Active)),
-            (0, Call::Abort, Reply::Aborted),
-            (0, Call::AsOf { time: 0 }, begun(0)),
-            (0, insert(1, 1, 1), refused(Cause::ReadOnly)),
-            (0, Call::Commit, ended(0)),
-            (
-                0,
-                Call::AsOf { time: 1 },
-                refused(Cause::Future { clock: 0 }),
-            ),
+        &[
+            (0, Asked::Get(7), Told::Refused(Cause::Idle)),
+            (0, Asked::Commit, Told::Refused(Cause::Idle)),
+            (0, Asked::Begin, Told::Begun(0)),
+            (0, Asked::Begin, Told::Refused(Cause::Active)),
+            (0, Asked::Abort, Told::Aborted),
+            (0, Asked::AsOf(0), Told::Begun(0)),
+            (0, Asked::Insert(1, 1, 1), Told::Refused(Cause::ReadOnly)),
+            (0, Asked::Commit, Told::Ended(0)),
+            (0, Asked::AsOf(1), Told::Refused(Cause::Future { clock: 0 })),
         ],
     )
 }
@@ -314,11 +349,11 @@ fn transactions_of_a_session_are_spent(rt: HostRuntime) -> Result<(), Fail> {
         &rt,
         rt.alloc(),
         limits,
-        [
-            (0, Call::Begin, begun(0)),
-            (0, insert(7, 10, 20), Reply::Done),
-            (0, Call::Commit, committed(1)),
-            (0, Call::Begin, refused(Cause::Spent)),
+        &[
+            (0, Asked::Begin, Told::Begun(0)),
+            (0, Asked::Insert(7, 10, 20), Told::Done),
+            (0, Asked::Commit, Told::Committed(1)),
+            (0, Asked::Begin, Told::Refused(Cause::Spent)),
         ],
     )
 }
@@ -330,11 +365,11 @@ fn a_range_is_full_of_writes(rt: HostRuntime) -> Result<(), Fail> {
         &rt,
         rt.alloc(),
         limits,
-        [
-            (0, Call::Begin, begun(0)),
-            (0, insert(1, 1, 1), Reply::Done),
-            (0, insert(2, 2, 2), refused(Cause::TailFull)),
-            (0, Call::Commit, committed(1)),
+        &[
+            (0, Asked::Begin, Told::Begun(0)),
+            (0, Asked::Insert(1, 1, 1), Told::Done),
+            (0, Asked::Insert(2, 2, 2), Told::Refused(Cause::TailFull)),
+            (0, Asked::Commit, Told::Committed(1)),
         ],
     )
 }
@@ -342,25 +377,17 @@ fn a_range_is_full_of_writes(rt: HostRuntime) -> Result<(), Fail> {
 #[test]
 fn a_table_of_one_range_has_256_keys(rt: HostRuntime) -> Result<(), Fail> {
     let mut pair = opened(rt.alloc(), SMALL)?;
-    answers(&rt, &mut pair, 0, Call::Begin, begun(0))?;
+    play(&rt, &mut pair, &[(0, Asked::Begin, Told::Begun(0))])?;
     for key in 1..257 {
-        answers(&rt, &mut pair, 0, insert(key, 1, 1), Reply::Done)?;
+        play(&rt, &mut pair, &[(0, Asked::Insert(key, 1, 1), Told::Done)])?;
     }
-    answers(
-        &rt,
-        &mut pair,
-        0,
-        insert(257, 1, 1),
-        refused(Cause::TableFull),
-    )
+    let full = Told::Refused(Cause::TableFull);
+    play(&rt, &mut pair, &[(0, Asked::Insert(257, 1, 1), full)])
 }
 
 #[test]
 fn a_history_has_the_one_commit(rt: HostRuntime) -> Result<(), Fail> {
-    let mut pair = opened(rt.alloc(), SMALL)?;
-    answers(&rt, &mut pair, 0, Call::Begin, begun(0))?;
-    answers(&rt, &mut pair, 0, insert(7, 10, 20), Reply::Done)?;
-    answers(&rt, &mut pair, 0, Call::Commit, committed(1))?;
+    let mut pair = with_a_row(&rt, rt.alloc())?;
     let all = history(rt.alloc(), &mut pair)?;
     let [only] = all.items() else {
         return Err(Fail::from("the history has one commit"));
@@ -377,51 +404,96 @@ fn a_history_has_the_one_commit(rt: HostRuntime) -> Result<(), Fail> {
 #[test]
 fn a_merge_takes_in_the_settled_writes_of_a_range(rt: HostRuntime) -> Result<(), Fail> {
     let mut pair = with_a_row(&rt, rt.alloc())?;
-    merges(&rt, &mut pair, 0, 1, Reply::Merged { tps: 1 })?;
-    merges(&rt, &mut pair, 0, 1, Reply::NothingNew { tps: 1 })?;
-    answers(&rt, &mut pair, 1, Call::Begin, begun(1))?;
-    answers(&rt, &mut pair, 1, update(7, Some(11), None), Reply::Done)?;
+    merge_each(
+        &rt,
+        &mut pair,
+        &[(1, Told::Merged(1)), (1, Told::NothingNew(1))],
+    )?;
+    play(
+        &rt,
+        &mut pair,
+        &[
+            (1, Asked::Begin, Told::Begun(1)),
+            (1, Asked::Update(7, Some(11), None), Told::Done),
+        ],
+    )?;
     // The write of an open transaction ends the run.
-    merges(&rt, &mut pair, 0, 0, Reply::Merged { tps: 1 })?;
-    merges(&rt, &mut pair, 0, 0, Reply::NothingNew { tps: 1 })?;
-    answers(&rt, &mut pair, 1, get(7), found(11, 20))?;
-    answers(&rt, &mut pair, 1, Call::Commit, committed(2))?;
-    merges(&rt, &mut pair, 0, 0, Reply::Merged { tps: 2 })?;
-    merges(&rt, &mut pair, 0, 1, Reply::Merged { tps: 2 })?;
-    answers(&rt, &mut pair, 2, Call::Begin, begun(2))?;
-    answers(&rt, &mut pair, 2, get(7), found(11, 20))
+    merge_each(
+        &rt,
+        &mut pair,
+        &[(0, Told::Merged(1)), (0, Told::NothingNew(1))],
+    )?;
+    play(
+        &rt,
+        &mut pair,
+        &[
+            (1, Asked::Get(7), Told::Row(11, 20)),
+            (1, Asked::Commit, Told::Committed(2)),
+        ],
+    )?;
+    merge_each(
+        &rt,
+        &mut pair,
+        &[(0, Told::Merged(2)), (1, Told::Merged(2))],
+    )?;
+    play(
+        &rt,
+        &mut pair,
+        &[
+            (2, Asked::Begin, Told::Begun(2)),
+            (2, Asked::Get(7), Told::Row(11, 20)),
+        ],
+    )
 }
 
 #[test]
 fn merged_rows_are_read(rt: HostRuntime) -> Result<(), Fail> {
     let mut pair = with_a_row(&rt, rt.alloc())?;
-    answers(&rt, &mut pair, 1, Call::Begin, begun(1))?;
-    answers(&rt, &mut pair, 1, update(7, None, Some(21)), Reply::Done)?;
-    answers(&rt, &mut pair, 1, insert(8, 30, 40), Reply::Done)?;
-    answers(&rt, &mut pair, 1, Call::Commit, committed(2))?;
-    answers(&rt, &mut pair, 2, Call::Begin, begun(2))?;
-    answers(&rt, &mut pair, 2, Call::Delete { key: 8 }, Reply::Done)?;
-    answers(&rt, &mut pair, 2, Call::Commit, committed(3))?;
-    merges(&rt, &mut pair, 0, 0, Reply::Merged { tps: 4 })?;
-    merges(&rt, &mut pair, 0, 1, Reply::Merged { tps: 4 })?;
-    answers(&rt, &mut pair, 0, Call::Begin, begun(3))?;
-    answers(&rt, &mut pair, 0, get(7), found(10, 21))?;
-    answers(&rt, &mut pair, 0, get(8), Reply::Absent)?;
-    // A begin below an entry's time is answered along the chain.
-    answers(&rt, &mut pair, 1, Call::AsOf { time: 2 }, begun(2))?;
-    answers(&rt, &mut pair, 1, get(7), found(10, 21))?;
-    answers(&rt, &mut pair, 1, get(8), found(30, 40))?;
-    answers(&rt, &mut pair, 2, Call::AsOf { time: 1 }, begun(1))?;
-    answers(&rt, &mut pair, 2, get(7), found(10, 20))?;
-    answers(&rt, &mut pair, 2, get(8), Reply::Absent)
+    play(
+        &rt,
+        &mut pair,
+        &[
+            (1, Asked::Begin, Told::Begun(1)),
+            (1, Asked::Update(7, None, Some(21)), Told::Done),
+            (1, Asked::Insert(8, 30, 40), Told::Done),
+            (1, Asked::Commit, Told::Committed(2)),
+            (2, Asked::Begin, Told::Begun(2)),
+            (2, Asked::Delete(8), Told::Done),
+            (2, Asked::Commit, Told::Committed(3)),
+        ],
+    )?;
+    merge_each(
+        &rt,
+        &mut pair,
+        &[(0, Told::Merged(4)), (1, Told::Merged(4))],
+    )?;
+    play(
+        &rt,
+        &mut pair,
+        &[
+            (0, Asked::Begin, Told::Begun(3)),
+            (0, Asked::Get(7), Told::Row(10, 21)),
+            (0, Asked::Get(8), Told::Absent),
+            // A begin below an entry's time is answered along the chain.
+            (1, Asked::AsOf(2), Told::Begun(2)),
+            (1, Asked::Get(7), Told::Row(10, 21)),
+            (1, Asked::Get(8), Told::Row(30, 40)),
+            (2, Asked::AsOf(1), Told::Begun(1)),
+            (2, Asked::Get(7), Told::Row(10, 20)),
+            (2, Asked::Get(8), Told::Absent),
+        ],
+    )
 }
 
 #[test]
 fn an_open_transaction_holds_the_one_spare_frame(rt: HostRuntime) -> Result<(), Fail> {
     let mut pair = with_a_row(&rt, rt.alloc())?;
-    answers(&rt, &mut pair, 1, Call::Begin, begun(1))?;
-    merges(&rt, &mut pair, 0, 0, Reply::Merged { tps: 1 })?;
-    merges(&rt, &mut pair, 0, 1, Reply::NoFrame { session: 1 })?;
-    answers(&rt, &mut pair, 1, Call::Commit, ended(1))?;
-    merges(&rt, &mut pair, 0, 1, Reply::Merged { tps: 1 })
+    play(&rt, &mut pair, &[(1, Asked::Begin, Told::Begun(1))])?;
+    merge_each(
+        &rt,
+        &mut pair,
+        &[(0, Told::Merged(1)), (1, Told::NoFrame(1))],
+    )?;
+    play(&rt, &mut pair, &[(1, Asked::Commit, Told::Ended(1))])?;
+    merge_each(&rt, &mut pair, &[(1, Told::Merged(1))])
 }

@@ -5,7 +5,7 @@ ghost use Rattle.lst_rule.specs.Rule.{hosts};
 ghost use Rattle.lst_rule.specs.Stores.{IsSeatOf};
 ghost use Rattle.lst_session.specs.Crews.{IsCrewOf};
 
-use crate::crew_tests::{begun, committed, ended, fits, found, get, insert, update};
+use crate::crew_tests::{Asked, Step, Told, call_of, fits, reply_of};
 use crate::{Crew, open_crew};
 use lst_layout::{FRAME_TIMES, FRAME_VALUES, Limits};
 use lst_merge::{Run, build, run_end, swap};
@@ -44,17 +44,17 @@ fn opened(alloc: Global) -> Result<Hand, Fail> {
     Ok(Hand { store, crew })
 }
 
-/// Calls of sessions, each with its reply compared.
-fn answers<const N: usize>(
-    rt: &impl Abort,
-    alloc: Global,
-    hand: &mut Hand,
-    script: [(u32, Call, Reply); N],
-) -> Result<(), Fail> {
-    for (session, call, wanted) in Vec::from_array(alloc, script)? {
-        assert!(rt; fits(hand.crew.seat.limits(), session, &call));
-        let reply = hand.crew.line(&hand.store, &Line::Call { session, call })?;
-        assert_eq!(rt; reply, wanted);
+/// The reply to a session's call.
+fn answer(rt: &impl Abort, hand: &mut Hand, session: u32, call: Call) -> Result<Reply, Fail> {
+    assert!(rt; fits(hand.crew.seat.limits(), session, &call));
+    Ok(hand.crew.line(&hand.store, &Line::Call { session, call })?)
+}
+
+/// The calls of a script, and their replies compared.
+fn play(rt: &impl Abort, hand: &mut Hand, script: &[Step]) -> Result<(), Fail> {
+    for (at, &(session, asked, told)) in script.iter().enumerate() {
+        let reply = answer(rt, hand, session, call_of(asked))?;
+        assert_eq!(rt; reply, reply_of(told), "at step {at}");
     }
     Ok(())
 }
@@ -64,6 +64,11 @@ fn run_of(rt: &impl Abort, hand: &mut Hand) -> Run {
     let limits = hand.crew.seat.limits();
     assert!(rt; 0 < limits.ranges && 0 < limits.columns);
     run_by_hand(&hand.store, &mut hand.crew)
+}
+
+/// The same, compared.
+fn runs(rt: &impl Abort, hand: &mut Hand, tps: u32, end: u32) {
+    assert_eq!(rt; run_of(rt, hand), Run { tps, end });
 }
 
 fn run_by_hand(store: &Store, crew: &mut Crew) -> Run
@@ -91,6 +96,12 @@ fn merged(rt: &impl Abort, hand: &mut Hand) -> Option<(Run, u32)> {
     let limits = hand.crew.seat.limits();
     assert!(rt; 0 < limits.ranges && 0 < limits.columns);
     merged_by_hand(&hand.store, &mut hand.crew)
+}
+
+/// The same, compared: the run begins behind no tail.
+fn merges(rt: &impl Abort, hand: &mut Hand, end: u32, frame: u32) {
+    let run = Run { tps: 0, end };
+    assert_eq!(rt; merged(rt, hand), Some((run, frame)));
 }
 
 fn merged_by_hand(store: &Store, crew: &mut Crew) -> Option<(Run, u32)>
@@ -154,35 +165,41 @@ fn spare_frame(store: &Store) -> Option<u64> {
     }
 }
 
+/// Words from addresses on, compared.
+fn words_at(rt: &impl Abort, store: &Store, seat: &mut Seat, areas: &[(u64, &[u64])])
+    requires seat { IsSeatOf store.now seat.old }
+    requires host { hosts seat.old.view 0 ≡ true }
+{
+    for &(first, wanted) in areas {
+        assert!(rt;
+            words_are(store, seat, first, wanted),
+            "from word {first} on"
+        );
+    }
+}
+
 #[test]
 fn a_run_ends_before_the_first_unfinished_tail(rt: HostRuntime) -> Result<(), Fail> {
     let mut hand = opened(rt.alloc())?;
-    answers(
+    play(
         &rt,
-        rt.alloc(),
         &mut hand,
-        [
-            (0, Call::Begin, begun(0)),
-            (1, Call::Begin, begun(0)),
-            (2, Call::Begin, begun(0)),
-            (0, insert(1, 1, 1), Reply::Done),
-            (1, insert(2, 2, 2), Reply::Done),
-            (2, insert(3, 3, 3), Reply::Done),
-            (0, Call::Commit, committed(1)),
-            (2, Call::Commit, committed(2)),
+        &[
+            (0, Asked::Begin, Told::Begun(0)),
+            (1, Asked::Begin, Told::Begun(0)),
+            (2, Asked::Begin, Told::Begun(0)),
+            (0, Asked::Insert(1, 1, 1), Told::Done),
+            (1, Asked::Insert(2, 2, 2), Told::Done),
+            (2, Asked::Insert(3, 3, 3), Told::Done),
+            (0, Asked::Commit, Told::Committed(1)),
+            (2, Asked::Commit, Told::Committed(2)),
         ],
     )?;
-    assert_eq!(rt; run_of(&rt, &mut hand), Run { tps: 0, end: 1 });
-    answers(
-        &rt,
-        rt.alloc(),
-        &mut hand,
-        [(1, Call::Abort, Reply::Aborted)],
-    )?;
-    assert_eq!(rt; run_of(&rt, &mut hand), Run { tps: 0, end: 3 });
-    let run = Run { tps: 0, end: 3 };
-    assert_eq!(rt; merged(&rt, &mut hand), Some((run, 8)));
-    assert_eq!(rt; run_of(&rt, &mut hand), Run { tps: 3, end: 3 });
+    runs(&rt, &mut hand, 0, 1);
+    play(&rt, &mut hand, &[(1, Asked::Abort, Told::Aborted)])?;
+    runs(&rt, &mut hand, 0, 3);
+    merges(&rt, &mut hand, 3, 8);
+    runs(&rt, &mut hand, 3, 3);
     let Hand { store, crew } = hand;
     let Crew { mut seat, spares } = crew;
     let layout = store.layout();
@@ -190,44 +207,48 @@ fn a_run_ends_before_the_first_unfinished_tail(rt: HostRuntime) -> Result<(), Fa
     let Some(frame) = spare_frame(&store) else {
         return Err(Fail::from("there are nine frames"));
     };
-    assert!(rt; words_are(&store, &mut seat, directory, &[8]));
-    assert!(rt; words_are(&store, &mut seat, epoch, &[1]));
-    assert!(rt; words_are(&store, &mut seat, frame, &[3]));
-    // Four runs of values: 1 at the first record, 0 at the second, 3 at the third, and 0 from there on.
     let values = frame.saturating_add(FRAME_VALUES as u64);
-    assert!(rt; words_are(&store, &mut seat, values, &[35, 1, 1, 0, 2, 3, 3, 0, 256]));
     let times = frame.saturating_add(FRAME_TIMES as u64);
-    assert!(rt; words_are(&store, &mut seat, times, &[3, 0, 5, 0]));
+    words_at(
+        &rt,
+        &store,
+        &mut seat,
+        &[
+            (directory, &[8]),
+            (epoch, &[1]),
+            (frame, &[3]),
+            // Four runs of values: 1 at the first record, 0 at the second, 3 at the third, and 0 from there on.
+            (values, &[35, 1, 1, 0, 2, 3, 3, 0, 256]),
+            (times, &[3, 0, 5, 0]),
+        ],
+    );
     Ok(())
 }
 
 #[test]
 fn a_merge_by_hand_leaves_old_readers_their_row(rt: HostRuntime) -> Result<(), Fail> {
     let mut hand = opened(rt.alloc())?;
-    answers(
+    play(
         &rt,
-        rt.alloc(),
         &mut hand,
-        [
-            (0, Call::Begin, begun(0)),
-            (0, insert(7, 10, 20), Reply::Done),
-            (0, Call::Commit, committed(1)),
-            (1, Call::Begin, begun(1)),
-            (0, Call::Begin, begun(1)),
-            (0, update(7, Some(11), Some(21)), Reply::Done),
-            (0, Call::Commit, committed(2)),
+        &[
+            (0, Asked::Begin, Told::Begun(0)),
+            (0, Asked::Insert(7, 10, 20), Told::Done),
+            (0, Asked::Commit, Told::Committed(1)),
+            (1, Asked::Begin, Told::Begun(1)),
+            (0, Asked::Begin, Told::Begun(1)),
+            (0, Asked::Update(7, Some(11), Some(21)), Told::Done),
+            (0, Asked::Commit, Told::Committed(2)),
         ],
     )?;
-    let run = Run { tps: 0, end: 2 };
-    assert_eq!(rt; merged(&rt, &mut hand), Some((run, 8)));
-    answers(
+    merges(&rt, &mut hand, 2, 8);
+    play(
         &rt,
-        rt.alloc(),
         &mut hand,
-        [
-            (1, get(7), found(10, 20)),
-            (0, Call::Begin, begun(2)),
-            (0, get(7), found(11, 21)),
+        &[
+            (1, Asked::Get(7), Told::Row(10, 20)),
+            (0, Asked::Begin, Told::Begun(2)),
+            (0, Asked::Get(7), Told::Row(11, 21)),
         ],
     )
 }
@@ -235,21 +256,19 @@ fn a_merge_by_hand_leaves_old_readers_their_row(rt: HostRuntime) -> Result<(), F
 #[test]
 fn a_pin_holds_a_frame_until_it_is_gone(rt: HostRuntime) -> Result<(), Fail> {
     let mut hand = opened(rt.alloc())?;
-    answers(
+    play(
         &rt,
-        rt.alloc(),
         &mut hand,
-        [
-            (0, Call::Begin, begun(0)),
-            (0, insert(7, 10, 20), Reply::Done),
-            (0, Call::Commit, committed(1)),
-            (1, Call::Begin, begun(1)),
+        &[
+            (0, Asked::Begin, Told::Begun(0)),
+            (0, Asked::Insert(7, 10, 20), Told::Done),
+            (0, Asked::Commit, Told::Committed(1)),
+            (1, Asked::Begin, Told::Begun(1)),
         ],
     )?;
-    let run = Run { tps: 0, end: 1 };
-    assert_eq!(rt; merged(&rt, &mut hand), Some((run, 8)));
+    merges(&rt, &mut hand, 1, 8);
     assert_eq!(rt; freed(&mut hand), Err(Held { session: 1 }));
-    answers(&rt, rt.alloc(), &mut hand, [(1, Call::Commit, ended(1))])?;
+    play(&rt, &mut hand, &[(1, Asked::Commit, Told::Ended(1))])?;
     // The frame that the page had before.
     assert_eq!(rt; freed(&mut hand), Ok(0));
     Ok(())

@@ -1,4 +1,6 @@
 //! A session by itself, on a new store: each call with its answer.
+//!
+//! A script is a table of plain values, and one function takes its steps: the proof of a function grows faster than its calls.
 ghost use Rattle.std.specs.Prelude.{◌≡◌, length};
 ghost use Rattle.lst_model.specs.Lines.{IsPatch};
 ghost use Rattle.lst_session.specs.Passes.{IsReady};
@@ -10,6 +12,7 @@ use lst_model::{Key, Patch, Row, Time};
 use lst_rule::Store;
 use lst_seat::open_store;
 use std::alloc::Global;
+use std::process::Abort;
 use std::test::Fail;
 
 /// A store of one range with two columns and two sessions, and one of the sessions.
@@ -58,16 +61,38 @@ fn patch(first: u64) -> Patch
     Patch::of_numbers(cells)
 }
 
-fn begin(on: &mut Opened) -> Result<Time, BeginRefusal> {
-    on.session.begin(&on.store)
+/// The cells of a row of two.
+type Cells = (Option<u64>, Option<u64>);
+
+/// A call of the session with its answer, or what the session tells of itself.
+#[derive(Clone, Copy, Debug, PartialEq)]
+enum Step {
+    Begin(Result<Time, BeginRefusal>),
+    AsOf(Time, Result<Time, BeginRefusal>),
+    Get(Key, Result<Option<Cells>, NotBegun>),
+    Insert(Key, u64, u64, Result<(), WriteRefusal>),
+    Update(Key, u64, Result<(), WriteRefusal>),
+    Delete(Key, Result<(), WriteRefusal>),
+    Commit(Result<Outcome, CommitRefusal>),
+    Abort(Result<(), NotBegun>),
+    Seen(Time),
+    IsIdle(bool),
+    IsSpent(bool),
+    /// The epoch that the session has pinned.
+    Pinned(Option<u64>),
 }
 
-fn as_of(on: &mut Opened, time: Time) -> Result<Time, BeginRefusal> {
-    on.session.as_of(&on.store, time)
+fn cells(rt: &impl Abort, row: &Row) -> Cells {
+    assert!(rt; row.len() == 2);
+    (row.get(0), row.get(1))
 }
 
-fn get(on: &mut Opened, key: Key) -> Result<Option<Row>, NotBegun> {
-    on.session.get(&on.store, key)
+fn get(rt: &impl Abort, on: &mut Opened, key: Key) -> Result<Option<Cells>, NotBegun> {
+    match on.session.get(&on.store, key) {
+        Ok(Some(row)) => Ok(Some(cells(rt, &row))),
+        Ok(None) => Ok(None),
+        Err(cause) => Err(cause),
+    }
 }
 
 fn insert(on: &mut Opened, key: Key, first: u64, second: u64) -> Result<(), WriteRefusal> {
@@ -78,135 +103,174 @@ fn update(on: &mut Opened, key: Key, first: u64) -> Result<(), WriteRefusal> {
     on.session.update(&on.store, key, &patch(first))
 }
 
-fn delete(on: &mut Opened, key: Key) -> Result<(), WriteRefusal> {
-    on.session.delete(&on.store, key)
-}
-
-fn try_commit(on: &mut Opened) -> Result<Outcome, CommitRefusal> {
-    on.session.try_commit(&on.store)
-}
-
-fn abort(on: &mut Opened) -> Result<(), NotBegun> {
-    on.session.abort(&on.store)
-}
-
-fn seen(on: &Opened) -> Time {
-    on.session.seen()
-}
-
-fn is_idle(on: &Opened) -> bool {
-    on.session.is_idle()
-}
-
-fn is_spent(on: &Opened) -> bool {
-    on.session.is_spent()
-}
-
-/// The epoch that the session has pinned.
 fn pinned(on: &Opened) -> Option<u64> {
     on.session.seat.pinned(on.session.number)
 }
 
+/// The step with what is answered now.
+fn taken(rt: &impl Abort, on: &mut Opened, step: Step) -> Step {
+    match step {
+        Step::Begin(_) => Step::Begin(on.session.begin(&on.store)),
+        Step::AsOf(time, _) => Step::AsOf(time, on.session.as_of(&on.store, time)),
+        Step::Get(key, _) => Step::Get(key, get(rt, on, key)),
+        Step::Insert(key, first, second, _) => {
+            Step::Insert(key, first, second, insert(on, key, first, second))
+        }
+        Step::Update(key, first, _) => Step::Update(key, first, update(on, key, first)),
+        Step::Delete(key, _) => Step::Delete(key, on.session.delete(&on.store, key)),
+        Step::Commit(_) => Step::Commit(on.session.try_commit(&on.store)),
+        Step::Abort(_) => Step::Abort(on.session.abort(&on.store)),
+        Step::Seen(_) => Step::Seen(on.session.seen()),
+        Step::IsIdle(_) => Step::IsIdle(on.session.is_idle()),
+        Step::IsSpent(_) => Step::IsSpent(on.session.is_spent()),
+        Step::Pinned(_) => Step::Pinned(pinned(on)),
+    }
+}
+
+/// Takes steps in order, each of which is answered as it says.
+fn play(rt: &impl Abort, on: &mut Opened, script: &[Step]) {
+    for (at, &step) in script.iter().enumerate() {
+        assert_eq!(rt; taken(rt, on, step), step, "at step {at}");
+    }
+}
+
+/// The same on a store that opens.
+fn run(rt: &impl Abort, alloc: Global, tails: u32, txns: u32, script: &[Step]) -> Result<(), Fail> {
+    let mut on = open_one(alloc, tails, txns)?;
+    play(rt, &mut on, script);
+    Ok(())
+}
+
 #[test]
 fn a_session_reads_what_it_has_written_and_committed(rt: HostRuntime) -> Result<(), Fail> {
-    let mut on = open_one(rt.alloc(), 16, 8)?;
-    assert_eq!(rt; begin(&mut on), Ok(0));
-    assert_eq!(rt; insert(&mut on, 7, 10, 20), Ok(()));
-    assert_eq!(rt; get(&mut on, 7), Ok(Some(row(10, 20))));
-    assert!(rt; !is_idle(&on));
-    assert_eq!(rt; try_commit(&mut on), Ok(Outcome::Committed { time: 1 }));
-    assert!(rt; is_idle(&on));
-    assert_eq!(rt; seen(&on), 1);
-    assert_eq!(rt; begin(&mut on), Ok(1));
-    assert_eq!(rt; update(&mut on, 7, 11), Ok(()));
-    assert_eq!(rt; get(&mut on, 7), Ok(Some(row(11, 20))));
-    assert_eq!(rt; delete(&mut on, 7), Ok(()));
-    assert_eq!(rt; get(&mut on, 7), Ok(None));
-    assert_eq!(rt; abort(&mut on), Ok(()));
-    assert_eq!(rt; begin(&mut on), Ok(1));
-    assert_eq!(rt; get(&mut on, 7), Ok(Some(row(10, 20))));
-    Ok(())
+    run(
+        &rt,
+        rt.alloc(),
+        16,
+        8,
+        &[
+            Step::Begin(Ok(0)),
+            Step::Insert(7, 10, 20, Ok(())),
+            Step::Get(7, Ok(Some((Some(10), Some(20))))),
+            Step::IsIdle(false),
+            Step::Commit(Ok(Outcome::Committed { time: 1 })),
+            Step::IsIdle(true),
+            Step::Seen(1),
+            Step::Begin(Ok(1)),
+            Step::Update(7, 11, Ok(())),
+            Step::Get(7, Ok(Some((Some(11), Some(20))))),
+            Step::Delete(7, Ok(())),
+            Step::Get(7, Ok(None)),
+            Step::Abort(Ok(())),
+            Step::Begin(Ok(1)),
+            Step::Get(7, Ok(Some((Some(10), Some(20))))),
+        ],
+    )
 }
 
 #[test]
 fn a_past_time_is_read_only(rt: HostRuntime) -> Result<(), Fail> {
-    let mut on = open_one(rt.alloc(), 16, 8)?;
-    assert_eq!(rt; begin(&mut on), Ok(0));
-    assert_eq!(rt; insert(&mut on, 7, 10, 20), Ok(()));
-    assert_eq!(rt; try_commit(&mut on), Ok(Outcome::Committed { time: 1 }));
-    assert_eq!(rt; as_of(&mut on, 0), Ok(0));
-    assert_eq!(rt; get(&mut on, 7), Ok(None));
-    assert_eq!(rt; insert(&mut on, 7, 10, 20), Err(WriteRefusal::ReadOnly));
-    assert_eq!(rt; update(&mut on, 7, 11), Err(WriteRefusal::ReadOnly));
-    assert_eq!(rt; delete(&mut on, 7), Err(WriteRefusal::ReadOnly));
-    assert_eq!(rt; try_commit(&mut on), Ok(Outcome::Ended { time: 0 }));
-    assert_eq!(rt; as_of(&mut on, 9), Err(BeginRefusal::Future { clock: 1 }));
-    assert_eq!(rt; as_of(&mut on, 1), Ok(1));
-    assert_eq!(rt; get(&mut on, 7), Ok(Some(row(10, 20))));
-    Ok(())
+    run(
+        &rt,
+        rt.alloc(),
+        16,
+        8,
+        &[
+            Step::Begin(Ok(0)),
+            Step::Insert(7, 10, 20, Ok(())),
+            Step::Commit(Ok(Outcome::Committed { time: 1 })),
+            Step::AsOf(0, Ok(0)),
+            Step::Get(7, Ok(None)),
+            Step::Insert(7, 10, 20, Err(WriteRefusal::ReadOnly)),
+            Step::Update(7, 11, Err(WriteRefusal::ReadOnly)),
+            Step::Delete(7, Err(WriteRefusal::ReadOnly)),
+            Step::Commit(Ok(Outcome::Ended { time: 0 })),
+            Step::AsOf(9, Err(BeginRefusal::Future { clock: 1 })),
+            Step::AsOf(1, Ok(1)),
+            Step::Get(7, Ok(Some((Some(10), Some(20))))),
+        ],
+    )
 }
 
 #[test]
 fn what_is_not_begun_is_refused(rt: HostRuntime) -> Result<(), Fail> {
-    let mut on = open_one(rt.alloc(), 16, 2)?;
-    assert_eq!(rt; get(&mut on, 7), Err(NotBegun));
-    assert_eq!(rt; insert(&mut on, 7, 10, 20), Err(WriteRefusal::Idle));
-    assert_eq!(rt; update(&mut on, 7, 11), Err(WriteRefusal::Idle));
-    assert_eq!(rt; try_commit(&mut on), Err(CommitRefusal::Idle));
-    assert_eq!(rt; abort(&mut on), Err(NotBegun));
-    assert_eq!(rt; begin(&mut on), Ok(0));
-    assert_eq!(rt; begin(&mut on), Err(BeginRefusal::Active));
-    assert_eq!(rt; abort(&mut on), Ok(()));
-    assert!(rt; !is_spent(&on));
-    assert_eq!(rt; begin(&mut on), Ok(0));
-    assert_eq!(rt; try_commit(&mut on), Ok(Outcome::Ended { time: 0 }));
-    assert!(rt; is_spent(&on));
-    assert_eq!(rt; begin(&mut on), Err(BeginRefusal::Spent));
-    assert_eq!(rt; as_of(&mut on, 0), Err(BeginRefusal::Spent));
-    Ok(())
+    run(
+        &rt,
+        rt.alloc(),
+        16,
+        2,
+        &[
+            Step::Get(7, Err(NotBegun)),
+            Step::Insert(7, 10, 20, Err(WriteRefusal::Idle)),
+            Step::Update(7, 11, Err(WriteRefusal::Idle)),
+            Step::Commit(Err(CommitRefusal::Idle)),
+            Step::Abort(Err(NotBegun)),
+            Step::Begin(Ok(0)),
+            Step::Begin(Err(BeginRefusal::Active)),
+            Step::Abort(Ok(())),
+            Step::IsSpent(false),
+            Step::Begin(Ok(0)),
+            Step::Commit(Ok(Outcome::Ended { time: 0 })),
+            Step::IsSpent(true),
+            Step::Begin(Err(BeginRefusal::Spent)),
+            Step::AsOf(0, Err(BeginRefusal::Spent)),
+        ],
+    )
 }
 
 #[test]
 fn full_tables_and_ranges_are_told(rt: HostRuntime) -> Result<(), Fail> {
     // As many writes as records, of which there are 256.
     let mut on = open_one(rt.alloc(), 256, 8)?;
-    assert_eq!(rt; begin(&mut on), Ok(0));
+    play(&rt, &mut on, &[Step::Begin(Ok(0))]);
     for key in 0..256 {
-        assert_eq!(rt; insert(&mut on, key, 10, 20), Ok(()));
+        play(&rt, &mut on, &[Step::Insert(key, 10, 20, Ok(()))]);
     }
-    assert_eq!(rt; insert(&mut on, 256, 10, 20), Err(WriteRefusal::TableFull));
-    assert_eq!(rt; update(&mut on, 256, 11), Err(WriteRefusal::Missing));
-    assert_eq!(rt; insert(&mut on, 255, 10, 20), Err(WriteRefusal::Exists));
-    assert_eq!(rt; update(&mut on, 255, 11), Err(WriteRefusal::TailFull));
-    assert_eq!(rt; get(&mut on, 255), Ok(Some(row(10, 20))));
-    assert_eq!(rt; try_commit(&mut on), Ok(Outcome::Committed { time: 1 }));
+    play(
+        &rt,
+        &mut on,
+        &[
+            Step::Insert(256, 10, 20, Err(WriteRefusal::TableFull)),
+            Step::Update(256, 11, Err(WriteRefusal::Missing)),
+            Step::Insert(255, 10, 20, Err(WriteRefusal::Exists)),
+            Step::Update(255, 11, Err(WriteRefusal::TailFull)),
+            Step::Get(255, Ok(Some((Some(10), Some(20))))),
+            Step::Commit(Ok(Outcome::Committed { time: 1 })),
+        ],
+    );
     Ok(())
 }
 
 #[test]
 fn a_session_is_pinned_while_its_transaction_is_open(rt: HostRuntime) -> Result<(), Fail> {
-    let mut on = open_one(rt.alloc(), 16, 3)?;
-    assert_eq!(rt; pinned(&on), None);
-    assert_eq!(rt; begin(&mut on), Ok(0));
-    assert_eq!(rt; pinned(&on), Some(0));
-    assert_eq!(rt; begin(&mut on), Err(BeginRefusal::Active));
-    assert_eq!(rt; insert(&mut on, 7, 10, 20), Ok(()));
-    assert_eq!(rt; get(&mut on, 7), Ok(Some(row(10, 20))));
-    assert_eq!(rt; insert(&mut on, 7, 10, 20), Err(WriteRefusal::Exists));
-    assert_eq!(rt; pinned(&on), Some(0));
-    assert_eq!(rt; try_commit(&mut on), Ok(Outcome::Committed { time: 1 }));
-    assert_eq!(rt; pinned(&on), None);
-    assert_eq!(rt; as_of(&mut on, 9), Err(BeginRefusal::Future { clock: 1 }));
-    assert_eq!(rt; pinned(&on), None);
-    assert_eq!(rt; as_of(&mut on, 1), Ok(1));
-    assert_eq!(rt; pinned(&on), Some(0));
-    assert_eq!(rt; abort(&mut on), Ok(()));
-    assert_eq!(rt; pinned(&on), None);
-    assert_eq!(rt; begin(&mut on), Ok(1));
-    assert_eq!(rt; pinned(&on), Some(0));
-    assert_eq!(rt; try_commit(&mut on), Ok(Outcome::Ended { time: 1 }));
-    assert_eq!(rt; pinned(&on), None);
-    assert_eq!(rt; begin(&mut on), Err(BeginRefusal::Spent));
-    assert_eq!(rt; pinned(&on), None);
-    Ok(())
+    run(
+        &rt,
+        rt.alloc(),
+        16,
+        3,
+        &[
+            Step::Pinned(None),
+            Step::Begin(Ok(0)),
+            Step::Pinned(Some(0)),
+            Step::Begin(Err(BeginRefusal::Active)),
+            Step::Insert(7, 10, 20, Ok(())),
+            Step::Get(7, Ok(Some((Some(10), Some(20))))),
+            Step::Insert(7, 10, 20, Err(WriteRefusal::Exists)),
+            Step::Pinned(Some(0)),
+            Step::Commit(Ok(Outcome::Committed { time: 1 })),
+            Step::Pinned(None),
+            Step::AsOf(9, Err(BeginRefusal::Future { clock: 1 })),
+            Step::Pinned(None),
+            Step::AsOf(1, Ok(1)),
+            Step::Pinned(Some(0)),
+            Step::Abort(Ok(())),
+            Step::Pinned(None),
+            Step::Begin(Ok(1)),
+            Step::Pinned(Some(0)),
+            Step::Commit(Ok(Outcome::Ended { time: 1 })),
+            Step::Pinned(None),
+            Step::Begin(Err(BeginRefusal::Spent)),
+            Step::Pinned(None),
+        ],
+    )
 }

@@ -1,12 +1,15 @@
 //! Passes of several sessions, each on a thread of its own.
 ghost use Rattle.std.specs.Prelude.{◌≡◌, All, IfOk};
+ghost use Rattle.lst_session.specs.Crews.{IsCrewOf};
 ghost use Rattle.lst_session.specs.Parting.{IsMergerOf};
 ghost use Rattle.lst_session.specs.Passes.{IsReady};
 
-use crate::part_tests::{gathered, listed, opened, part_at_last, parted, put, row, three};
+use crate::part_tests::{
+    begins, crew_begins, crew_commits, crew_gets, crew_sees, gathered, gets, has_seen,
+    in_next_phase, is_commit, opened, opened_parts, part_at_last, puts, refused, row,
+};
 use crate::{
-    CommitLock, GatherCause, Merger, NotBegun, Outcome, Session, Sessions, WriteRefusal, gather,
-    next_phase, open_crew,
+    CommitLock, Crew, Merger, NotBegun, Outcome, Session, Sessions, WriteRefusal, open_crew,
 };
 use lst_index::find;
 use lst_layout::Limits;
@@ -15,6 +18,7 @@ use lst_rule::Store;
 use lst_txn::take_turn;
 use lst_write::{latch, release};
 use std::alloc::Global;
+use std::process::Abort;
 use std::sync::Wait;
 use std::sync::atomic::{AtomicU64, Ordering};
 use std::test::Fail;
@@ -70,6 +74,20 @@ fn inserts(store: &Store, session: &mut Session, key: Key) -> Option<Result<(), 
         return None;
     }
     Some(session.insert(store, key, &row))
+}
+
+/// The same, compared with this answer.
+fn insert_is(
+    rt: &impl Abort,
+    store: &Store,
+    session: &mut Session,
+    key: Key,
+    wanted: Result<(), WriteRefusal>,
+)
+    requires { IsReady store.now session.old }
+    ensures { IsReady store.now session.new }
+{
+    assert_eq!(rt; inserts(store, session, key), Some(wanted));
 }
 
 /// Whether a row is put and committed in a transaction of its own.
@@ -146,34 +164,47 @@ fn commit_beside<R: Threads + Wait + Sync>(
 
 #[test]
 fn two_passes_commit_by_one_lock(rt: HostRuntime) -> Result<(), Fail> {
-    let alloc = rt.alloc();
-    let (store, crew) = opened(alloc)?;
-    let (mut first, mut second, third, _) = parted(alloc, &store, crew)?;
+    let (store, mut first, mut second, third, _) = opened_parts(rt.alloc())?;
     let mut one = false;
     let mut other = false;
     commit_beside(&rt, &store, &mut first, &mut second, &mut one, &mut other);
     assert!(rt; one && other);
     // Each commit has a time of its own.
-    let mut sessions = listed(alloc, &store, first, second, third)?;
-    next_phase(&store, &mut sessions);
-    let (first, second, third) = three(&store, sessions)?;
-    assert_eq!(rt; (first.seen(), second.seen(), third.seen()), (8, 8, 8));
+    let (first, second, third) = in_next_phase(rt.alloc(), &store, first, second, third)?;
+    has_seen(&rt, &store, &first, 0, 8);
+    has_seen(&rt, &store, &second, 1, 8);
+    has_seen(&rt, &store, &third, 2, 8);
     Ok(())
+}
+
+/// A commit that may wait has this answer.
+fn commit_is<R: Abort + Wait>(
+    rt: &R,
+    store: &Store,
+    session: &mut Session,
+    lock: &CommitLock,
+    wanted: Result<Outcome, NotBegun>,
+)
+    requires { IsReady store.now session.old }
+    ensures { IsReady store.now session.new }
+{
+    assert_eq!(rt; session.commit(rt, store, lock), wanted);
 }
 
 #[test]
 fn a_commit_that_may_wait_ends_what_has_no_writes(rt: HostRuntime) -> Result<(), Fail> {
-    let alloc = rt.alloc();
-    let (store, crew) = opened(alloc)?;
-    let (mut first, _, _, _) = parted(alloc, &store, crew)?;
+    let (store, mut first, _, _, _) = opened_parts(rt.alloc())?;
     let lock = CommitLock::new();
-    assert_eq!(rt; first.commit(&rt, &store, &lock), Err(NotBegun));
-    assert_eq!(rt; first.begin(&store), Ok(0));
-    assert_eq!(rt;
-        first.commit(&rt, &store, &lock),
-        Ok(Outcome::Ended { time: 0 })
+    commit_is(&rt, &store, &mut first, &lock, Err(NotBegun));
+    begins(&rt, &store, &mut first, 0);
+    commit_is(
+        &rt,
+        &store,
+        &mut first,
+        &lock,
+        Ok(Outcome::Ended { time: 0 }),
     );
-    assert_eq!(rt; first.commit(&rt, &store, &lock), Err(NotBegun));
+    commit_is(&rt, &store, &mut first, &lock, Err(NotBegun));
     Ok(())
 }
 
@@ -249,10 +280,10 @@ fn committed_at_last<R: Threads + Wait + Sync>(
 #[test]
 fn a_commit_waits_till_another_pass_gives_the_turn_back(rt: HostRuntime) -> Result<(), Fail> {
     let (store, (mut first, mut second), _) = parted_pair(rt.alloc())?;
-    assert_eq!(rt; first.begin(&store), Ok(0));
-    assert_eq!(rt; inserts(&store, &mut first, 1), Some(Ok(())));
-    assert_eq!(rt; second.begin(&store), Ok(0));
-    assert_eq!(rt; inserts(&store, &mut second, 2), Some(Ok(())));
+    begins(&rt, &store, &mut first, 0);
+    insert_is(&rt, &store, &mut first, 1, Ok(()));
+    begins(&rt, &store, &mut second, 0);
+    insert_is(&rt, &store, &mut second, 2, Ok(()));
     assert_eq!(rt;
         committed_at_last(&rt, &store, &mut first, &mut second),
         (Ok(Outcome::Committed { time: 1 }), true)
@@ -296,21 +327,19 @@ fn inserted_meanwhile<R: Threads + Sync>(
 #[test]
 fn a_record_is_latched_by_one_pass_at_a_time(rt: HostRuntime) -> Result<(), Fail> {
     let (store, (mut first, mut second), _) = parted_pair(rt.alloc())?;
-    assert_eq!(rt; first.begin(&store), Ok(0));
-    assert_eq!(rt; inserts(&store, &mut first, 1), Some(Ok(())));
-    assert_eq!(rt; second.begin(&store), Ok(0));
+    begins(&rt, &store, &mut first, 0);
+    insert_is(&rt, &store, &mut first, 1, Ok(()));
+    begins(&rt, &store, &mut second, 0);
     assert_eq!(rt;
         inserted_meanwhile(&rt, &store, &mut first, &mut second, 1)?,
         Some(Err(WriteRefusal::Latched))
     );
     // Once it was given back the latch is had, and the write that is found under it isn't finished.
-    assert_eq!(rt;
-        inserts(&store, &mut second, 1),
-        Some(Err(WriteRefusal::Unfinished {
-            session: 0,
-            number: 1
-        }))
-    );
+    let unfinished = WriteRefusal::Unfinished {
+        session: 0,
+        number: 1,
+    };
+    insert_is(&rt, &store, &mut second, 1, Err(unfinished));
     Ok(())
 }
 
@@ -364,6 +393,23 @@ fn listed_pair(
     Ok(Sessions::from_vec(items))
 }
 
+/// Gathers the two sessions.
+fn gathered_pair(
+    alloc: Global,
+    store: &Store,
+    first: Session,
+    second: Session,
+    merger: Merger,
+) -> Result<Crew, Fail>
+    requires first { IsReady store.now first }
+    requires second { IsReady store.now second }
+    requires merger { IsMergerOf store.now merger }
+    ensures { IfOk result (IsCrewOf store.now) }
+{
+    let sessions = listed_pair(alloc, store, first, second)?;
+    gathered(alloc, store, sessions, merger)
+}
+
 /// A pair, of which the first session has committed key 7 at time 1 and the second one has heard of it.
 fn told_pair<R: AllocGlobal + Threads + Wait + Sync>(
     rt: &R,
@@ -384,53 +430,49 @@ fn told_pair<R: AllocGlobal + Threads + Wait + Sync>(
 #[test]
 fn what_a_thread_commits_another_one_hears_of(rt: HostRuntime) -> Result<(), Fail> {
     let (store, (first, mut second), merger) = told_pair(&rt)?;
-    assert_eq!(rt; second.seen(), 1);
-    assert_eq!(rt; second.begin(&store), Ok(1));
-    assert_eq!(rt; second.get(&store, 7), Ok(Some(row(10, 20))));
-    let sessions = listed_pair(rt.alloc(), &store, first, second)?;
-    let crew = gathered(rt.alloc(), &store, sessions, merger)?;
-    assert!(rt; crew.seat.hosts(0) && crew.seat.hosts(1));
-    assert_eq!(rt; (crew.seat.seen(0), crew.seat.seen(1)), (1, 1));
+    has_seen(&rt, &store, &second, 1, 1);
+    begins(&rt, &store, &mut second, 1);
+    gets(&rt, &store, &mut second, 7, Some((10, 20)));
+    let crew = gathered_pair(rt.alloc(), &store, first, second, merger)?;
+    crew_sees(&rt, &store, &crew, 0, 1);
+    crew_sees(&rt, &store, &crew, 1, 1);
     Ok(())
 }
 
 #[test]
 fn a_pass_that_is_left_out_is_missing(rt: HostRuntime) -> Result<(), Fail> {
     let (store, (first, second), merger) = told_pair(&rt)?;
-    let mut items = Vec::new(rt.alloc());
-    items.push(first)?;
-    let Err(refusal) = gather(rt.alloc(), &store, Sessions::from_vec(items), merger) else {
-        return Err(Fail::from("session 1 is missing"));
-    };
-    assert!(rt; matches!(refusal.cause, GatherCause::Gap { missing: 1 }));
     // All is handed back, and is gathered with the session that was left out.
-    let mut items = refusal.sessions.into_vec();
-    let Some(first) = items.pop() else {
-        return Err(Fail::from("the session is handed back"));
-    };
-    assert_eq!(rt; (first.number, first.seen()), (0, 1));
-    let sessions = listed_pair(rt.alloc(), &store, first, second)?;
-    let crew = gathered(rt.alloc(), &store, sessions, refusal.merger)?;
-    assert!(rt; crew.seat.hosts(1) && crew.seat.seen(1) == 1);
+    let (first, merger) = refused(&rt, rt.alloc(), &store, first, merger)?;
+    has_seen(&rt, &store, &first, 0, 1);
+    let crew = gathered_pair(rt.alloc(), &store, first, second, merger)?;
+    crew_sees(&rt, &store, &crew, 1, 1);
     Ok(())
+}
+
+/// In a crew's calls, session 0 commits a row that it reads before.
+fn with_a_row(rt: &impl Abort, alloc: Global) -> Result<(Store, Crew), Fail>
+    ensures { IfOk result (λ both. IsCrewOf both.0 both.1) }
+{
+    let (store, mut crew) = opened(alloc)?;
+    crew_begins(rt, &store, &mut crew, 0, 0);
+    puts(rt, &store, &mut crew, 0, 7, (10, 20));
+    crew_gets(rt, &store, &mut crew, 0, 7, Some((10, 20)));
+    crew_commits(rt, &store, &mut crew, 0, Outcome::Committed { time: 1 });
+    Ok((store, crew))
 }
 
 #[test]
 fn a_crew_is_parted_and_gathered_at_once(rt: HostRuntime) -> Result<(), Fail> {
     let alloc = rt.alloc();
-    let (store, mut crew) = opened(alloc)?;
-    assert!(rt; crew.seat.limits().sessions == 3);
-    assert_eq!(rt; crew.begin(&store, 0), Ok(0));
-    assert_eq!(rt; put(&rt, &store, &mut crew, 0, 7, (10, 20)), Ok(()));
-    assert_eq!(rt; crew.get(&store, 0, 7), Ok(Some(row(10, 20))));
-    assert_eq!(rt; crew.commit(&store, 0), Ok(Outcome::Committed { time: 1 }));
+    let (store, crew) = with_a_row(&rt, alloc)?;
     let (sessions, merger) = part_at_last(alloc, &store, crew)?;
     let mut crew = gathered(alloc, &store, sessions, merger)?;
     let all = crew.history(alloc, &store)?;
     let [one] = all.items() else {
         return Err(Fail::from("the history has one commit"));
     };
-    assert_eq!(rt; (one.session, one.number, one.begin), (0, 1, 0));
+    is_commit(&rt, one, 0, 1, 0);
     let [write] = one.writes.items() else {
         return Err(Fail::from("the commit has one write"));
     };
