@@ -2,13 +2,13 @@
 ghost use Rattle.std.specs.Prelude.{◌<◌};
 ghost use Rattle.lst_drive.specs.Idle.{IsPair};
 
-use crate::read_tests::{commit, null_and, open_pair, put, quit, set_first, start, write};
+use crate::read_tests::{Deed, Step, open_pair, play};
 use lst_layout::Limits;
-use lst_model::Act;
 use lst_rule::{RecordId, Seat, Store};
 use lst_seat::open_store;
 use lst_second::{CandidateFault, RecordList, candidates};
 use std::alloc::Global;
+use std::process::Abort;
 use std::test::Fail;
 
 /// The candidates that session 0 finds.
@@ -40,88 +40,110 @@ const SECOND: RecordId = RecordId { number: 1 };
 
 const THIRD: RecordId = RecordId { number: 2 };
 
+/// A column, a number, and the records that are its candidates.
+type Listing<'a> = (u32, u64, &'a [RecordId]);
+
+/// What is listed for session 0, compared.
+fn list(rt: &impl Abort, alloc: Global, store: &Store, seat: &mut Seat, listings: &[Listing])
+    requires pair { IsPair store.now seat.old }
+    ensures { IsPair store.now seat.new }
+{
+    for &(column, value, records) in listings {
+        assert!(rt; column < 2);
+        assert!(rt;
+            are(&listed(alloc, store, seat, column, value), records),
+            "of {value} in column {column}"
+        );
+    }
+}
+
+/// Steps on a store that opens, and then what is listed.
+fn run(
+    rt: &impl Abort,
+    alloc: Global,
+    script: &[(u32, Step)],
+    listings: &[Listing],
+) -> Result<(), Fail> {
+    let (store, mut seat) = open_pair(alloc)?;
+    play(rt, &store, &mut seat, script);
+    list(rt, alloc, &store, &mut seat, listings);
+    Ok(())
+}
+
+#[test]
+fn a_store_that_opens_has_no_candidates(rt: HostRuntime) -> Result<(), Fail> {
+    run(&rt, rt.alloc(), &[], &[(0, 10, &[])])
+}
+
 #[test]
 fn a_number_of_two_records_has_both(rt: HostRuntime) -> Result<(), Fail> {
-    let (store, mut seat) = open_pair(rt.alloc())?;
-    assert!(rt; are(&listed(rt.alloc(), &store, &mut seat, 0, 10), &[]));
-    assert_eq!(rt; start(&store, &mut seat, 0), Some(0));
-    // The runs of 10 and of 31 begin at one position.
-    assert_eq!(rt; write(&store, &mut seat, 0, 7, &put(31, 10)), Some(1));
-    assert_eq!(rt; write(&store, &mut seat, 0, 8, &put(10, 20)), Some(2));
-    assert_eq!(rt; write(&store, &mut seat, 0, 9, &put(31, 20)), Some(3));
-    assert_eq!(rt; write(&store, &mut seat, 0, 7, &set_first(10)), Some(4));
-    assert!(rt;
-        are(
-            &listed(rt.alloc(), &store, &mut seat, 0, 10),
-            &[FIRST, SECOND]
-        )
-    );
-    assert!(rt;
-        are(
-            &listed(rt.alloc(), &store, &mut seat, 0, 31),
-            &[FIRST, THIRD]
-        )
-    );
-    assert!(rt; are(&listed(rt.alloc(), &store, &mut seat, 0, 20), &[]));
-    assert!(rt; are(&listed(rt.alloc(), &store, &mut seat, 1, 10), &[FIRST]));
-    assert!(rt;
-        are(
-            &listed(rt.alloc(), &store, &mut seat, 1, 20),
-            &[SECOND, THIRD]
-        )
-    );
-    Ok(())
+    run(
+        &rt,
+        rt.alloc(),
+        &[
+            (0, Step::Begins(0)),
+            // The runs of 10 and of 31 begin at one position.
+            (0, Step::Writes(7, Deed::Put(31, 10), 1)),
+            (0, Step::Writes(8, Deed::Put(10, 20), 2)),
+            (0, Step::Writes(9, Deed::Put(31, 20), 3)),
+            (0, Step::Writes(7, Deed::SetFirst(10), 4)),
+        ],
+        &[
+            (0, 10, &[FIRST, SECOND]),
+            (0, 31, &[FIRST, THIRD]),
+            (0, 20, &[]),
+            (1, 10, &[FIRST]),
+            (1, 20, &[SECOND, THIRD]),
+        ],
+    )
 }
 
 #[test]
 fn a_record_is_listed_once(rt: HostRuntime) -> Result<(), Fail> {
-    let (store, mut seat) = open_pair(rt.alloc())?;
-    assert_eq!(rt; start(&store, &mut seat, 0), Some(0));
-    assert_eq!(rt; write(&store, &mut seat, 0, 7, &put(10, 20)), Some(1));
-    assert_eq!(rt; write(&store, &mut seat, 0, 7, &set_first(3)), Some(2));
-    assert_eq!(rt; write(&store, &mut seat, 0, 7, &set_first(10)), Some(3));
-    assert!(rt; are(&listed(rt.alloc(), &store, &mut seat, 0, 10), &[FIRST]));
-    // A number that was replaced stays.
-    assert!(rt; are(&listed(rt.alloc(), &store, &mut seat, 0, 3), &[FIRST]));
-    Ok(())
+    run(
+        &rt,
+        rt.alloc(),
+        &[
+            (0, Step::Begins(0)),
+            (0, Step::Writes(7, Deed::Put(10, 20), 1)),
+            (0, Step::Writes(7, Deed::SetFirst(3), 2)),
+            (0, Step::Writes(7, Deed::SetFirst(10), 3)),
+        ],
+        // A number that was replaced stays.
+        &[(0, 10, &[FIRST]), (0, 3, &[FIRST])],
+    )
 }
 
 #[test]
 fn the_writes_of_others_are_listed(rt: HostRuntime) -> Result<(), Fail> {
-    let (store, mut seat) = open_pair(rt.alloc())?;
-    assert_eq!(rt; start(&store, &mut seat, 0), Some(0));
-    assert_eq!(rt; start(&store, &mut seat, 1), Some(0));
-    assert_eq!(rt; write(&store, &mut seat, 0, 7, &put(10, 20)), Some(1));
-    assert_eq!(rt; commit(&store, &mut seat, 0), Some(1));
-    assert_eq!(rt; write(&store, &mut seat, 1, 8, &put(10, 20)), Some(2));
-    assert!(rt; quit(&store, &mut seat, 1));
-    // That write was aborted.
-    assert!(rt;
-        are(
-            &listed(rt.alloc(), &store, &mut seat, 0, 10),
-            &[FIRST, SECOND]
-        )
-    );
-    Ok(())
+    run(
+        &rt,
+        rt.alloc(),
+        &[
+            (0, Step::Begins(0)),
+            (1, Step::Begins(0)),
+            (0, Step::Writes(7, Deed::Put(10, 20), 1)),
+            (0, Step::Commits(1)),
+            (1, Step::Writes(8, Deed::Put(10, 20), 2)),
+            // That write is aborted.
+            (1, Step::Closes),
+        ],
+        &[(0, 10, &[FIRST, SECOND])],
+    )
 }
 
 #[test]
 fn null_is_no_candidate(rt: HostRuntime) -> Result<(), Fail> {
-    let (store, mut seat) = open_pair(rt.alloc())?;
-    assert_eq!(rt; start(&store, &mut seat, 0), Some(0));
-    assert_eq!(rt;
-        write(&store, &mut seat, 0, 7, &Act::Put(null_and(20))),
-        Some(1)
-    );
-    assert_eq!(rt; write(&store, &mut seat, 0, 8, &put(0, 20)), Some(2));
-    assert!(rt; are(&listed(rt.alloc(), &store, &mut seat, 0, 0), &[SECOND]));
-    assert!(rt;
-        are(
-            &listed(rt.alloc(), &store, &mut seat, 1, 20),
-            &[FIRST, SECOND]
-        )
-    );
-    Ok(())
+    run(
+        &rt,
+        rt.alloc(),
+        &[
+            (0, Step::Begins(0)),
+            (0, Step::Writes(7, Deed::PutNullAnd(20), 1)),
+            (0, Step::Writes(8, Deed::Put(0, 20), 2)),
+        ],
+        &[(0, 0, &[SECOND]), (1, 20, &[FIRST, SECOND])],
+    )
 }
 
 #[test]

@@ -12,6 +12,7 @@ use lst_model::{Key, Patch, Row, Time};
 use lst_rule::{Seat, Store};
 use lst_seat::{SeatList, gather, hear, open_store, part, tell};
 use std::alloc::Global;
+use std::process::Abort;
 use std::test::Fail;
 
 /// One range, with a tail record for each of six writes.
@@ -78,26 +79,58 @@ fn commit(store: &Store, seat: &mut Seat, s: u32, key: Key) -> Option<Time>
     put_set_and_delete(store, seat, s, key, row(10, 20), patch(11))
 }
 
+/// The same, and it is committed at this time.
+fn commits(rt: &impl Abort, store: &Store, seat: &mut Seat, s: u32, key: Key, time: Time)
+    requires columns { store.now.layout.limits.columns ≡ 2 }
+    requires session { s < store.now.layout.limits.sessions }
+    requires own { HasOwn store.now s seat.old }
+    ensures { IsSeatOf store.now seat.new }
+{
+    assert_eq!(rt; commit(store, seat, s, key), Some(time));
+}
+
+/// The seat hosts the session, which has seen so many commits.
+fn has_seen(rt: &impl Abort, seat: &Seat, s: u32, time: Time) {
+    assert!(rt; s < seat.limits().sessions && seat.hosts(s));
+    assert_eq!(rt; seat.seen(s), time);
+}
+
+/// Gathers the seats of both sessions, the second one first.
+fn gathered(
+    alloc: Global,
+    store: &Store,
+    first: Seat,
+    second: Seat,
+    merger: Seat,
+) -> Result<Seat, Fail>
+    requires first { IsSeatOf store.now first }
+    requires second { IsSeatOf store.now second }
+    requires merger { IsSeatOf store.now merger }
+    requires hosts { hosts merger.view merger.view.limits.sessions ≡ true }
+{
+    let mut items = Vec::new(alloc);
+    items.push(second)?;
+    items.push(first)?;
+    match gather(store, SeatList::from_vec(items), merger) {
+        Ok(seat) => Ok(seat),
+        Err(_) => Err(Fail::from("no session is missing")),
+    }
+}
+
 #[test]
 fn commits_are_told_and_gathered(rt: HostRuntime) -> Result<(), Fail> {
     let (store, (mut first, mut second), merger) = open_two(rt.alloc())?;
-    assert_eq!(rt; commit(&store, &mut first, 0, 7), Some(1));
-    if !first.hosts(0) {
-        return Err(Fail::from("the seat hosts session 0"));
-    }
-    assert_eq!(rt; (first.seen(0), second.seen(1)), (1, 0));
+    commits(&rt, &store, &mut first, 0, 7, 1);
+    has_seen(&rt, &first, 0, 1);
+    has_seen(&rt, &second, 1, 0);
     // Session 1 makes no load of its own: it hears of the commit.
     let note = tell(&store, &mut first);
     hear(&store, &mut second, note);
-    assert_eq!(rt; second.seen(1), 1);
-    assert_eq!(rt; commit(&store, &mut second, 1, 8), Some(2));
-    assert_eq!(rt; first.seen(0), 1);
-    let mut items = Vec::new(rt.alloc());
-    items.push(second)?;
-    items.push(first)?;
-    let Ok(seat) = gather(&store, SeatList::from_vec(items), merger) else {
-        return Err(Fail::from("no session is missing"));
-    };
-    assert_eq!(rt; (seat.seen(0), seat.seen(1)), (2, 2));
+    has_seen(&rt, &second, 1, 1);
+    commits(&rt, &store, &mut second, 1, 8, 2);
+    has_seen(&rt, &first, 0, 1);
+    let seat = gathered(rt.alloc(), &store, first, second, merger)?;
+    has_seen(&rt, &seat, 0, 2);
+    has_seen(&rt, &seat, 1, 2);
     Ok(())
 }

@@ -1,4 +1,6 @@
 //! Two sessions write against each other.
+//!
+//! A script is a table of plain values, and one function takes its steps: the proof of a function grows faster than its calls.
 ghost use Rattle.std.specs.Prelude.{◌≡◌, ◌<◌, IfOk};
 ghost use Rattle.lst_model.specs.Lines.{IsPatch};
 ghost use Rattle.lst_drive.specs.Driving.{HostsAll, ArePair, IsOpened};
@@ -15,6 +17,7 @@ use lst_rule::{Seat, Store};
 use lst_txn::{BeginFault, TurnFault};
 use lst_write::JudgeFault;
 use std::alloc::Global;
+use std::process::Abort;
 use std::test::Fail;
 
 /// The default limits, but for the tails of a range.
@@ -36,38 +39,36 @@ fn open_table(alloc: Global, ranges: u32, tails: u32) -> Result<(Store, Seat, Pa
     Ok(open_pair(alloc, &layout)?)
 }
 
-/// Whether the operations of a session come to these answers, in turn.
-fn answers_are(
-    store: &Store,
-    seat: &mut Seat,
-    pair: &mut Pair,
-    s: u32,
-    operations: &[(Operation, Answer)],
-) -> bool
-    requires table { IsOpened store.now seat.old pair.old }
-    requires two { s < 2 }
-    ensures table { IsOpened store.now seat.new pair.new }
-{
-    let mut turn = 0;
-    let mut same = true;
-    while turn < operations.len() {
-        let (operation, answer) = operations[turn];
-        if operate(store, seat, pair, s, operation) != answer {
-            same = false;
-        }
-        turn += 1;
-    }
-    same
+/// An operation of a session with its answer, or a word of the store.
+#[derive(Clone, Copy)]
+enum Step {
+    Operation(u32, Operation, Answer),
+    /// The word at an address.
+    Word(u64, u64),
 }
 
-const BEGUN: [(Operation, Answer); 1] = [(Operation::Begin, Answer::Began { time: 0 })];
+/// Whether the step comes to what it says.
+fn takes(store: &Store, seat: &mut Seat, pair: &mut Pair, step: Step) -> bool
+    requires table { IsOpened store.now seat.old pair.old }
+    ensures table { IsOpened store.now seat.new pair.new }
+{
+    match step {
+        Step::Operation(s, operation, answer) => {
+            s < 2 && operate(store, seat, pair, s, operation) == answer
+        }
+        Step::Word(address, word) => load_word(store, seat, pair, address) == Some(word),
+    }
+}
 
-const FIRST_WRITE: [(Operation, Answer); 4] = [
-    (Operation::Latch { key: 7 }, Answer::Head { head: 0 }),
-    (Operation::Judge, Answer::Judged),
-    (Operation::Append, Answer::Tail { tail: 1 }),
-    (Operation::Install, Answer::Installed),
-];
+/// Takes steps in order, each of which comes to what it says.
+fn play(rt: &impl Abort, store: &Store, seat: &mut Seat, pair: &mut Pair, script: &[Step])
+    requires table { IsOpened store.now seat.old pair.old }
+    ensures table { IsOpened store.now seat.new pair.new }
+{
+    for (at, &step) in script.iter().enumerate() {
+        assert!(rt; takes(store, seat, pair, step), "at step {at}");
+    }
+}
 
 #[test]
 fn a_write_leaves_its_words(rt: HostRuntime) -> Result<(), Fail> {
@@ -75,33 +76,22 @@ fn a_write_leaves_its_words(rt: HostRuntime) -> Result<(), Fail> {
     let head = store.layout().indirection(0);
     let start = store.layout().tail_cells(0, 1, 0);
     let encoding = store.layout().tail_cells(0, 1, 1);
-    assert!(rt; answers_are(&store, &mut seat, &mut pair, 0, &BEGUN));
-    assert_eq!(rt;
-        operate(&store, &mut seat, &mut pair, 0, Operation::Latch { key: 7 }),
-        Answer::Head { head: 0 }
-    );
-    assert!(rt; answers_are(&store, &mut seat, &mut pair, 1, &BEGUN));
-    assert_eq!(rt;
-        operate(&store, &mut seat, &mut pair, 1, Operation::Latch { key: 7 }),
-        Answer::Latched
-    );
-    assert_eq!(rt; load_word(&store, &mut seat, &pair, head), Some(1));
-    assert_eq!(rt;
-        operate(&store, &mut seat, &mut pair, 0, Operation::Judge),
-        Answer::Judged
-    );
-    assert_eq!(rt;
-        operate(&store, &mut seat, &mut pair, 0, Operation::Append),
-        Answer::Tail { tail: 1 }
-    );
-    assert_eq!(rt; load_word(&store, &mut seat, &pair, start), Some(33));
-    assert_eq!(rt; load_word(&store, &mut seat, &pair, encoding), Some(259));
-    assert_eq!(rt; load_word(&store, &mut seat, &pair, head), Some(1));
-    assert_eq!(rt;
-        operate(&store, &mut seat, &mut pair, 0, Operation::Install),
-        Answer::Installed
-    );
-    assert_eq!(rt; load_word(&store, &mut seat, &pair, head), Some(2));
+    let latch = Operation::Latch { key: 7 };
+    let script = [
+        Step::Operation(0, Operation::Begin, Answer::Began { time: 0 }),
+        Step::Operation(0, latch, Answer::Head { head: 0 }),
+        Step::Operation(1, Operation::Begin, Answer::Began { time: 0 }),
+        Step::Operation(1, latch, Answer::Latched),
+        Step::Word(head, 1),
+        Step::Operation(0, Operation::Judge, Answer::Judged),
+        Step::Operation(0, Operation::Append, Answer::Tail { tail: 1 }),
+        Step::Word(start, 33),
+        Step::Word(encoding, 259),
+        Step::Word(head, 1),
+        Step::Operation(0, Operation::Install, Answer::Installed),
+        Step::Word(head, 2),
+    ];
+    play(&rt, &store, &mut seat, &mut pair, &script);
     Ok(())
 }
 
@@ -109,61 +99,64 @@ fn a_write_leaves_its_words(rt: HostRuntime) -> Result<(), Fail> {
 fn an_unfinished_version_stops_a_writer(rt: HostRuntime) -> Result<(), Fail> {
     let (store, mut seat, mut pair) = open_table(rt.alloc(), 4, 1)?;
     let (head, second) = (store.layout().indirection(0), store.layout().indirection(1));
-    assert!(rt; answers_are(&store, &mut seat, &mut pair, 0, &BEGUN));
-    assert!(rt; answers_are(&store, &mut seat, &mut pair, 1, &BEGUN));
-    assert!(rt; answers_are(&store, &mut seat, &mut pair, 0, &FIRST_WRITE));
     let fault = JudgeFault::Unfinished {
         session: 0,
         number: 1,
     };
-    let refused = [
-        (Operation::Latch { key: 7 }, Answer::Head { head: 1 }),
-        (Operation::Judge, Answer::NotJudged { fault }),
-        (Operation::Release, Answer::Released),
+    let (latch, other) = (Operation::Latch { key: 7 }, Operation::Latch { key: 8 });
+    let script = [
+        Step::Operation(0, Operation::Begin, Answer::Began { time: 0 }),
+        Step::Operation(1, Operation::Begin, Answer::Began { time: 0 }),
+        Step::Operation(0, latch, Answer::Head { head: 0 }),
+        Step::Operation(0, Operation::Judge, Answer::Judged),
+        Step::Operation(0, Operation::Append, Answer::Tail { tail: 1 }),
+        Step::Operation(0, Operation::Install, Answer::Installed),
+        Step::Operation(1, latch, Answer::Head { head: 1 }),
+        Step::Operation(1, Operation::Judge, Answer::NotJudged { fault }),
+        Step::Operation(1, Operation::Release, Answer::Released),
+        Step::Word(head, 2),
+        // The one tail of the range is drawn.
+        Step::Operation(1, other, Answer::Head { head: 0 }),
+        Step::Operation(1, Operation::Judge, Answer::Judged),
+        Step::Operation(1, Operation::Append, Answer::TailFull),
+        Step::Word(second, 1),
+        Step::Operation(1, Operation::Release, Answer::Released),
+        Step::Word(second, 0),
     ];
-    assert!(rt; answers_are(&store, &mut seat, &mut pair, 1, &refused));
-    assert_eq!(rt; load_word(&store, &mut seat, &pair, head), Some(2));
-    // The one tail of the range is drawn.
-    let full = [
-        (Operation::Latch { key: 8 }, Answer::Head { head: 0 }),
-        (Operation::Judge, Answer::Judged),
-        (Operation::Append, Answer::TailFull),
-    ];
-    assert!(rt; answers_are(&store, &mut seat, &mut pair, 1, &full));
-    assert_eq!(rt; load_word(&store, &mut seat, &pair, second), Some(1));
-    assert_eq!(rt;
-        operate(&store, &mut seat, &mut pair, 1, Operation::Release),
-        Answer::Released
-    );
-    assert_eq!(rt; load_word(&store, &mut seat, &pair, second), Some(0));
+    play(&rt, &store, &mut seat, &mut pair, &script);
     Ok(())
 }
+
+/// Both sessions begin and write, each on a key of its own.
+const BOTH_WRITE: [Step; 10] = [
+    Step::Operation(0, Operation::Begin, Answer::Began { time: 0 }),
+    Step::Operation(1, Operation::Begin, Answer::Began { time: 0 }),
+    Step::Operation(0, Operation::Latch { key: 7 }, Answer::Head { head: 0 }),
+    Step::Operation(0, Operation::Judge, Answer::Judged),
+    Step::Operation(0, Operation::Append, Answer::Tail { tail: 1 }),
+    Step::Operation(0, Operation::Install, Answer::Installed),
+    Step::Operation(1, Operation::Latch { key: 8 }, Answer::Head { head: 0 }),
+    Step::Operation(1, Operation::Judge, Answer::Judged),
+    Step::Operation(1, Operation::Append, Answer::Tail { tail: 2 }),
+    Step::Operation(1, Operation::Install, Answer::Installed),
+];
 
 #[test]
 fn one_session_at_a_time_commits(rt: HostRuntime) -> Result<(), Fail> {
     let (store, mut seat, mut pair) = open_table(rt.alloc(), 4, 4096)?;
-    assert!(rt; answers_are(&store, &mut seat, &mut pair, 0, &BEGUN));
-    assert!(rt; answers_are(&store, &mut seat, &mut pair, 1, &BEGUN));
-    assert!(rt; answers_are(&store, &mut seat, &mut pair, 0, &FIRST_WRITE));
-    let second = [
-        (Operation::Latch { key: 8 }, Answer::Head { head: 0 }),
-        (Operation::Judge, Answer::Judged),
-        (Operation::Append, Answer::Tail { tail: 2 }),
-        (Operation::Install, Answer::Installed),
-    ];
-    assert!(rt; answers_are(&store, &mut seat, &mut pair, 1, &second));
+    play(&rt, &store, &mut seat, &mut pair, &BOTH_WRITE);
     let committed = commit_beside(&store, &mut seat, &mut pair);
     assert_eq!(rt; committed, Some((Some(TurnFault::Busy), 1)));
     let fault = TurnFault::Idle;
     let active = BeginFault::Active;
-    let last = [
-        (Operation::Close, Answer::Closed),
-        (Operation::Close, Answer::Idle),
-        (Operation::Commit, Answer::NotCommitted { fault }),
-        (Operation::Begin, Answer::Began { time: 1 }),
-        (Operation::Begin, Answer::NotBegun { fault: active }),
+    let script = [
+        Step::Operation(1, Operation::Close, Answer::Closed),
+        Step::Operation(1, Operation::Close, Answer::Idle),
+        Step::Operation(1, Operation::Commit, Answer::NotCommitted { fault }),
+        Step::Operation(1, Operation::Begin, Answer::Began { time: 1 }),
+        Step::Operation(1, Operation::Begin, Answer::NotBegun { fault: active }),
     ];
-    assert!(rt; answers_are(&store, &mut seat, &mut pair, 1, &last));
+    play(&rt, &store, &mut seat, &mut pair, &script);
     let future = BeginFault::Future { clock: 1 };
     assert_eq!(rt; open_as_of(&store, &mut seat, &pair, 2), Err(future));
     Ok(())
