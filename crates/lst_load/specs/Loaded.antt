@@ -1,13 +1,12 @@
 -- A generated script on which all sessions of a new store have worked.
-use Rattle.std.specs.Prelude.{◌≡◌, ℕ, ◌*◌, ◌<◌, ◌≤◌, List, [], ◌∷◌, ◌++◌, map, length, Option, Some}
+use Rattle.std.specs.Prelude.{◌≡◌, ℕ, ◌*◌, ◌<◌, ◌≤◌, List, [], ◌∷◌, ◌++◌, map, Option, Some}
 use Rattle.lst_layout.specs.declared.limits.Limits.{Limits}
 use Rattle.lst_layout.specs.declared.layout.Layout.{Layout}
 use Rattle.lst_model.specs.declared.acts.Write.{Write}
 use Rattle.lst_model.specs.declared.commits.Commit.{Commit}
 use Rattle.lst_model.specs.declared.replies.Reply.{Reply}
 use Rattle.lst_model.specs.declared.replies.Reply.TheVariants.{Begun, Ended, Sum, Count}
-use Rattle.lst_model.specs.Histories.{table_at}
-use Rattle.lst_model.specs.Tables.{Rows, count_of, sum_of}
+use Rattle.lst_model.specs.Tables.{count_of, sum_of}
 use Rattle.lst_core_state.specs.State.{mine}
 use Rattle.lst_rule.specs.declared.store.Store.{Store}
 use Rattle.lst_rule.specs.Learned.{Possible}
@@ -15,19 +14,14 @@ use Rattle.lst_rule.specs.Rule.{knows}
 use Rattle.lst_replies.specs.declared.reports.Report.{Report}
 use Rattle.lst_script.specs.Generated.{range_count, generated}
 use Rattle.lst_session.specs.declared.crew.Crew.{Crew}
-use Rattle.lst_session.specs.Crews.{store_told}
 use Rattle.lst_legal_work.specs.Worked.{IsWorked}
-use Rattle.lst_work.specs.Totals.{IsWorkedTotal}
+use Rattle.lst_work.specs.Totals.{table_told, IsWorkedTotal}
 use Rattle.lst_load.specs.declared.loading.Loaded.{Loaded}
 use Rattle.lst_load.specs.Scripted.{transactions_of}
 
 -- the limits of a store for a generated script: one column, and as many ranges as hold the keys
 abbrev pub load_limits : ℕ → ℕ → Limits
 load_limits keys sessions = record { columns = 1; ranges = range_count keys; tails = 16384; sessions = sessions; txns = 16384; spare = 8; indexed = 0 }
-
--- the table that the commits of the store make
-abbrev pub table_told : Crew → Rows
-table_told crew = table_at (store_told crew.seat.view).history (length (store_told crew.seat.view).history)
 
 abbrev pub writes_of_commit : Commit → List Write
 writes_of_commit commit = commit.writes
@@ -44,8 +38,8 @@ pub record HoldsLoad (seed keys sessions : ℕ) (report : Report) (loaded : Load
   pub told : TellsTotals report.replies loaded.rows loaded.total
   pub rows : loaded.rows ≡ keys
   pub total : loaded.total ≡ 1000 * keys
-  pub counted : loaded.rows ≡ count_of (table_told crew)
-  pub added : loaded.total ≡ sum_of (table_told crew) 0
+  pub counted : loaded.rows ≡ count_of (table_told crew.seat.view)
+  pub added : loaded.total ≡ sum_of (table_told crew.seat.view) 0
   pub commits : (s : ℕ) → s < sessions → map writes_of_commit (mine s (knows crew.seat.view s)) ≡ transactions_of s (generated keys sessions seed)
 
 -- The sessions of this store have worked on the script that the seed generates, and have then added up its column, side by side: the total is that sum.
