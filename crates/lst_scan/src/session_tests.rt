@@ -3,8 +3,8 @@ ghost use Rattle.std.specs.Prelude.{◌≡◌, ◌<◌};
 ghost use Rattle.lst_model.specs.Lines.{CallFits};
 
 use crate::session_line;
-use crate::tests::{Opened, open_one, refused, row};
-use lst_model::{Call, Cause, OutOfMemory, Reply, RowList};
+use crate::tests::{Asked, Opened, Told, call_of, fits, open_one, reply_of};
+use lst_model::{Call, Cause, OutOfMemory, Reply};
 use lst_session::CommitLock;
 use std::process::Abort;
 use std::sync::Wait;
@@ -22,127 +22,56 @@ fn answer_alone(
     session_line(rt, rt.alloc(), &on.store, &mut on.session, lock, &call)
 }
 
-/// Without an open transaction each call but a begin is refused as idle.
-fn is_idle_at_each(
+/// The calls of a script, and their replies compared.
+fn play_alone(
     rt: &(impl Abort + AllocGlobal + Wait),
     on: &mut Opened,
     lock: &CommitLock,
+    script: &[(Asked, Told<'_>)],
 ) -> Result<(), Fail> {
-    assert_eq!(rt;
-        answer_alone(rt, on, lock, Call::Sum { column: 1 }),
-        refused(Cause::Idle)
-    );
-    assert_eq!(rt;
-        answer_alone(rt, on, lock, Call::Count),
-        refused(Cause::Idle)
-    );
-    assert_eq!(rt;
-        answer_alone(rt, on, lock, Call::Scan),
-        refused(Cause::Idle)
-    );
-    assert_eq!(rt;
-        answer_alone(rt, on, lock, Call::Get { key: 7 }),
-        refused(Cause::Idle)
-    );
-    assert_eq!(rt;
-        answer_alone(rt, on, lock, Call::Delete { key: 7 }),
-        refused(Cause::Idle)
-    );
-    assert_eq!(rt;
-        answer_alone(rt, on, lock, Call::Commit),
-        refused(Cause::Idle)
-    );
-    assert_eq!(rt;
-        answer_alone(rt, on, lock, Call::Abort),
-        refused(Cause::Idle)
-    );
+    for (at, &(asked, told)) in script.iter().enumerate() {
+        let call = call_of(asked);
+        assert!(rt; fits(&call));
+        let reply = answer_alone(rt, on, lock, call)?;
+        let wanted = reply_of(rt.alloc(), told)?;
+        assert_eq!(rt; reply, wanted, "at step {at}");
+    }
     Ok(())
 }
 
 #[test]
 fn a_session_answers_each_call(rt: HostRuntime) -> Result<(), Fail> {
-    let alloc = rt.alloc();
-    let mut on = open_one(alloc, 300)?;
+    let mut on = open_one(rt.alloc(), 300)?;
     let lock = CommitLock::new();
-    // Whether a transaction is open is asked before the index.
-    let find = Call::Find {
-        column: 1,
-        value: 3,
-    };
-    assert_eq!(rt;
-        answer_alone(&rt, &mut on, &lock, find),
-        refused(Cause::Idle)
-    );
-    is_idle_at_each(&rt, &mut on, &lock)?;
-    assert_eq!(rt;
-        answer_alone(&rt, &mut on, &lock, Call::Begin),
-        Ok(Reply::Begun { time: 0 })
-    );
-    let insert = Call::Insert {
-        key: 7,
-        row: row(Some(5), Some(3)),
-    };
-    assert_eq!(rt; answer_alone(&rt, &mut on, &lock, insert), Ok(Reply::Done));
-    let find = Call::Find {
-        column: 0,
-        value: 5,
-    };
-    assert_eq!(rt;
-        answer_alone(&rt, &mut on, &lock, find),
-        refused(Cause::NotIndexed)
-    );
-    assert_eq!(rt;
-        answer_alone(&rt, &mut on, &lock, Call::Sum { column: 1 }),
-        Ok(Reply::Sum { total: 3 })
-    );
-    let list = RowList::from_items(vec![in alloc; (7, row(Some(5), Some(3)))]?);
-    assert_eq!(rt;
-        answer_alone(&rt, &mut on, &lock, Call::Scan),
-        Ok(Reply::Rows { list })
-    );
-    assert_eq!(rt;
-        answer_alone(&rt, &mut on, &lock, Call::Commit),
-        Ok(Reply::Committed { time: 1 })
-    );
-    aborts_and_ends(&rt, &mut on, &lock)
-}
-
-/// Deletes the row, and aborts; then a transaction that is read-only ends.
-fn aborts_and_ends(
-    rt: &(impl Abort + AllocGlobal + Wait),
-    on: &mut Opened,
-    lock: &CommitLock,
-) -> Result<(), Fail> {
-    assert_eq!(rt;
-        answer_alone(rt, on, lock, Call::Begin),
-        Ok(Reply::Begun { time: 1 })
-    );
-    assert_eq!(rt;
-        answer_alone(rt, on, lock, Call::Delete { key: 7 }),
-        Ok(Reply::Done)
-    );
-    assert_eq!(rt;
-        answer_alone(rt, on, lock, Call::Count),
-        Ok(Reply::Count { rows: 0 })
-    );
-    assert_eq!(rt; answer_alone(rt, on, lock, Call::Abort), Ok(Reply::Aborted));
-    assert_eq!(rt;
-        answer_alone(rt, on, lock, Call::Get { key: 7 }),
-        refused(Cause::Idle)
-    );
-    assert_eq!(rt;
-        answer_alone(rt, on, lock, Call::AsOf { time: 1 }),
-        Ok(Reply::Begun { time: 1 })
-    );
-    assert_eq!(rt;
-        answer_alone(rt, on, lock, Call::Get { key: 7 }),
-        Ok(Reply::Row {
-            row: row(Some(5), Some(3))
-        })
-    );
-    assert_eq!(rt;
-        answer_alone(rt, on, lock, Call::Commit),
-        Ok(Reply::Ended { time: 1 })
-    );
-    Ok(())
+    play_alone(
+        &rt,
+        &mut on,
+        &lock,
+        &[
+            // Whether a transaction is open is asked before the index.
+            (Asked::Find(1, 3), Told::Refused(Cause::Idle)),
+            (Asked::Sum(1), Told::Refused(Cause::Idle)),
+            (Asked::Count, Told::Refused(Cause::Idle)),
+            (Asked::Scan, Told::Refused(Cause::Idle)),
+            (Asked::Get(7), Told::Refused(Cause::Idle)),
+            (Asked::Delete(7), Told::Refused(Cause::Idle)),
+            (Asked::Commit, Told::Refused(Cause::Idle)),
+            (Asked::Abort, Told::Refused(Cause::Idle)),
+            (Asked::Begin, Told::Begun(0)),
+            (Asked::Insert(7, Some(5), Some(3)), Told::Done),
+            (Asked::Find(0, 5), Told::Refused(Cause::NotIndexed)),
+            (Asked::Sum(1), Told::Sum(3)),
+            (Asked::Scan, Told::Rows(&[(7, Some(5), Some(3))])),
+            (Asked::Commit, Told::Committed(1)),
+            // The row is deleted, which is given up; then a transaction that is read-only ends.
+            (Asked::Begin, Told::Begun(1)),
+            (Asked::Delete(7), Told::Done),
+            (Asked::Count, Told::Count(0)),
+            (Asked::Abort, Told::Aborted),
+            (Asked::Get(7), Told::Refused(Cause::Idle)),
+            (Asked::AsOf(1), Told::Begun(1)),
+            (Asked::Get(7), Told::Row(Some(5), Some(3))),
+            (Asked::Commit, Told::Ended(1)),
+        ],
+    )
 }

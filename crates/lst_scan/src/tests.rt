@@ -1,5 +1,7 @@
 //! Scans of one session, on a new store.
-ghost use Rattle.std.specs.Prelude.{◌≡◌, ℕ, ◌<◌, IfOk, length};
+//!
+//! A script is a table of plain values, and one function takes its steps: the proof of a function grows faster than its calls.
+ghost use Rattle.std.specs.Prelude.{◌≡◌, ℕ, ◌<◌, IfOk, IsTrue, length};
 ghost use Rattle.std.specs.List.{All, Contains};
 ghost use Rattle.lst_model.specs.Lines.{CallFits, IsPatch};
 ghost use Rattle.lst_session.specs.Passes.{IsReady};
@@ -65,14 +67,6 @@ fn patch() -> Patch
     patch
 }
 
-fn begin(on: &mut Opened) -> Result<Time, BeginRefusal> {
-    on.session.begin(&on.store)
-}
-
-fn as_of(on: &mut Opened, time: Time) -> Result<Time, BeginRefusal> {
-    on.session.as_of(&on.store, time)
-}
-
 fn put(
     on: &mut Opened,
     key: Key,
@@ -84,18 +78,6 @@ fn put(
 
 fn empty(on: &mut Opened, key: Key) -> Result<(), WriteRefusal> {
     on.session.update(&on.store, key, &patch())
-}
-
-fn delete(on: &mut Opened, key: Key) -> Result<(), WriteRefusal> {
-    on.session.delete(&on.store, key)
-}
-
-fn try_commit(on: &mut Opened) -> Result<Outcome, CommitRefusal> {
-    on.session.try_commit(&on.store)
-}
-
-fn abort(on: &mut Opened) -> Result<(), NotBegun> {
-    on.session.abort(&on.store)
 }
 
 /// The number of rows, or None where no transaction is open.
@@ -197,146 +179,298 @@ fn found_by_index(
     Some(find(alloc, &on.store, &mut reader, 1, number))
 }
 
+/// A call with its answer.
+#[derive(Clone, Copy, Debug, PartialEq)]
+enum Step {
+    Begin(Result<Time, BeginRefusal>),
+    AsOf(Time, Result<Time, BeginRefusal>),
+    Put(Key, Option<u64>, Option<u64>, Result<(), WriteRefusal>),
+    /// It makes the second column null.
+    Empty(Key, Result<(), WriteRefusal>),
+    Delete(Key, Result<(), WriteRefusal>),
+    Commit(Result<Outcome, CommitRefusal>),
+    Abort(Result<(), NotBegun>),
+    Counted(Option<u64>),
+    Total(Option<u128>),
+    Part(u32, u32, Option<u128>),
+}
+
+/// The step with what is answered now.
+fn taken(on: &mut Opened, step: Step) -> Step {
+    match step {
+        Step::Begin(_) => Step::Begin(on.session.begin(&on.store)),
+        Step::AsOf(time, _) => Step::AsOf(time, on.session.as_of(&on.store, time)),
+        Step::Put(key, first, second, _) => {
+            Step::Put(key, first, second, put(on, key, first, second))
+        }
+        Step::Empty(key, _) => Step::Empty(key, empty(on, key)),
+        Step::Delete(key, _) => Step::Delete(key, on.session.delete(&on.store, key)),
+        Step::Commit(_) => Step::Commit(on.session.try_commit(&on.store)),
+        Step::Abort(_) => Step::Abort(on.session.abort(&on.store)),
+        Step::Counted(_) => Step::Counted(counted(on)),
+        Step::Total(_) => Step::Total(total(on)),
+        Step::Part(from, to, _) => Step::Part(from, to, part(on, from, to)),
+    }
+}
+
+/// Takes steps in order, each of which is answered as it says.
+fn play(rt: &impl Abort, on: &mut Opened, script: &[Step]) {
+    for (at, &step) in script.iter().enumerate() {
+        assert_eq!(rt; taken(on, step), step, "at step {at}");
+    }
+}
+
+/// A row by its key and its cells.
+pub(crate) type Cells = (Key, Option<u64>, Option<u64>);
+
+fn rows_of(alloc: Global, cells: &[Cells]) -> Result<RowList, OutOfMemory> {
+    let mut items = Vec::new(alloc);
+    for &(key, first, second) in cells {
+        items.push((key, row(first, second)))?;
+    }
+    Ok(RowList::from_items(items))
+}
+
+fn keys_of(alloc: Global, keys: &[Key]) -> Result<KeyList, OutOfMemory> {
+    let mut items = Vec::new(alloc);
+    for &key in keys {
+        items.push(key)?;
+    }
+    Ok(KeyList::from_items(items))
+}
+
+/// The rows that are listed, compared.
+fn lists(rt: &(impl Abort + AllocGlobal), on: &mut Opened, cells: &[Cells]) -> Result<(), Fail> {
+    let list = rows_of(rt.alloc(), cells)?;
+    assert_eq!(rt; listed(rt.alloc(), on), Some(Ok(list)));
+    Ok(())
+}
+
+/// The keys that are found among all records, compared.
+fn finds(
+    rt: &(impl Abort + AllocGlobal),
+    on: &mut Opened,
+    number: u64,
+    keys: &[Key],
+) -> Result<(), Fail> {
+    let list = keys_of(rt.alloc(), keys)?;
+    let answer = found(rt.alloc(), on, number)?;
+    assert_eq!(rt; answer, Some(Ok(list)));
+    Ok(())
+}
+
+/// The keys that are found by the index, compared.
+fn finds_by_index(
+    rt: &(impl Abort + AllocGlobal),
+    on: &mut Opened,
+    number: u64,
+    keys: &[Key],
+) -> Result<(), Fail> {
+    let list = keys_of(rt.alloc(), keys)?;
+    assert_eq!(rt; found_by_index(rt.alloc(), on, number), Some(Ok(list)));
+    Ok(())
+}
+
 #[test]
 fn own_writes_nulls_and_deletes_are_scanned(rt: HostRuntime) -> Result<(), Fail> {
     let mut on = open_one(rt.alloc(), 16)?;
-    assert_eq!(rt; counted(&mut on), None);
-    assert_eq!(rt; begin(&mut on), Ok(0));
-    assert_eq!(rt; counted(&mut on), Some(0));
-    assert_eq!(rt; put(&mut on, 9, Some(30), Some(20)), Ok(()));
-    assert_eq!(rt; put(&mut on, 7, None, Some(u64::MAX)), Ok(()));
-    assert_eq!(rt; put(&mut on, 8, Some(5), None), Ok(()));
-    assert_eq!(rt; counted(&mut on), Some(3));
-    assert_eq!(rt; total(&mut on), Some(u128::from(u64::MAX) + 20));
-    let list = RowList::from_items(vec![in rt.alloc();
-        (7, row(None, Some(u64::MAX))),
-        (8, row(Some(5), None)),
-        (9, row(Some(30), Some(20))),
-    ]?);
-    assert_eq!(rt; listed(rt.alloc(), &mut on), Some(Ok(list)));
-    assert_eq!(rt; try_commit(&mut on), Ok(Outcome::Committed { time: 1 }));
-    assert_eq!(rt; begin(&mut on), Ok(1));
-    assert_eq!(rt; delete(&mut on, 7), Ok(()));
-    assert_eq!(rt; empty(&mut on, 9), Ok(()));
-    assert_eq!(rt; counted(&mut on), Some(2));
-    assert_eq!(rt; total(&mut on), Some(0));
-    assert_eq!(rt; abort(&mut on), Ok(()));
-    assert_eq!(rt; begin(&mut on), Ok(1));
-    assert_eq!(rt; counted(&mut on), Some(3));
+    play(
+        &rt,
+        &mut on,
+        &[
+            Step::Counted(None),
+            Step::Begin(Ok(0)),
+            Step::Counted(Some(0)),
+            Step::Put(9, Some(30), Some(20), Ok(())),
+            Step::Put(7, None, Some(u64::MAX), Ok(())),
+            Step::Put(8, Some(5), None, Ok(())),
+            Step::Counted(Some(3)),
+            // The greatest number and 20.
+            Step::Total(Some(18_446_744_073_709_551_635)),
+        ],
+    );
+    lists(
+        &rt,
+        &mut on,
+        &[
+            (7, None, Some(u64::MAX)),
+            (8, Some(5), None),
+            (9, Some(30), Some(20)),
+        ],
+    )?;
+    play(
+        &rt,
+        &mut on,
+        &[
+            Step::Commit(Ok(Outcome::Committed { time: 1 })),
+            Step::Begin(Ok(1)),
+            Step::Delete(7, Ok(())),
+            Step::Empty(9, Ok(())),
+            Step::Counted(Some(2)),
+            Step::Total(Some(0)),
+            Step::Abort(Ok(())),
+            Step::Begin(Ok(1)),
+            Step::Counted(Some(3)),
+        ],
+    );
     Ok(())
 }
 
 #[test]
 fn rows_with_a_number_are_found(rt: HostRuntime) -> Result<(), Fail> {
     let mut on = open_one(rt.alloc(), 16)?;
-    assert_eq!(rt; begin(&mut on), Ok(0));
-    assert_eq!(rt; put(&mut on, 9, Some(30), Some(20)), Ok(()));
-    assert_eq!(rt; put(&mut on, 7, Some(30), None), Ok(()));
-    assert_eq!(rt; put(&mut on, 8, Some(0), Some(30)), Ok(()));
-    assert_eq!(rt; put(&mut on, 5, None, Some(30)), Ok(()));
-    assert_eq!(rt; put(&mut on, 6, Some(30), Some(1)), Ok(()));
-    assert_eq!(rt; delete(&mut on, 6), Ok(()));
-    let both = KeyList::from_items(vec![in rt.alloc(); 7, 9]?);
-    assert_eq!(rt; found(rt.alloc(), &mut on, 30)?, Some(Ok(both)));
-    // Null is no number.
-    let zero = KeyList::from_items(vec![in rt.alloc(); 8]?);
-    assert_eq!(rt; found(rt.alloc(), &mut on, 0)?, Some(Ok(zero)));
-    assert_eq!(rt;
-        found(rt.alloc(), &mut on, 31)?,
-        Some(Ok(KeyList::new(rt.alloc())))
+    play(
+        &rt,
+        &mut on,
+        &[
+            Step::Begin(Ok(0)),
+            Step::Put(9, Some(30), Some(20), Ok(())),
+            Step::Put(7, Some(30), None, Ok(())),
+            Step::Put(8, Some(0), Some(30), Ok(())),
+            Step::Put(5, None, Some(30), Ok(())),
+            Step::Put(6, Some(30), Some(1), Ok(())),
+            Step::Delete(6, Ok(())),
+        ],
     );
-    Ok(())
+    finds(&rt, &mut on, 30, &[7, 9])?;
+    // Null is no number.
+    finds(&rt, &mut on, 0, &[8])?;
+    finds(&rt, &mut on, 31, &[])
 }
 
 #[test]
 fn rows_of_the_past_are_found_by_the_index(rt: HostRuntime) -> Result<(), Fail> {
-    let alloc = rt.alloc();
-    let mut on = open_one(alloc, 16)?;
-    assert_eq!(rt; begin(&mut on), Ok(0));
-    assert_eq!(rt; put(&mut on, 9, Some(30), Some(20)), Ok(()));
-    assert_eq!(rt; put(&mut on, 7, Some(20), Some(0)), Ok(()));
-    assert_eq!(rt; put(&mut on, 5, None, Some(20)), Ok(()));
-    let both = KeyList::from_items(vec![in alloc; 5, 9]?);
-    assert_eq!(rt; found_by_index(alloc, &mut on, 20), Some(Ok(both)));
-    assert_eq!(rt; try_commit(&mut on), Ok(Outcome::Committed { time: 1 }));
-    assert_eq!(rt; begin(&mut on), Ok(1));
-    assert_eq!(rt; empty(&mut on, 9), Ok(()));
-    assert_eq!(rt; delete(&mut on, 5), Ok(()));
-    assert_eq!(rt;
-        found_by_index(alloc, &mut on, 20),
-        Some(Ok(KeyList::new(alloc)))
+    let mut on = open_one(rt.alloc(), 16)?;
+    play(
+        &rt,
+        &mut on,
+        &[
+            Step::Begin(Ok(0)),
+            Step::Put(9, Some(30), Some(20), Ok(())),
+            Step::Put(7, Some(20), Some(0), Ok(())),
+            Step::Put(5, None, Some(20), Ok(())),
+        ],
     );
+    finds_by_index(&rt, &mut on, 20, &[5, 9])?;
+    play(
+        &rt,
+        &mut on,
+        &[
+            Step::Commit(Ok(Outcome::Committed { time: 1 })),
+            Step::Begin(Ok(1)),
+            Step::Empty(9, Ok(())),
+            Step::Delete(5, Ok(())),
+        ],
+    );
+    finds_by_index(&rt, &mut on, 20, &[])?;
     // The number 0 is found, and the row with a null in its place isn't.
-    let zero = KeyList::from_items(vec![in alloc; 7]?);
-    assert_eq!(rt; found_by_index(alloc, &mut on, 0), Some(Ok(zero)));
-    assert_eq!(rt; try_commit(&mut on), Ok(Outcome::Committed { time: 2 }));
-    assert_eq!(rt; as_of(&mut on, 1), Ok(1));
-    let both = KeyList::from_items(vec![in alloc; 5, 9]?);
-    assert_eq!(rt; found_by_index(alloc, &mut on, 20), Some(Ok(both)));
-    Ok(())
+    finds_by_index(&rt, &mut on, 0, &[7])?;
+    play(
+        &rt,
+        &mut on,
+        &[
+            Step::Commit(Ok(Outcome::Committed { time: 2 })),
+            Step::AsOf(1, Ok(1)),
+        ],
+    );
+    finds_by_index(&rt, &mut on, 20, &[5, 9])
 }
 
 /// With `rt try --test --fail-alloc 6` the list is refused, and else it isn't. The transaction goes on as if it had not been asked for.
 #[test]
 fn a_refused_list_leaves_the_transaction(rt: HostRuntime) -> Result<(), Fail> {
     let mut on = open_one(rt.alloc(), 16)?;
-    assert_eq!(rt; begin(&mut on), Ok(0));
-    assert_eq!(rt; put(&mut on, 9, Some(30), Some(20)), Ok(()));
-    assert_eq!(rt; put(&mut on, 7, Some(10), Some(1)), Ok(()));
+    play(
+        &rt,
+        &mut on,
+        &[
+            Step::Begin(Ok(0)),
+            Step::Put(9, Some(30), Some(20), Ok(())),
+            Step::Put(7, Some(10), Some(1), Ok(())),
+        ],
+    );
     assert!(rt; listed(rt.alloc(), &mut on).is_some());
-    assert_eq!(rt; counted(&mut on), Some(2));
-    assert_eq!(rt; total(&mut on), Some(21));
-    assert_eq!(rt; delete(&mut on, 9), Ok(()));
-    assert_eq!(rt; try_commit(&mut on), Ok(Outcome::Committed { time: 1 }));
-    assert_eq!(rt; begin(&mut on), Ok(1));
-    assert_eq!(rt; counted(&mut on), Some(1));
+    play(
+        &rt,
+        &mut on,
+        &[
+            Step::Counted(Some(2)),
+            Step::Total(Some(21)),
+            Step::Delete(9, Ok(())),
+            Step::Commit(Ok(Outcome::Committed { time: 1 })),
+            Step::Begin(Ok(1)),
+            Step::Counted(Some(1)),
+        ],
+    );
     Ok(())
 }
 
 #[test]
 fn a_past_time_is_scanned(rt: HostRuntime) -> Result<(), Fail> {
     let mut on = open_one(rt.alloc(), 16)?;
-    assert_eq!(rt; begin(&mut on), Ok(0));
-    assert_eq!(rt; put(&mut on, 7, Some(10), Some(20)), Ok(()));
-    assert_eq!(rt; try_commit(&mut on), Ok(Outcome::Committed { time: 1 }));
-    assert_eq!(rt; begin(&mut on), Ok(1));
-    assert_eq!(rt; put(&mut on, 6, Some(1), Some(2)), Ok(()));
-    assert_eq!(rt; delete(&mut on, 7), Ok(()));
-    assert_eq!(rt; try_commit(&mut on), Ok(Outcome::Committed { time: 2 }));
-    assert_eq!(rt; as_of(&mut on, 1), Ok(1));
-    assert_eq!(rt; counted(&mut on), Some(1));
-    assert_eq!(rt; total(&mut on), Some(20));
-    let first = RowList::from_items(vec![in rt.alloc(); (7, row(Some(10), Some(20)))]?);
-    assert_eq!(rt; listed(rt.alloc(), &mut on), Some(Ok(first)));
-    assert_eq!(rt; abort(&mut on), Ok(()));
-    assert_eq!(rt; as_of(&mut on, 2), Ok(2));
-    assert_eq!(rt; total(&mut on), Some(2));
-    let second = RowList::from_items(vec![in rt.alloc(); (6, row(Some(1), Some(2)))]?);
-    assert_eq!(rt; listed(rt.alloc(), &mut on), Some(Ok(second)));
-    assert_eq!(rt; abort(&mut on), Ok(()));
-    assert_eq!(rt; as_of(&mut on, 0), Ok(0));
-    assert_eq!(rt; counted(&mut on), Some(0));
-    assert_eq!(rt;
-        listed(rt.alloc(), &mut on),
-        Some(Ok(RowList::new(rt.alloc())))
+    play(
+        &rt,
+        &mut on,
+        &[
+            Step::Begin(Ok(0)),
+            Step::Put(7, Some(10), Some(20), Ok(())),
+            Step::Commit(Ok(Outcome::Committed { time: 1 })),
+            Step::Begin(Ok(1)),
+            Step::Put(6, Some(1), Some(2), Ok(())),
+            Step::Delete(7, Ok(())),
+            Step::Commit(Ok(Outcome::Committed { time: 2 })),
+            Step::AsOf(1, Ok(1)),
+            Step::Counted(Some(1)),
+            Step::Total(Some(20)),
+        ],
     );
-    Ok(())
+    lists(&rt, &mut on, &[(7, Some(10), Some(20))])?;
+    play(
+        &rt,
+        &mut on,
+        &[
+            Step::Abort(Ok(())),
+            Step::AsOf(2, Ok(2)),
+            Step::Total(Some(2)),
+        ],
+    );
+    lists(&rt, &mut on, &[(6, Some(1), Some(2))])?;
+    play(
+        &rt,
+        &mut on,
+        &[
+            Step::Abort(Ok(())),
+            Step::AsOf(0, Ok(0)),
+            Step::Counted(Some(0)),
+        ],
+    );
+    lists(&rt, &mut on, &[])
 }
 
 #[test]
 fn parts_add_up_to_the_whole(rt: HostRuntime) -> Result<(), Fail> {
     let mut on = open_one(rt.alloc(), 300)?;
-    assert_eq!(rt; begin(&mut on), Ok(0));
+    play(&rt, &mut on, &[Step::Begin(Ok(0))]);
     // A range has 256 records, so the keys from 744 down to 701 are in the second one.
     for number in 0..300 {
-        assert_eq!(rt; put(&mut on, 1000 - number, None, Some(number)), Ok(()));
+        play(
+            &rt,
+            &mut on,
+            &[Step::Put(1000 - number, None, Some(number), Ok(()))],
+        );
     }
-    assert_eq!(rt; counted(&mut on), Some(300));
-    assert_eq!(rt; part(&mut on, 0, 1), Some(32640));
-    assert_eq!(rt; part(&mut on, 1, 2), Some(12210));
-    assert_eq!(rt; part(&mut on, 1, 1), Some(0));
-    assert_eq!(rt; part(&mut on, 0, 2), Some(44850));
-    assert_eq!(rt; total(&mut on), Some(44850));
+    play(
+        &rt,
+        &mut on,
+        &[
+            Step::Counted(Some(300)),
+            Step::Part(0, 1, Some(32640)),
+            Step::Part(1, 2, Some(12210)),
+            Step::Part(1, 1, Some(0)),
+            Step::Part(0, 2, Some(44850)),
+            Step::Total(Some(44850)),
+        ],
+    );
     Ok(())
 }
 
@@ -366,30 +500,6 @@ pub(crate) fn open_both(alloc: Global, indexed: u8) -> Result<Crewed, Fail> {
     Ok(Crewed { store, crew })
 }
 
-pub(crate) fn begin_of(on: &mut Crewed, s: u32) -> Result<Time, BeginRefusal>
-    requires { s < 2 }
-{
-    on.crew.begin(&on.store, s)
-}
-
-fn as_of_by(on: &mut Crewed, s: u32, time: Time) -> Result<Time, BeginRefusal>
-    requires { s < 2 }
-{
-    on.crew.as_of(&on.store, s, time)
-}
-
-pub(crate) fn put_by(on: &mut Crewed, s: u32, key: Key, second: u64) -> Result<(), WriteRefusal>
-    requires { s < 2 }
-{
-    on.crew.insert(&on.store, s, key, &row(None, Some(second)))
-}
-
-pub(crate) fn commit_of(on: &mut Crewed, s: u32) -> Result<Outcome, NotBegun>
-    requires { s < 2 }
-{
-    on.crew.commit(&on.store, s)
-}
-
 /// The sum of the second column that a session's transaction sees.
 fn total_of(on: &mut Crewed, s: u32) -> Option<u128>
     requires { s < 2 }
@@ -404,24 +514,105 @@ fn total_of(on: &mut Crewed, s: u32) -> Option<u128>
     Some(sum(&on.store, &mut reader, 1))
 }
 
-#[test]
-fn sessions_scan_what_each_sees(rt: HostRuntime) -> Result<(), Fail> {
-    let mut on = open_both(rt.alloc(), 0)?;
-    assert_eq!(rt; begin_of(&mut on, 0), Ok(0));
-    assert_eq!(rt; begin_of(&mut on, 1), Ok(0));
-    assert_eq!(rt; put_by(&mut on, 0, 7, 20), Ok(()));
-    assert_eq!(rt; put_by(&mut on, 1, 8, 3), Ok(()));
-    assert_eq!(rt; total_of(&mut on, 0), Some(20));
-    assert_eq!(rt; total_of(&mut on, 1), Some(3));
-    assert_eq!(rt; commit_of(&mut on, 0), Ok(Outcome::Committed { time: 1 }));
-    assert_eq!(rt; total_of(&mut on, 0), None);
-    assert_eq!(rt; total_of(&mut on, 1), Some(3));
-    assert_eq!(rt; commit_of(&mut on, 1), Ok(Outcome::Committed { time: 2 }));
-    assert_eq!(rt; begin_of(&mut on, 0), Ok(2));
-    assert_eq!(rt; total_of(&mut on, 0), Some(23));
-    assert_eq!(rt; as_of_by(&mut on, 1, 1), Ok(1));
-    assert_eq!(rt; total_of(&mut on, 1), Some(20));
-    Ok(())
+/// A session's call, as a value that is copied.
+#[derive(Clone, Copy)]
+pub(crate) enum Asked {
+    Begin,
+    AsOf(Time),
+    Get(Key),
+    Insert(Key, Option<u64>, Option<u64>),
+    /// It leaves a column where it has no number for it.
+    Update(Key, Option<u64>, Option<u64>),
+    Delete(Key),
+    Sum(u32),
+    Count,
+    Scan,
+    Find(u32, u64),
+    Commit,
+    Abort,
+}
+
+/// A reply, as a value that is copied.
+#[derive(Clone, Copy)]
+pub(crate) enum Told<'a> {
+    Begun(Time),
+    Done,
+    Row(Option<u64>, Option<u64>),
+    Sum(u128),
+    Count(u64),
+    Keys(&'a [Key]),
+    Rows(&'a [Cells]),
+    Committed(Time),
+    Ended(Time),
+    Aborted,
+    Refused(Cause),
+}
+
+/// A patch to numbers, which leaves a column where it has none.
+fn patch_of(first: Option<u64>, second: Option<u64>) -> Patch {
+    let mut cells = ArrayVec::new();
+    cells.push(first);
+    cells.push(second);
+    Patch::of_numbers(cells)
+}
+
+pub(crate) fn call_of(asked: Asked) -> Call {
+    match asked {
+        Asked::Begin => Call::Begin,
+        Asked::AsOf(time) => Call::AsOf { time },
+        Asked::Get(key) => Call::Get { key },
+        Asked::Insert(key, first, second) => Call::Insert {
+            key,
+            row: row(first, second),
+        },
+        Asked::Update(key, first, second) => Call::Update {
+            key,
+            patch: patch_of(first, second),
+        },
+        Asked::Delete(key) => Call::Delete { key },
+        Asked::Sum(column) => Call::Sum { column },
+        Asked::Count => Call::Count,
+        Asked::Scan => Call::Scan,
+        Asked::Find(column, value) => Call::Find { column, value },
+        Asked::Commit => Call::Commit,
+        Asked::Abort => Call::Abort,
+    }
+}
+
+pub(crate) fn reply_of(alloc: Global, told: Told<'_>) -> Result<Reply, OutOfMemory> {
+    let reply = match told {
+        Told::Begun(time) => Reply::Begun { time },
+        Told::Done => Reply::Done,
+        Told::Row(first, second) => Reply::Row {
+            row: row(first, second),
+        },
+        Told::Sum(total) => Reply::Sum { total },
+        Told::Count(rows) => Reply::Count { rows },
+        Told::Keys(keys) => Reply::Keys {
+            list: keys_of(alloc, keys)?,
+        },
+        Told::Rows(cells) => Reply::Rows {
+            list: rows_of(alloc, cells)?,
+        },
+        Told::Committed(time) => Reply::Committed { time },
+        Told::Ended(time) => Reply::Ended { time },
+        Told::Aborted => Reply::Aborted,
+        Told::Refused(cause) => Reply::Refused { cause },
+    };
+    Ok(reply)
+}
+
+/// Whether a store with two columns takes a call.
+pub(crate) fn fits(call: &Call) -> bool
+    ensures { IsTrue result → CallFits 2 call.now }
+{
+    match call {
+        Call::Insert { row, .. } => row.len() == 2,
+        Call::Update { patch, .. } => { patch.len() == 2 && patch.sets_some() }
+        Call::Sum { column } => *column < 2,
+        Call::Find { column, .. } => *column < 2,
+        _ => true,
+    }
 }
 
 /// The answer to a line.
@@ -438,171 +629,123 @@ pub(crate) fn answer(
     crew_line(alloc, &on.store, &mut on.crew, &line)
 }
 
-pub(crate) fn refused(cause: Cause) -> Result<Reply, OutOfMemory> {
-    Ok(Reply::Refused { cause })
+/// The calls of sessions by their numbers, in order, and their replies compared.
+pub(crate) fn play_both(
+    rt: &(impl Abort + AllocGlobal),
+    on: &mut Crewed,
+    script: &[(u32, Asked, Told<'_>)],
+) -> Result<(), Fail> {
+    for (at, &(session, asked, told)) in script.iter().enumerate() {
+        let call = call_of(asked);
+        assert!(rt; session < 2 && fits(&call));
+        let reply = answer(rt.alloc(), on, session, call)?;
+        let wanted = reply_of(rt.alloc(), told)?;
+        assert_eq!(rt; reply, wanted, "at step {at}");
+    }
+    Ok(())
 }
 
-/// Puts two rows, with 5 in the first column.
-fn put_two(rt: &(impl Abort + AllocGlobal), on: &mut Crewed) -> Result<(), Fail> {
-    let insert = Call::Insert {
-        key: 7,
-        row: row(Some(5), None),
-    };
-    assert_eq!(rt; answer(rt.alloc(), on, 0, insert), Ok(Reply::Done));
-    let insert = Call::Insert {
-        key: 6,
-        row: row(Some(5), Some(3)),
-    };
-    assert_eq!(rt; answer(rt.alloc(), on, 0, insert), Ok(Reply::Done));
+/// The totals of both sessions, compared.
+fn totals(rt: &impl Abort, on: &mut Crewed, first: Option<u128>, second: Option<u128>) {
+    let both = (total_of(on, 0), total_of(on, 1));
+    assert_eq!(rt; both, (first, second));
+}
+
+#[test]
+fn sessions_scan_what_each_sees(rt: HostRuntime) -> Result<(), Fail> {
+    let mut on = open_both(rt.alloc(), 0)?;
+    play_both(
+        &rt,
+        &mut on,
+        &[
+            (0, Asked::Begin, Told::Begun(0)),
+            (1, Asked::Begin, Told::Begun(0)),
+            (0, Asked::Insert(7, None, Some(20)), Told::Done),
+            (1, Asked::Insert(8, None, Some(3)), Told::Done),
+        ],
+    )?;
+    totals(&rt, &mut on, Some(20), Some(3));
+    play_both(&rt, &mut on, &[(0, Asked::Commit, Told::Committed(1))])?;
+    totals(&rt, &mut on, None, Some(3));
+    play_both(
+        &rt,
+        &mut on,
+        &[
+            (1, Asked::Commit, Told::Committed(2)),
+            (0, Asked::Begin, Told::Begun(2)),
+            (1, Asked::AsOf(1), Told::Begun(1)),
+        ],
+    )?;
+    totals(&rt, &mut on, Some(23), Some(20));
     Ok(())
 }
 
 #[test]
 fn lines_are_answered(rt: HostRuntime) -> Result<(), Fail> {
-    let alloc = rt.alloc();
-    let mut on = open_both(alloc, 1)?;
-    // Whether a transaction is open is asked before the index.
-    let find = Call::Find {
-        column: 1,
-        value: 3,
-    };
-    assert_eq!(rt; answer(alloc, &mut on, 0, find), refused(Cause::Idle));
-    assert_eq!(rt;
-        answer(alloc, &mut on, 0, Call::Sum { column: 1 }),
-        refused(Cause::Idle)
-    );
-    assert_eq!(rt;
-        answer(alloc, &mut on, 0, Call::Begin),
-        Ok(Reply::Begun { time: 0 })
-    );
-    assert_eq!(rt;
-        answer(alloc, &mut on, 1, Call::Begin),
-        Ok(Reply::Begun { time: 0 })
-    );
-    put_two(&rt, &mut on)?;
-    assert_eq!(rt;
-        answer(alloc, &mut on, 0, Call::Sum { column: 1 }),
-        Ok(Reply::Sum { total: 3 })
-    );
-    assert_eq!(rt;
-        answer(alloc, &mut on, 0, Call::Count),
-        Ok(Reply::Count { rows: 2 })
-    );
-    assert_eq!(rt;
-        answer(alloc, &mut on, 1, Call::Count),
-        Ok(Reply::Count { rows: 0 })
-    );
-    let list = RowList::from_items(vec![in alloc;
-        (6, row(Some(5), Some(3))),
-        (7, row(Some(5), None)),
-    ]?);
-    assert_eq!(rt;
-        answer(alloc, &mut on, 0, Call::Scan),
-        Ok(Reply::Rows { list })
-    );
-    let list = KeyList::from_items(vec![in alloc; 6, 7]?);
-    let find = Call::Find {
-        column: 0,
-        value: 5,
-    };
-    assert_eq!(rt; answer(alloc, &mut on, 0, find), Ok(Reply::Keys { list }));
-    let find = Call::Find {
-        column: 1,
-        value: 3,
-    };
-    assert_eq!(rt; answer(alloc, &mut on, 0, find), refused(Cause::NotIndexed));
-    assert_eq!(rt;
-        answer(alloc, &mut on, 0, Call::Commit),
-        Ok(Reply::Committed { time: 1 })
-    );
-    assert_eq!(rt;
-        answer(alloc, &mut on, 0, Call::Count),
-        refused(Cause::Idle)
-    );
-    let find = Call::Find {
-        column: 0,
-        value: 5,
-    };
-    let list = KeyList::new(alloc);
-    assert_eq!(rt; answer(alloc, &mut on, 1, find), Ok(Reply::Keys { list }));
-    Ok(())
-}
-
-/// The keys that a session's transaction finds with this number in the column.
-pub(crate) fn find_by(
-    alloc: Global,
-    on: &mut Crewed,
-    session: u32,
-    column: u32,
-    value: u64,
-) -> Result<Reply, OutOfMemory>
-    requires session { session < 2 }
-    requires column { column < 2 }
-{
-    answer(alloc, on, session, Call::Find { column, value })
+    let mut on = open_both(rt.alloc(), 1)?;
+    play_both(
+        &rt,
+        &mut on,
+        &[
+            // Whether a transaction is open is asked before the index.
+            (0, Asked::Find(1, 3), Told::Refused(Cause::Idle)),
+            (0, Asked::Sum(1), Told::Refused(Cause::Idle)),
+            (0, Asked::Begin, Told::Begun(0)),
+            (1, Asked::Begin, Told::Begun(0)),
+            (0, Asked::Insert(7, Some(5), None), Told::Done),
+            (0, Asked::Insert(6, Some(5), Some(3)), Told::Done),
+            (0, Asked::Sum(1), Told::Sum(3)),
+            (0, Asked::Count, Told::Count(2)),
+            (1, Asked::Count, Told::Count(0)),
+            (
+                0,
+                Asked::Scan,
+                Told::Rows(&[(6, Some(5), Some(3)), (7, Some(5), None)]),
+            ),
+            (0, Asked::Find(0, 5), Told::Keys(&[6, 7])),
+            (0, Asked::Find(1, 3), Told::Refused(Cause::NotIndexed)),
+            (0, Asked::Commit, Told::Committed(1)),
+            (0, Asked::Count, Told::Refused(Cause::Idle)),
+            (1, Asked::Find(0, 5), Told::Keys(&[])),
+        ],
+    )
 }
 
 #[test]
 fn two_rows_are_found_by_the_index(rt: HostRuntime) -> Result<(), Fail> {
-    let alloc = rt.alloc();
-    let mut on = open_both(alloc, 2)?;
-    assert_eq!(rt; begin_of(&mut on, 0), Ok(0));
-    assert_eq!(rt; put_by(&mut on, 0, 9, 20), Ok(()));
-    assert_eq!(rt; put_by(&mut on, 0, 7, 20), Ok(()));
-    let list = KeyList::from_items(vec![in alloc; 7, 9]?);
-    assert_eq!(rt; find_by(alloc, &mut on, 0, 1, 20), Ok(Reply::Keys { list }));
-    assert_eq!(rt;
-        find_by(alloc, &mut on, 0, 0, 10),
-        refused(Cause::NotIndexed)
-    );
-    Ok(())
-}
-
-/// Makes the second column this number.
-fn new_second(number: u64) -> Patch
-    ensures { IsPatch 2 result }
-{
-    let mut patch = Patch::of_numbers(ArrayVec::new());
-    patch.push(None);
-    patch.push(Some(Some(number)));
-    patch
+    let mut on = open_both(rt.alloc(), 2)?;
+    play_both(
+        &rt,
+        &mut on,
+        &[
+            (0, Asked::Begin, Told::Begun(0)),
+            (0, Asked::Insert(9, None, Some(20)), Told::Done),
+            (0, Asked::Insert(7, None, Some(20)), Told::Done),
+            (0, Asked::Find(1, 20), Told::Keys(&[7, 9])),
+            (0, Asked::Find(0, 10), Told::Refused(Cause::NotIndexed)),
+        ],
+    )
 }
 
 #[test]
 fn an_older_snapshot_finds_the_old_number(rt: HostRuntime) -> Result<(), Fail> {
-    let alloc = rt.alloc();
-    let mut on = open_both(alloc, 2)?;
-    assert_eq!(rt; begin_of(&mut on, 0), Ok(0));
-    assert_eq!(rt; put_by(&mut on, 0, 7, 20), Ok(()));
-    assert_eq!(rt; commit_of(&mut on, 0), Ok(Outcome::Committed { time: 1 }));
-    assert_eq!(rt; begin_of(&mut on, 1), Ok(1));
-    assert_eq!(rt; begin_of(&mut on, 0), Ok(1));
-    let update = Call::Update {
-        key: 7,
-        patch: new_second(21),
-    };
-    assert_eq!(rt; answer(alloc, &mut on, 0, update), Ok(Reply::Done));
-    assert_eq!(rt; commit_of(&mut on, 0), Ok(Outcome::Committed { time: 2 }));
-    assert_eq!(rt; begin_of(&mut on, 0), Ok(2));
-    let old = KeyList::from_items(vec![in alloc; 7]?);
-    assert_eq!(rt;
-        find_by(alloc, &mut on, 1, 1, 20),
-        Ok(Reply::Keys { list: old })
-    );
-    let none = KeyList::new(alloc);
-    assert_eq!(rt;
-        find_by(alloc, &mut on, 1, 1, 21),
-        Ok(Reply::Keys { list: none })
-    );
-    let none = KeyList::new(alloc);
-    assert_eq!(rt;
-        find_by(alloc, &mut on, 0, 1, 20),
-        Ok(Reply::Keys { list: none })
-    );
-    let new = KeyList::from_items(vec![in alloc; 7]?);
-    assert_eq!(rt;
-        find_by(alloc, &mut on, 0, 1, 21),
-        Ok(Reply::Keys { list: new })
-    );
-    Ok(())
+    let mut on = open_both(rt.alloc(), 2)?;
+    play_both(
+        &rt,
+        &mut on,
+        &[
+            (0, Asked::Begin, Told::Begun(0)),
+            (0, Asked::Insert(7, None, Some(20)), Told::Done),
+            (0, Asked::Commit, Told::Committed(1)),
+            (1, Asked::Begin, Told::Begun(1)),
+            (0, Asked::Begin, Told::Begun(1)),
+            (0, Asked::Update(7, None, Some(21)), Told::Done),
+            (0, Asked::Commit, Told::Committed(2)),
+            (0, Asked::Begin, Told::Begun(2)),
+            (1, Asked::Find(1, 20), Told::Keys(&[7])),
+            (1, Asked::Find(1, 21), Told::Keys(&[])),
+            (0, Asked::Find(1, 20), Told::Keys(&[])),
+            (0, Asked::Find(1, 21), Told::Keys(&[7])),
+        ],
+    )
 }
