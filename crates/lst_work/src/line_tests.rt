@@ -1,13 +1,16 @@
-//! Lines of two sessions, each at a seat of its own.
-ghost use Rattle.std.specs.Prelude.{◌≡◌, IfOk, length};
+//! Lines of two sessions, each at a seat of its own, with the texts of their replies.
+ghost use Rattle.std.specs.Prelude.{◌≡◌, IfOk};
 ghost use Rattle.std.specs.List.{All};
 ghost use Rattle.lst_model.specs.Lines.{CallFits, IsPatch};
 ghost use Rattle.lst_session.specs.Passes.{IsReady};
 
 use crate::line_reply;
+use crate::work_tests::call_fits;
 use lst_layout::Limits;
-use lst_model::{Call, Cause, KeyList, OutOfMemory, Patch, Reply, Row, RowList};
+use lst_model::{Call, Line, OutOfMemory, Patch, Reply, Text};
+use lst_replies::print_line;
 use lst_rule::Store;
+use lst_script::parse;
 use lst_session::{CommitLock, Session, Sessions, open_crew};
 use std::alloc::Global;
 use std::process::Abort;
@@ -67,39 +70,6 @@ fn open_pair(alloc: Global) -> Result<Pair, Fail> {
     })
 }
 
-/// A row of two cells.
-fn row(first: u64, second: u64) -> Row
-    ensures { length result ≡ 2 }
-{
-    let mut row = Row::of_numbers(Default::default());
-    row.push(Some(first));
-    row.push(Some(second));
-    row
-}
-
-/// Makes the second column null.
-fn patch() -> Patch
-    ensures { IsPatch 2 result }
-{
-    let mut patch = Patch::of_numbers(Default::default());
-    patch.push(None);
-    patch.push(Some(None));
-    patch
-}
-
-fn insert(key: u64, first: u64, second: u64) -> Call
-    ensures { CallFits 2 result }
-{
-    Call::Insert {
-        key,
-        row: row(first, second),
-    }
-}
-
-fn refused(cause: Cause) -> Reply {
-    Reply::Refused { cause }
-}
-
 /// The reply to a call of the session of this number, of which there are 0 and 1.
 fn answer(
     rt: &(impl AllocGlobal + Wait),
@@ -115,121 +85,147 @@ fn answer(
     line_reply(rt, rt.alloc(), &on.store, &mut on.second, &on.lock, call)
 }
 
-/// The session answers the call so.
-fn answers(
-    rt: &(impl Abort + AllocGlobal + Wait),
-    on: &mut Pair,
-    s: u32,
-    call: Call,
-    reply: Reply,
-) -> Result<(), Fail>
-    requires { CallFits 2 call }
-{
-    let told = answer(rt, on, s, &call);
-    assert_eq!(rt; told, Ok(reply), "session {s}, {call:?}");
+/// The reply to a line that is a call.
+fn reply_to(rt: &(impl AllocGlobal + Wait), on: &mut Pair, line: &Line) -> Result<Reply, Fail> {
+    let Line::Call { session, call } = line else {
+        return Err(Fail::from("the line is a call"));
+    };
+    if !call_fits(2, call) {
+        return Err(Fail::from("the call fits two columns"));
+    }
+    Ok(answer(rt, on, *session, call)?)
+}
+
+/// The text of the reply to a line.
+fn told(rt: &(impl AllocGlobal + Wait), on: &mut Pair, text: &str) -> Result<Text, Fail> {
+    let alloc = rt.alloc();
+    let Ok(script) = parse(alloc, text.as_bytes(), &on.store.layout().limits) else {
+        return Err(Fail::from("the text is a script"));
+    };
+    let Some(line) = script.items().first() else {
+        return Err(Fail::from("there is a line"));
+    };
+    let reply = reply_to(rt, on, line)?;
+    Ok(print_line(alloc, line, &reply)?)
+}
+
+/// A line, and what it is answered.
+type Step = (&'static str, &'static str);
+
+/// The replies to lines, one after another, compared.
+fn play(rt: &(impl Abort + AllocGlobal + Wait), on: &mut Pair, steps: &[Step]) -> Result<(), Fail> {
+    for &(line, wanted) in steps {
+        let told = told(rt, on, line)?;
+        let reply = told.as_bytes().strip_suffix(b"\n");
+        assert_eq!(rt; reply, Some(wanted.as_bytes()), "{line}");
+    }
     Ok(())
 }
 
 /// Session 0 commits a row at time 1, while session 1 has a transaction open that began before.
-fn commits_meanwhile(rt: &(impl Abort + AllocGlobal + Wait), on: &mut Pair) -> Result<(), Fail> {
-    let unfinished = Cause::Unfinished {
-        session: 0,
-        number: 1,
-    };
-    answers(rt, on, 0, Call::Begin, Reply::Begun { time: 0 })?;
-    answers(rt, on, 0, Call::Begin, refused(Cause::Active))?;
-    answers(rt, on, 0, insert(7, 5, 3), Reply::Done)?;
-    answers(rt, on, 0, insert(7, 6, 4), refused(Cause::Exists))?;
-    answers(rt, on, 1, Call::Get { key: 7 }, refused(Cause::Idle))?;
-    answers(rt, on, 1, Call::Begin, Reply::Begun { time: 0 })?;
-    answers(rt, on, 1, Call::Get { key: 7 }, Reply::Absent)?;
-    answers(rt, on, 1, insert(7, 6, 4), refused(unfinished))?;
-    answers(rt, on, 0, Call::Commit, Reply::Committed { time: 1 })?;
-    answers(
-        rt,
-        on,
-        1,
-        insert(7, 6, 4),
-        refused(Cause::Newer { time: 1 }),
-    )?;
-    answers(rt, on, 1, Call::Count, Reply::Count { rows: 0 })?;
-    answers(rt, on, 1, Call::Delete { key: 8 }, refused(Cause::Missing))?;
-    answers(rt, on, 1, Call::Commit, Reply::Ended { time: 0 })
-}
+const COMMITS_MEANWHILE: [Step; 13] = [
+    ("0 begin", "0 begun 0"),
+    ("0 begin", "0 refused active"),
+    ("0 insert 7 5 3", "0 ok"),
+    ("0 insert 7 6 4", "0 refused exists"),
+    ("1 get 7", "1 refused idle"),
+    ("1 begin", "1 begun 0"),
+    ("1 get 7", "1 none"),
+    ("1 insert 7 6 4", "1 conflict open 0 1"),
+    ("0 commit", "0 committed 1"),
+    ("1 insert 7 6 4", "1 conflict newer 1"),
+    ("1 count", "1 count 0"),
+    ("1 delete 8", "1 refused missing"),
+    ("1 commit", "1 ended 0"),
+];
 
 /// Session 1 reads what session 0 has committed, in a transaction as of then.
-fn reads_as_of_then(rt: &(impl Abort + AllocGlobal + Wait), on: &mut Pair) -> Result<(), Fail> {
-    let alloc = rt.alloc();
-    let rows = RowList::from_items(vec![in alloc; (7, row(5, 3))]?);
-    let keys = KeyList::from_items(vec![in alloc; 7]?);
-    let indexed = Call::Find {
-        column: 1,
-        value: 3,
-    };
-    let other = Call::Find {
-        column: 0,
-        value: 5,
-    };
-    let early = Cause::Future { clock: 1 };
-    answers(rt, on, 1, Call::AsOf { time: 2 }, refused(early))?;
-    answers(rt, on, 1, Call::AsOf { time: 1 }, Reply::Begun { time: 1 })?;
-    answers(
-        rt,
-        on,
-        1,
-        Call::Get { key: 7 },
-        Reply::Row { row: row(5, 3) },
-    )?;
-    answers(rt, on, 1, Call::Delete { key: 7 }, refused(Cause::ReadOnly))?;
-    answers(rt, on, 1, Call::Sum { column: 1 }, Reply::Sum { total: 3 })?;
-    answers(rt, on, 1, Call::Scan, Reply::Rows { list: rows })?;
-    answers(rt, on, 1, indexed, Reply::Keys { list: keys })?;
-    answers(rt, on, 1, other, refused(Cause::NotIndexed))?;
-    answers(rt, on, 1, Call::Commit, Reply::Ended { time: 1 })
+const READS_AS_OF_THEN: [Step; 9] = [
+    ("1 asof 2", "1 refused future 1"),
+    ("1 asof 1", "1 begun 1"),
+    ("1 get 7", "1 row 5 3"),
+    ("1 delete 7", "1 refused readonly"),
+    ("1 sum 1", "1 sum 3"),
+    ("1 scan", "1 rows 7:5,3"),
+    ("1 find 1 3", "1 keys 7"),
+    ("1 find 0 5", "1 refused noindex"),
+    ("1 commit", "1 ended 1"),
+];
+
+/// Session 1 gives its last transaction up, in which it has made the row's second cell null; and session 0 takes the row away.
+const GIVES_UP: [Step; 9] = [
+    ("1 sum 1", "1 sum 0"),
+    ("0 begin", "0 begun 1"),
+    ("0 delete 7", "0 conflict open 1 3"),
+    ("1 abort", "1 aborted"),
+    ("0 delete 7", "0 ok"),
+    ("0 get 7", "0 none"),
+    ("0 commit", "0 committed 2"),
+    ("1 begin", "1 refused spent"),
+    ("1 abort", "1 refused idle"),
+];
+
+/// Makes the second column null, as no line of a script does.
+fn patch() -> Patch
+    ensures { IsPatch 2 result }
+{
+    let mut patch = Patch::of_numbers(Default::default());
+    patch.push(None);
+    patch.push(Some(None));
+    patch
 }
 
-/// Session 1 gives its last transaction up, and session 0 takes the row away.
-fn gives_up(rt: &(impl Abort + AllocGlobal + Wait), on: &mut Pair) -> Result<(), Fail> {
+/// Session 1 makes the row's second cell null.
+fn empties(rt: &(impl Abort + AllocGlobal + Wait), on: &mut Pair) {
     let update = Call::Update {
         key: 7,
         patch: patch(),
     };
-    let unfinished = Cause::Unfinished {
-        session: 1,
-        number: 3,
-    };
-    answers(rt, on, 1, Call::Begin, Reply::Begun { time: 1 })?;
-    answers(rt, on, 1, update, Reply::Done)?;
-    answers(rt, on, 1, Call::Sum { column: 1 }, Reply::Sum { total: 0 })?;
-    answers(rt, on, 0, Call::Begin, Reply::Begun { time: 1 })?;
-    answers(rt, on, 0, Call::Delete { key: 7 }, refused(unfinished))?;
-    answers(rt, on, 1, Call::Abort, Reply::Aborted)?;
-    answers(rt, on, 0, Call::Delete { key: 7 }, Reply::Done)?;
-    answers(rt, on, 0, Call::Get { key: 7 }, Reply::Absent)?;
-    answers(rt, on, 0, Call::Commit, Reply::Committed { time: 2 })?;
-    answers(rt, on, 1, Call::Begin, refused(Cause::Spent))?;
-    answers(rt, on, 1, Call::Abort, refused(Cause::Idle))
+    assert_eq!(rt; answer(rt, on, 1, &update), Ok(Reply::Done));
 }
 
 #[test]
 fn two_sessions_answer_their_lines(rt: HostRuntime) -> Result<(), Fail> {
     let mut on = open_pair(rt.alloc())?;
-    commits_meanwhile(&rt, &mut on)?;
-    reads_as_of_then(&rt, &mut on)?;
-    gives_up(&rt, &mut on)
+    play(&rt, &mut on, &COMMITS_MEANWHILE)?;
+    play(&rt, &mut on, &READS_AS_OF_THEN)?;
+    play(&rt, &mut on, &[("1 begin", "1 begun 1")])?;
+    empties(&rt, &mut on);
+    play(&rt, &mut on, &GIVES_UP)
 }
 
-/// With `rt try --test --fail-alloc 14` the list is refused, and else it isn't. The transaction goes on as if it had not been asked for.
+/// Session 0 lists its one row, unless the list is refused for want of memory.
+fn lists(rt: &(impl Abort + AllocGlobal + Wait), on: &mut Pair) -> Result<(), Fail> {
+    let Ok(reply) = answer(rt, on, 0, &Call::Scan) else {
+        return Ok(());
+    };
+    let scan = Line::Call {
+        session: 0,
+        call: Call::Scan,
+    };
+    let told = print_line(rt.alloc(), &scan, &reply)?;
+    assert_eq!(rt; told.as_bytes(), b"0 rows 7:5,3\n".as_slice());
+    Ok(())
+}
+
+/// With `rt try --test --fail-alloc 21` the list is refused, and else it isn't. The transaction goes on as if it had not been asked for.
 #[test]
 fn a_refused_list_leaves_the_session(rt: HostRuntime) -> Result<(), Fail> {
     let mut on = open_pair(rt.alloc())?;
-    let rows = RowList::from_items(vec![in rt.alloc(); (7, row(5, 3))]?);
-    answers(&rt, &mut on, 0, Call::Begin, Reply::Begun { time: 0 })?;
-    answers(&rt, &mut on, 0, insert(7, 5, 3), Reply::Done)?;
-    let told = answer(&rt, &mut on, 0, &Call::Scan);
-    assert!(rt; told == Ok(Reply::Rows { list: rows }) || told == Err(OutOfMemory));
-    answers(&rt, &mut on, 0, Call::Count, Reply::Count { rows: 1 })?;
-    answers(&rt, &mut on, 0, Call::Commit, Reply::Committed { time: 1 })?;
-    answers(&rt, &mut on, 1, Call::Begin, Reply::Begun { time: 1 })?;
-    answers(&rt, &mut on, 1, Call::Count, Reply::Count { rows: 1 })
+    play(
+        &rt,
+        &mut on,
+        &[("0 begin", "0 begun 0"), ("0 insert 7 5 3", "0 ok")],
+    )?;
+    lists(&rt, &mut on)?;
+    play(
+        &rt,
+        &mut on,
+        &[
+            ("0 count", "0 count 1"),
+            ("0 commit", "0 committed 1"),
+            ("1 begin", "1 begun 1"),
+            ("1 count", "1 count 1"),
+        ],
+    )
 }

@@ -9,7 +9,7 @@ ghost use Rattle.lst_legal_work.specs.Whole.{AreAll};
 use crate::{FreeGate, Gate, work_on, work_total};
 use lst_layout::Limits;
 use lst_model::{Call, Line, Text};
-use lst_replies::{Replies, push_line};
+use lst_replies::{Replies, print_report, push_line};
 use lst_rule::Store;
 use lst_script::{Script, parse};
 use lst_session::{Merger, Sessions, open_crew};
@@ -69,7 +69,8 @@ fn open_all(alloc: Global, limits: &Limits) -> Result<Opened, Fail>
     })
 }
 
-fn call_fits(columns: u32, call: &Call) -> bool
+/// Whether a store with so many columns takes the call.
+pub(crate) fn call_fits(columns: u32, call: &Call) -> bool
     ensures { IsTrue result → CallFits columns call.now }
 {
     match call {
@@ -179,27 +180,50 @@ fn two_sessions_write_on_keys_of_their_own(rt: HostRuntime) -> Result<(), Fail> 
     answers(&rt, &FreeGate, PAIR, script, wanted)
 }
 
+/// Whether the text is one of these.
+fn is_one_of(text: &[u8], texts: &[&[u8]]) -> bool {
+    for &one in texts {
+        if text == one {
+            return true;
+        }
+    }
+    false
+}
+
+/// The replies of two sessions to a script, where those between the first ones and the last ones may come in several ways.
+fn answers_one_of<R: Abort + AllocGlobal + Threads + Wait + Sync>(
+    rt: &R,
+    script: &[u8],
+    first: &[u8],
+    ways: &[&[u8]],
+    last: &[u8],
+) -> Result<(), Fail> {
+    let text = answered(rt, &FreeGate, PAIR, script)?;
+    let Some(rest) = text.as_bytes().strip_prefix(first) else {
+        return Err(Fail::from("the first replies are these"));
+    };
+    let Some(between) = rest.strip_suffix(last) else {
+        return Err(Fail::from("the last replies are these"));
+    };
+    assert!(rt; is_one_of(between, ways));
+    Ok(())
+}
+
 #[test]
 fn sessions_that_commit_in_a_phase_hear_of_each_other_behind_it(
     rt: HostRuntime,
 ) -> Result<(), Fail> {
-    let script =
+    answers_one_of(
+        &rt,
         b"0 begin\n1 begin\n0 insert 1 10 20\n1 insert 2 30 40\nphase\n0 commit\n1 commit\nphase\n\
-        0 begin\n1 begin\n0 scan\n1 sum 0\n";
-    let text = answered(&rt, &FreeGate, PAIR, script)?;
-    let before = b"0 begun 0\n1 begun 0\n0 ok\n1 ok\n";
-    let after = b"0 begun 2\n1 begun 2\n0 rows 1:10,20 2:30,40\n1 sum 40\n";
-    let Some(rest) = text.as_bytes().strip_prefix(before) else {
-        return Err(Fail::from("both have begun and written"));
-    };
-    let Some(commits) = rest.strip_suffix(after) else {
-        return Err(Fail::from("both see both commits"));
-    };
-    assert!(rt;
-        commits == b"0 committed 1\n1 committed 2\n".as_slice()
-            || commits == b"0 committed 2\n1 committed 1\n".as_slice()
-    );
-    Ok(())
+        0 begin\n1 begin\n0 scan\n1 sum 0\n",
+        b"0 begun 0\n1 begun 0\n0 ok\n1 ok\n",
+        &[
+            b"0 committed 1\n1 committed 2\n",
+            b"0 committed 2\n1 committed 1\n",
+        ],
+        b"0 begun 2\n1 begun 2\n0 rows 1:10,20 2:30,40\n1 sum 40\n",
+    )
 }
 
 /// Two sessions that wait for each other, each before a line of its own.
@@ -313,46 +337,41 @@ fn the_gate_is_passed_before_and_behind_each_line_with_its_place(
 
 #[test]
 fn merges_are_made_beside_the_sessions(rt: HostRuntime) -> Result<(), Fail> {
-    let script =
+    answers_one_of(
+        &rt,
         b"0 begin\n0 insert 1 10 20\n0 insert 2 30 40\n0 commit\nmerge 0 1\nphase\nmerge 0 1\nphase\n\
-        1 begin\nmerge 0 0\n1 sum 0\nmerge 0 0\n1 get 2\nmerge 0 1\n";
-    let text = answered(&rt, &FreeGate, PAIR, script)?;
-    let before = b"0 begun 0\n0 ok\n0 ok\n0 committed 1\n";
-    let after = b"1 begun 1\nmerged 2\n1 sum 40\nidle 2\n1 row 30 40\nidle 2\n";
-    let Some(rest) = text.as_bytes().strip_prefix(before) else {
-        return Err(Fail::from("the session has committed"));
-    };
-    let Some(merges) = rest.strip_suffix(after) else {
-        return Err(Fail::from("all is merged in the end"));
-    };
-    // The first merge comes before the commit, or after it.
-    assert!(rt;
-        merges == b"idle 0\nmerged 2\n".as_slice()
-            || merges == b"merged 1\nmerged 2\n".as_slice()
-            || merges == b"merged 2\nidle 2\n".as_slice()
-    );
-    Ok(())
+        1 begin\nmerge 0 0\n1 sum 0\nmerge 0 0\n1 get 2\nmerge 0 1\n",
+        b"0 begun 0\n0 ok\n0 ok\n0 committed 1\n",
+        // The first merge comes before the commit, or after it.
+        &[
+            b"idle 0\nmerged 2\n",
+            b"merged 1\nmerged 2\n",
+            b"merged 2\nidle 2\n",
+        ],
+        b"1 begun 1\nmerged 2\n1 sum 40\nidle 2\n1 row 30 40\nidle 2\n",
+    )
 }
+
+/// Scripts with no phases and with empty ones, and their replies.
+const PHASES: [(&str, &str); 4] = [
+    (
+        "0 begin\n1 begin\n1 abort\n",
+        "0 begun 0\n1 begun 0\n1 aborted\n",
+    ),
+    (
+        "0 begin\nphase\nphase\n0 get 1\nphase\n",
+        "0 begun 0\n0 none\n",
+    ),
+    ("phase\n", ""),
+    ("", ""),
+];
 
 #[test]
 fn a_script_may_have_no_phases_and_empty_ones(rt: HostRuntime) -> Result<(), Fail> {
-    let free = FreeGate;
-    answers(
-        &rt,
-        &free,
-        PAIR,
-        b"0 begin\n1 begin\n1 abort\n",
-        b"0 begun 0\n1 begun 0\n1 aborted\n",
-    )?;
-    answers(
-        &rt,
-        &free,
-        PAIR,
-        b"0 begin\nphase\nphase\n0 get 1\nphase\n",
-        b"0 begun 0\n0 none\n",
-    )?;
-    answers(&rt, &free, PAIR, b"phase\n", b"")?;
-    answers(&rt, &free, PAIR, b"", b"")
+    for (script, wanted) in PHASES {
+        answers(&rt, &FreeGate, PAIR, script.as_bytes(), wanted.as_bytes())?;
+    }
+    Ok(())
 }
 
 #[test]
@@ -367,7 +386,7 @@ fn there_may_be_more_sessions_than_lines(rt: HostRuntime) -> Result<(), Fail> {
     )
 }
 
-/// The texts of the replies to a script, and the sum of a column behind it.
+/// The report of a script, and the sum of a column behind it.
 fn totalled<R: AllocGlobal + Threads + Wait + Sync>(
     rt: &R,
     text: &[u8],
@@ -382,7 +401,7 @@ fn totalled<R: AllocGlobal + Threads + Wait + Sync>(
     };
     let script = script_of(alloc, &layout.limits, text)?;
     let (report, total, _, _) = work_total(rt, alloc, &layout, &script, &FreeGate, column)?;
-    Ok((told(alloc, &script, &report.replies)?, total))
+    Ok((print_report(alloc, &report)?, total))
 }
 
 /// The same, compared with what is wanted.
@@ -395,10 +414,31 @@ fn totals<R: Abort + AllocGlobal + Threads + Wait + Sync>(
 ) -> Result<(), Fail>
     requires { column < 2 }
 {
-    let (told, total) = totalled(rt, text, column)?;
-    assert_eq!(rt; told.as_bytes(), wanted);
-    assert_eq!(rt; total, sum);
+    let (report, total) = totalled(rt, text, column)?;
+    assert_eq!(rt; (report.as_bytes(), total), (wanted, sum));
     Ok(())
+}
+
+#[test]
+fn the_total_behind_one_commit_is_its_cell(rt: HostRuntime) -> Result<(), Fail> {
+    totals(
+        &rt,
+        b"0 begin\n0 insert 7 10 20\n0 commit\n",
+        0,
+        b"0 begun 0\n0 ok\n0 committed 1\nhistory 1\n1 0 1 0\n",
+        Some(10),
+    )
+}
+
+#[test]
+fn there_is_no_total_behind_one_commit_and_a_begin(rt: HostRuntime) -> Result<(), Fail> {
+    totals(
+        &rt,
+        b"0 begin\n0 insert 7 10 20\n0 commit\n0 begin\n",
+        0,
+        b"0 begun 0\n0 ok\n0 committed 1\n0 begun 1\nhistory 1\n1 0 1 0\n",
+        None,
+    )
 }
 
 #[test]
@@ -407,8 +447,23 @@ fn a_column_is_added_up_behind_a_script(rt: HostRuntime) -> Result<(), Fail> {
         &rt,
         b"0 begin\n0 insert 1 10 20\n0 commit\nphase\n1 begin\n1 insert 2 30 40\n1 commit\n",
         1,
-        b"0 begun 0\n0 ok\n0 committed 1\n1 begun 1\n1 ok\n1 committed 2\n",
+        b"0 begun 0\n0 ok\n0 committed 1\n1 begun 1\n1 ok\n1 committed 2\n\
+        history 2\n1 0 1 0\n2 1 1 1\n",
         Some(60),
+    )
+}
+
+#[test]
+fn a_column_is_added_up_behind_a_merge_and_a_later_write(rt: HostRuntime) -> Result<(), Fail> {
+    totals(
+        &rt,
+        b"0 begin\n0 insert 1 10 20\n0 commit\nphase\n1 begin\n1 insert 2 30 40\n1 commit\nphase\n\
+        merge 0 1\nphase\n0 begin\n0 update 1 _ 25\n0 commit\n",
+        1,
+        b"0 begun 0\n0 ok\n0 committed 1\n1 begun 1\n1 ok\n1 committed 2\n\
+        merged 2\n0 begun 2\n0 ok\n0 committed 3\n\
+        history 3\n1 0 1 0\n2 1 1 1\n3 0 2 2\n",
+        Some(65),
     )
 }
 
@@ -418,8 +473,20 @@ fn there_is_no_sum_behind_a_transaction_that_is_open(rt: HostRuntime) -> Result<
         &rt,
         b"0 begin\n0 insert 1 10 20\n0 commit\nphase\n1 begin\n1 insert 2 30 40\n1 commit\nphase\n0 begin\n",
         1,
-        b"0 begun 0\n0 ok\n0 committed 1\n1 begun 1\n1 ok\n1 committed 2\n0 begun 2\n",
+        b"0 begun 0\n0 ok\n0 committed 1\n1 begun 1\n1 ok\n1 committed 2\n0 begun 2\n\
+        history 2\n1 0 1 0\n2 1 1 1\n",
         None,
+    )
+}
+
+#[test]
+fn there_is_a_sum_where_a_session_may_begin_once_more(rt: HostRuntime) -> Result<(), Fail> {
+    totals(
+        &rt,
+        b"1 begin\n1 abort\n1 begin\n1 abort\n1 begin\n1 abort\n",
+        0,
+        b"1 begun 0\n1 aborted\n1 begun 0\n1 aborted\n1 begun 0\n1 aborted\nhistory 0\n",
+        Some(0),
     )
 }
 
@@ -427,11 +494,12 @@ fn there_is_no_sum_behind_a_transaction_that_is_open(rt: HostRuntime) -> Result<
 fn there_is_no_sum_where_a_session_has_begun_as_many_as_it_may(
     rt: HostRuntime,
 ) -> Result<(), Fail> {
-    let thrice = b"1 begin\n1 abort\n1 begin\n1 abort\n1 begin\n1 abort\n";
-    let told = b"1 begun 0\n1 aborted\n1 begun 0\n1 aborted\n1 begun 0\n1 aborted\n";
-    totals(&rt, thrice, 0, told, Some(0))?;
-    let often = b"1 begin\n1 abort\n1 begin\n1 abort\n1 begin\n1 abort\n1 begin\n1 abort\n";
-    let told =
-        b"1 begun 0\n1 aborted\n1 begun 0\n1 aborted\n1 begun 0\n1 aborted\n1 begun 0\n1 aborted\n";
-    totals(&rt, often, 0, told, None)
+    totals(
+        &rt,
+        b"1 begin\n1 abort\n1 begin\n1 abort\n1 begin\n1 abort\n1 begin\n1 abort\n",
+        0,
+        b"1 begun 0\n1 aborted\n1 begun 0\n1 aborted\n1 begun 0\n1 aborted\n1 begun 0\n1 aborted\n\
+        history 0\n",
+        None,
+    )
 }
