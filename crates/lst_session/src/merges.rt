@@ -28,6 +28,7 @@ impl Crew {
 
 impl Merger {
     ghost use Rattle.lst_merge.specs.Merges.{Merges};
+    ghost use Rattle.lst_pages.specs.Sound.{IsPage};
     ghost use Rattle.lst_session.specs.Parting.{IsMergerOf};
 
     /// Merges the page of a range and a column: the settled tails after its TPS, which is the number of the last tail that it has, up to the first
