@@ -1,4 +1,6 @@
 //! Worked scripts: each line with its reply, by the plain engine and by the machine that runs from its definition.
+//!
+//! A script is a table of plain values, and one function asks its lines: the proof of a function grows faster than its calls.
 ghost use Rattle.std.specs.Prelude.{◌<◌, IsTrue};
 ghost use Rattle.lst_model.specs.Lines.{CallFits};
 
@@ -7,11 +9,65 @@ use arrayvec::ArrayVec;
 use lst_layout::Limits;
 use lst_machine::Machine;
 use lst_model::{
-    Act, Call, Cause, Key, KeyList, Line, Patch, Reply, Row, RowList, Table, Write, apply,
+    Act, Call, Cause, Key, KeyList, Line, OutOfMemory, Patch, Reply, Row, RowList, Table, Time,
+    Write, apply,
 };
 use std::alloc::Global;
 use std::process::Abort;
 use std::test::Fail;
+
+/// The cells of a row of two: None is null.
+type Cells = (Option<u64>, Option<u64>);
+
+/// What two columns become: None leaves one as it is, and Some None makes it null.
+type Changes = (Option<Option<u64>>, Option<Option<u64>>);
+
+/// A session's call, as a value that is copied.
+#[derive(Clone, Copy)]
+enum Asked {
+    Begin,
+    AsOf(Time),
+    Get(Key),
+    Insert(Key, u64, u64),
+    InsertCells(Key, Cells),
+    Update(Key, Option<u64>, Option<u64>),
+    UpdateCells(Key, Changes),
+    Delete(Key),
+    Sum(u32),
+    Count,
+    Scan,
+    Find(u32, u64),
+    Commit,
+    Abort,
+}
+
+/// A reply, as a value that is copied.
+#[derive(Clone, Copy)]
+enum Told<'a> {
+    Begun(Time),
+    Done,
+    Row(u64, u64),
+    Cells(Cells),
+    Absent,
+    Committed(Time),
+    Ended(Time),
+    Aborted,
+    Sum(u128),
+    Count(u64),
+    Rows(&'a [(Key, u64, u64)]),
+    Keys(&'a [Key]),
+    Refused(Cause),
+    Merged(u32),
+    NothingNew(u32),
+    NoFrame(u32),
+}
+
+/// A line with its reply: a call with its session's number, or a merge of a range and a column.
+#[derive(Clone, Copy)]
+enum Step<'a> {
+    Call(u32, Asked, Told<'a>),
+    Merge(u32, u32, Told<'a>),
+}
 
 fn row(first: u64, second: u64) -> Row {
     let mut cells = ArrayVec::new();
@@ -27,78 +83,88 @@ fn patch(first: Option<u64>, second: Option<u64>) -> Patch {
     Patch::of_numbers(cells)
 }
 
-fn row_of(first: Option<u64>, second: Option<u64>) -> Row {
+fn row_of(cells: Cells) -> Row {
     let mut row = Row::of_numbers(ArrayVec::new());
-    row.push(first);
-    row.push(second);
+    row.push(cells.0);
+    row.push(cells.1);
     row
 }
 
-fn change_of(first: Option<Option<u64>>, second: Option<Option<u64>>) -> Patch {
+fn patch_of(changes: Changes) -> Patch {
     let mut patch = Patch::of_numbers(ArrayVec::new());
-    patch.push(first);
-    patch.push(second);
+    patch.push(changes.0);
+    patch.push(changes.1);
     patch
 }
 
-fn insert(key: Key, first: u64, second: u64) -> Call {
-    Call::Insert {
-        key,
-        row: row(first, second),
+fn call_of(asked: Asked) -> Call {
+    match asked {
+        Asked::Begin => Call::Begin,
+        Asked::AsOf(time) => Call::AsOf { time },
+        Asked::Get(key) => Call::Get { key },
+        Asked::Insert(key, first, second) => Call::Insert {
+            key,
+            row: row(first, second),
+        },
+        Asked::InsertCells(key, cells) => Call::Insert {
+            key,
+            row: row_of(cells),
+        },
+        Asked::Update(key, first, second) => Call::Update {
+            key,
+            patch: patch(first, second),
+        },
+        Asked::UpdateCells(key, changes) => Call::Update {
+            key,
+            patch: patch_of(changes),
+        },
+        Asked::Delete(key) => Call::Delete { key },
+        Asked::Sum(column) => Call::Sum { column },
+        Asked::Count => Call::Count,
+        Asked::Scan => Call::Scan,
+        Asked::Find(column, value) => Call::Find { column, value },
+        Asked::Commit => Call::Commit,
+        Asked::Abort => Call::Abort,
     }
 }
 
-fn update(key: Key, first: Option<u64>, second: Option<u64>) -> Call {
-    Call::Update {
-        key,
-        patch: patch(first, second),
-    }
-}
-
-fn get(key: Key) -> Call {
-    Call::Get { key }
-}
-
-fn begun(time: u64) -> Reply {
-    Reply::Begun { time }
-}
-
-fn found(first: u64, second: u64) -> Reply {
-    Reply::Row {
-        row: row(first, second),
-    }
-}
-
-fn committed(time: u64) -> Reply {
-    Reply::Committed { time }
-}
-
-fn ended(time: u64) -> Reply {
-    Reply::Ended { time }
-}
-
-fn refused(cause: Cause) -> Reply {
-    Reply::Refused { cause }
-}
-
-fn sum(total: u128) -> Reply {
-    Reply::Sum { total }
-}
-
-fn rows(alloc: Global, entries: &[(Key, u64, u64)]) -> Result<Reply, Fail> {
+fn rows(alloc: Global, entries: &[(Key, u64, u64)]) -> Result<Reply, OutOfMemory> {
     let mut list = RowList::new(alloc);
-    for (key, first, second) in entries {
-        list.push(*key, row(*first, *second))?;
+    for &(key, first, second) in entries {
+        list.push(key, row(first, second))?;
     }
     Ok(Reply::Rows { list })
 }
 
-fn keys(alloc: Global, found: &[Key]) -> Result<Reply, Fail> {
+fn keys(alloc: Global, found: &[Key]) -> Result<Reply, OutOfMemory> {
     let mut list = KeyList::new(alloc);
-    for key in found {
-        list.push(*key)?;
+    for &key in found {
+        list.push(key)?;
     }
     Ok(Reply::Keys { list })
+}
+
+fn reply_of(alloc: Global, told: Told<'_>) -> Result<Reply, OutOfMemory> {
+    Ok(match told {
+        Told::Begun(time) => Reply::Begun { time },
+        Told::Done => Reply::Done,
+        Told::Row(first, second) => Reply::Row {
+            row: row(first, second),
+        },
+        Told::Cells(cells) => Reply::Row { row: row_of(cells) },
+        Told::Absent => Reply::Absent,
+        Told::Committed(time) => Reply::Committed { time },
+        Told::Ended(time) => Reply::Ended { time },
+        Told::Aborted => Reply::Aborted,
+        Told::Sum(total) => Reply::Sum { total },
+        Told::Count(rows) => Reply::Count { rows },
+        Told::Rows(entries) => return rows(alloc, entries),
+        Told::Keys(found) => return keys(alloc, found),
+        Told::Refused(cause) => Reply::Refused { cause },
+        Told::Merged(tps) => Reply::Merged { tps },
+        Told::NothingNew(tps) => Reply::NothingNew { tps },
+        Told::NoFrame(session) => Reply::NoFrame { session },
+    })
 }
 
 /// Whether a call is of one of the sessions, and of the columns.
@@ -134,52 +200,55 @@ fn opened(alloc: Global, limits: Limits) -> Result<Both, Fail> {
     })
 }
 
-/// A session's call, and its reply compared.
-fn answers(
-    rt: &impl Abort,
-    both: &mut Both,
-    session: u32,
-    call: Call,
-    wanted: Reply,
-) -> Result<(), Fail> {
+/// The replies of both engines.
+#[derive(Drop)]
+struct Replies {
+    plain: Reply,
+    machine: Reply,
+}
+
+/// The replies to a session's call.
+fn call(rt: &impl Abort, both: &mut Both, session: u32, call: Call) -> Result<Replies, Fail> {
     assert!(rt; fits(&both.plain.engine.limits, session, &call));
     assert!(rt; fits(&both.machine.limits(), session, &call));
     let line = Line::Call { session, call };
-    assert_eq!(rt; both.plain.line(&line)?, wanted);
-    assert_eq!(rt; both.machine.line(&line)?, wanted);
-    Ok(())
+    Ok(Replies {
+        plain: both.plain.line(&line)?,
+        machine: both.machine.line(&line)?,
+    })
 }
 
-/// A merge, and its reply compared.
-fn merges(
-    rt: &impl Abort,
-    both: &mut Both,
-    range: u32,
-    column: u32,
-    wanted: Reply,
-) -> Result<(), Fail> {
+/// The replies to a merge.
+fn merge(rt: &impl Abort, both: &mut Both, range: u32, column: u32) -> Result<Replies, Fail> {
     let limits = both.plain.engine.limits;
     assert!(rt; range < limits.ranges && column < limits.columns);
     let limits = both.machine.limits();
     assert!(rt; range < limits.ranges && column < limits.columns);
     let line = Line::Merge { range, column };
-    assert_eq!(rt; both.plain.line(&line)?, wanted);
-    assert_eq!(rt; both.machine.line(&line)?, wanted);
+    Ok(Replies {
+        plain: both.plain.line(&line)?,
+        machine: both.machine.line(&line)?,
+    })
+}
+
+/// Asks the lines of a script, and compares the replies.
+fn play(rt: &impl Abort, alloc: Global, both: &mut Both, script: &[Step<'_>]) -> Result<(), Fail> {
+    for (at, &step) in script.iter().enumerate() {
+        let (replies, told) = match step {
+            Step::Call(session, asked, told) => (call(rt, both, session, call_of(asked))?, told),
+            Step::Merge(range, column, told) => (merge(rt, both, range, column)?, told),
+        };
+        let wanted = reply_of(alloc, told)?;
+        assert_eq!(rt; replies.plain, wanted, "at step {at}");
+        assert_eq!(rt; replies.machine, wanted, "at step {at}");
+    }
     Ok(())
 }
 
-/// The calls of sessions on a new engine, each with its reply.
-fn run<const N: usize>(
-    rt: &impl Abort,
-    alloc: Global,
-    limits: Limits,
-    script: [(u32, Call, Reply); N],
-) -> Result<(), Fail> {
+/// The same on new engines.
+fn run(rt: &impl Abort, alloc: Global, limits: Limits, script: &[Step<'_>]) -> Result<(), Fail> {
     let mut both = opened(alloc, limits)?;
-    for (session, call, wanted) in Vec::from_array(alloc, script)? {
-        answers(rt, &mut both, session, call, wanted)?;
-    }
-    Ok(())
+    play(rt, alloc, &mut both, script)
 }
 
 #[test]
@@ -188,55 +257,44 @@ fn a_row_is_inserted_and_read(rt: HostRuntime) -> Result<(), Fail> {
         &rt,
         rt.alloc(),
         Limits::default(),
-        [
-            (0, Call::Begin, begun(0)),
-            (0, insert(7, 10, 20), Reply::Done),
-            (0, get(7), found(10, 20)),
-            (0, Call::Commit, committed(1)),
-            (1, Call::Begin, begun(1)),
-            (1, get(7), found(10, 20)),
+        &[
+            Step::Call(0, Asked::Begin, Told::Begun(0)),
+            Step::Call(0, Asked::Insert(7, 10, 20), Told::Done),
+            Step::Call(0, Asked::Get(7), Told::Row(10, 20)),
+            Step::Call(0, Asked::Commit, Told::Committed(1)),
+            Step::Call(1, Asked::Begin, Told::Begun(1)),
+            Step::Call(1, Asked::Get(7), Told::Row(10, 20)),
         ],
     )
 }
 
 #[test]
 fn a_cell_is_null_then_a_number_then_null(rt: HostRuntime) -> Result<(), Fail> {
-    let insert = Call::Insert {
-        key: 7,
-        row: row_of(None, Some(0)),
-    };
-    let swap = Call::Update {
-        key: 7,
-        patch: change_of(Some(Some(0)), Some(None)),
-    };
-    let keep = Call::Update {
-        key: 7,
-        patch: change_of(Some(None), None),
-    };
-    let seen = |first: Option<u64>, second: Option<u64>| Reply::Row {
-        row: row_of(first, second),
-    };
     run(
         &rt,
         rt.alloc(),
         Limits::default(),
-        [
-            (0, Call::Begin, begun(0)),
-            (0, insert, Reply::Done),
-            (0, get(7), seen(None, Some(0))),
-            (0, Call::Commit, committed(1)),
-            (0, Call::Begin, begun(1)),
-            (0, swap, Reply::Done),
-            (0, get(7), seen(Some(0), None)),
-            (0, Call::Commit, committed(2)),
-            (0, Call::Begin, begun(2)),
-            (0, keep, Reply::Done),
-            (0, get(7), seen(None, None)),
-            (1, Call::AsOf { time: 1 }, begun(1)),
-            (1, get(7), seen(None, Some(0))),
-            (0, Call::Abort, Reply::Aborted),
-            (0, Call::Begin, begun(2)),
-            (0, get(7), seen(Some(0), None)),
+        &[
+            Step::Call(0, Asked::Begin, Told::Begun(0)),
+            Step::Call(0, Asked::InsertCells(7, (None, Some(0))), Told::Done),
+            Step::Call(0, Asked::Get(7), Told::Cells((None, Some(0)))),
+            Step::Call(0, Asked::Commit, Told::Committed(1)),
+            Step::Call(0, Asked::Begin, Told::Begun(1)),
+            Step::Call(
+                0,
+                Asked::UpdateCells(7, (Some(Some(0)), Some(None))),
+                Told::Done,
+            ),
+            Step::Call(0, Asked::Get(7), Told::Cells((Some(0), None))),
+            Step::Call(0, Asked::Commit, Told::Committed(2)),
+            Step::Call(0, Asked::Begin, Told::Begun(2)),
+            Step::Call(0, Asked::UpdateCells(7, (Some(None), None)), Told::Done),
+            Step::Call(0, Asked::Get(7), Told::Cells((None, None))),
+            Step::Call(1, Asked::AsOf(1), Told::Begun(1)),
+            Step::Call(1, Asked::Get(7), Told::Cells((None, Some(0)))),
+            Step::Call(0, Asked::Abort, Told::Aborted),
+            Step::Call(0, Asked::Begin, Told::Begun(2)),
+            Step::Call(0, Asked::Get(7), Told::Cells((Some(0), None))),
         ],
     )
 }
@@ -247,21 +305,21 @@ fn a_newer_commit_is_a_conflict(rt: HostRuntime) -> Result<(), Fail> {
         &rt,
         rt.alloc(),
         Limits::default(),
-        [
-            (0, Call::Begin, begun(0)),
-            (0, insert(7, 10, 20), Reply::Done),
-            (0, Call::Commit, committed(1)),
-            (0, Call::Begin, begun(1)),
-            (1, Call::Begin, begun(1)),
-            (0, update(7, Some(11), None), Reply::Done),
-            (0, Call::Commit, committed(2)),
-            (1, get(7), found(10, 20)),
-            (
+        &[
+            Step::Call(0, Asked::Begin, Told::Begun(0)),
+            Step::Call(0, Asked::Insert(7, 10, 20), Told::Done),
+            Step::Call(0, Asked::Commit, Told::Committed(1)),
+            Step::Call(0, Asked::Begin, Told::Begun(1)),
+            Step::Call(1, Asked::Begin, Told::Begun(1)),
+            Step::Call(0, Asked::Update(7, Some(11), None), Told::Done),
+            Step::Call(0, Asked::Commit, Told::Committed(2)),
+            Step::Call(1, Asked::Get(7), Told::Row(10, 20)),
+            Step::Call(
                 1,
-                update(7, None, Some(21)),
-                refused(Cause::Newer { time: 2 }),
+                Asked::Update(7, None, Some(21)),
+                Told::Refused(Cause::Newer { time: 2 }),
             ),
-            (1, Call::Commit, ended(1)),
+            Step::Call(1, Asked::Commit, Told::Ended(1)),
         ],
     )
 }
@@ -272,26 +330,26 @@ fn an_open_write_is_a_conflict_until_its_abort(rt: HostRuntime) -> Result<(), Fa
         &rt,
         rt.alloc(),
         Limits::default(),
-        [
-            (0, Call::Begin, begun(0)),
-            (0, insert(7, 10, 20), Reply::Done),
-            (0, Call::Commit, committed(1)),
-            (0, Call::Begin, begun(1)),
-            (1, Call::Begin, begun(1)),
-            (0, update(7, Some(11), None), Reply::Done),
-            (
+        &[
+            Step::Call(0, Asked::Begin, Told::Begun(0)),
+            Step::Call(0, Asked::Insert(7, 10, 20), Told::Done),
+            Step::Call(0, Asked::Commit, Told::Committed(1)),
+            Step::Call(0, Asked::Begin, Told::Begun(1)),
+            Step::Call(1, Asked::Begin, Told::Begun(1)),
+            Step::Call(0, Asked::Update(7, Some(11), None), Told::Done),
+            Step::Call(
                 1,
-                update(7, None, Some(21)),
-                refused(Cause::Unfinished {
+                Asked::Update(7, None, Some(21)),
+                Told::Refused(Cause::Unfinished {
                     session: 0,
                     number: 2,
                 }),
             ),
-            (0, Call::Abort, Reply::Aborted),
-            (1, update(7, None, Some(21)), Reply::Done),
-            (1, Call::Commit, committed(2)),
-            (1, Call::Begin, begun(2)),
-            (1, get(7), found(10, 21)),
+            Step::Call(0, Asked::Abort, Told::Aborted),
+            Step::Call(1, Asked::Update(7, None, Some(21)), Told::Done),
+            Step::Call(1, Asked::Commit, Told::Committed(2)),
+            Step::Call(1, Asked::Begin, Told::Begun(2)),
+            Step::Call(1, Asked::Get(7), Told::Row(10, 21)),
         ],
     )
 }
@@ -302,24 +360,24 @@ fn each_time_has_its_row(rt: HostRuntime) -> Result<(), Fail> {
         &rt,
         rt.alloc(),
         Limits::default(),
-        [
-            (0, Call::Begin, begun(0)),
-            (0, insert(7, 10, 20), Reply::Done),
-            (0, Call::Commit, committed(1)),
-            (0, Call::Begin, begun(1)),
-            (0, Call::Delete { key: 7 }, Reply::Done),
-            (0, Call::Commit, committed(2)),
-            (0, Call::Begin, begun(2)),
-            (0, insert(7, 30, 40), Reply::Done),
-            (0, Call::Commit, committed(3)),
-            (1, Call::AsOf { time: 1 }, begun(1)),
-            (1, get(7), found(10, 20)),
-            (1, Call::Commit, ended(1)),
-            (1, Call::AsOf { time: 2 }, begun(2)),
-            (1, get(7), Reply::Absent),
-            (1, Call::Commit, ended(2)),
-            (1, Call::Begin, begun(3)),
-            (1, get(7), found(30, 40)),
+        &[
+            Step::Call(0, Asked::Begin, Told::Begun(0)),
+            Step::Call(0, Asked::Insert(7, 10, 20), Told::Done),
+            Step::Call(0, Asked::Commit, Told::Committed(1)),
+            Step::Call(0, Asked::Begin, Told::Begun(1)),
+            Step::Call(0, Asked::Delete(7), Told::Done),
+            Step::Call(0, Asked::Commit, Told::Committed(2)),
+            Step::Call(0, Asked::Begin, Told::Begun(2)),
+            Step::Call(0, Asked::Insert(7, 30, 40), Told::Done),
+            Step::Call(0, Asked::Commit, Told::Committed(3)),
+            Step::Call(1, Asked::AsOf(1), Told::Begun(1)),
+            Step::Call(1, Asked::Get(7), Told::Row(10, 20)),
+            Step::Call(1, Asked::Commit, Told::Ended(1)),
+            Step::Call(1, Asked::AsOf(2), Told::Begun(2)),
+            Step::Call(1, Asked::Get(7), Told::Absent),
+            Step::Call(1, Asked::Commit, Told::Ended(2)),
+            Step::Call(1, Asked::Begin, Told::Begun(3)),
+            Step::Call(1, Asked::Get(7), Told::Row(30, 40)),
         ],
     )
 }
@@ -330,13 +388,21 @@ fn a_write_that_does_not_fit_is_refused(rt: HostRuntime) -> Result<(), Fail> {
         &rt,
         rt.alloc(),
         Limits::default(),
-        [
-            (0, Call::Begin, begun(0)),
-            (0, insert(7, 1, 1), Reply::Done),
-            (0, insert(7, 1, 1), refused(Cause::Exists)),
-            (0, update(9, Some(1), None), refused(Cause::Missing)),
-            (0, Call::Delete { key: 7 }, Reply::Done),
-            (0, update(7, Some(1), None), refused(Cause::Missing)),
+        &[
+            Step::Call(0, Asked::Begin, Told::Begun(0)),
+            Step::Call(0, Asked::Insert(7, 1, 1), Told::Done),
+            Step::Call(0, Asked::Insert(7, 1, 1), Told::Refused(Cause::Exists)),
+            Step::Call(
+                0,
+                Asked::Update(9, Some(1), None),
+                Told::Refused(Cause::Missing),
+            ),
+            Step::Call(0, Asked::Delete(7), Told::Done),
+            Step::Call(
+                0,
+                Asked::Update(7, Some(1), None),
+                Told::Refused(Cause::Missing),
+            ),
         ],
     )
 }
@@ -347,20 +413,16 @@ fn transactions_open_and_end_in_turn(rt: HostRuntime) -> Result<(), Fail> {
         &rt,
         rt.alloc(),
         Limits::default(),
-        [
-            (0, get(7), refused(Cause::Idle)),
-            (0, Call::Commit, refused(Cause::Idle)),
-            (0, Call::Begin, begun(0)),
-            (0, Call::Begin, refused(Cause::Active)),
-            (0, Call::Abort, Reply::Aborted),
-            (0, Call::AsOf { time: 0 }, begun(0)),
-            (0, insert(1, 1, 1), refused(Cause::ReadOnly)),
-            (0, Call::Commit, ended(0)),
-            (
-                0,
-                Call::AsOf { time: 1 },
-                refused(Cause::Future { clock: 0 }),
-            ),
+        &[
+            Step::Call(0, Asked::Get(7), Told::Refused(Cause::Idle)),
+            Step::Call(0, Asked::Commit, Told::Refused(Cause::Idle)),
+            Step::Call(0, Asked::Begin, Told::Begun(0)),
+            Step::Call(0, Asked::Begin, Told::Refused(Cause::Active)),
+            Step::Call(0, Asked::Abort, Told::Aborted),
+            Step::Call(0, Asked::AsOf(0), Told::Begun(0)),
+            Step::Call(0, Asked::Insert(1, 1, 1), Told::Refused(Cause::ReadOnly)),
+            Step::Call(0, Asked::Commit, Told::Ended(0)),
+            Step::Call(0, Asked::AsOf(1), Told::Refused(Cause::Future { clock: 0 })),
         ],
     )
 }
@@ -375,11 +437,11 @@ fn transactions_of_a_session_are_spent(rt: HostRuntime) -> Result<(), Fail> {
         &rt,
         rt.alloc(),
         limits,
-        [
-            (0, Call::Begin, begun(0)),
-            (0, insert(7, 10, 20), Reply::Done),
-            (0, Call::Commit, committed(1)),
-            (0, Call::Begin, refused(Cause::Spent)),
+        &[
+            Step::Call(0, Asked::Begin, Told::Begun(0)),
+            Step::Call(0, Asked::Insert(7, 10, 20), Told::Done),
+            Step::Call(0, Asked::Commit, Told::Committed(1)),
+            Step::Call(0, Asked::Begin, Told::Refused(Cause::Spent)),
         ],
     )
 }
@@ -394,11 +456,11 @@ fn a_range_is_full_of_writes(rt: HostRuntime) -> Result<(), Fail> {
         &rt,
         rt.alloc(),
         limits,
-        [
-            (0, Call::Begin, begun(0)),
-            (0, insert(1, 1, 1), Reply::Done),
-            (0, insert(2, 2, 2), refused(Cause::TailFull)),
-            (0, Call::Commit, committed(1)),
+        &[
+            Step::Call(0, Asked::Begin, Told::Begun(0)),
+            Step::Call(0, Asked::Insert(1, 1, 1), Told::Done),
+            Step::Call(0, Asked::Insert(2, 2, 2), Told::Refused(Cause::TailFull)),
+            Step::Call(0, Asked::Commit, Told::Committed(1)),
         ],
     )
 }
@@ -409,55 +471,55 @@ fn a_table_of_one_range_has_256_keys(rt: HostRuntime) -> Result<(), Fail> {
         ranges: 1,
         ..Limits::default()
     };
-    let mut both = opened(rt.alloc(), limits)?;
-    answers(&rt, &mut both, 0, Call::Begin, begun(0))?;
+    let alloc = rt.alloc();
+    let mut both = opened(alloc, limits)?;
+    let begin = Step::Call(0, Asked::Begin, Told::Begun(0));
+    play(&rt, alloc, &mut both, &[begin])?;
     for key in 1..257 {
-        answers(&rt, &mut both, 0, insert(key, 1, 1), Reply::Done)?;
+        let insert = Step::Call(0, Asked::Insert(key, 1, 1), Told::Done);
+        play(&rt, alloc, &mut both, &[insert])?;
     }
-    answers(
-        &rt,
-        &mut both,
-        0,
-        insert(257, 1, 1),
-        refused(Cause::TableFull),
-    )
+    let full = Told::Refused(Cause::TableFull);
+    let beyond = Step::Call(0, Asked::Insert(257, 1, 1), full);
+    play(&rt, alloc, &mut both, &[beyond])
+}
+
+/// The row of the key 7 in a table that these acts on it were applied to.
+fn applied(alloc: Global, acts: [Act; 2]) -> Result<Option<Row>, OutOfMemory> {
+    let mut table = Table::new(alloc);
+    for act in acts {
+        apply(&mut table, &Write { key: 7, act })?;
+    }
+    Ok(table.row(7))
 }
 
 #[test]
 fn the_rows_are_those_of_a_table_that_the_writes_were_applied_to(
     rt: HostRuntime,
 ) -> Result<(), Fail> {
-    let alloc = rt.alloc();
-    let mut table = Table::new(alloc);
-    let mut both = opened(alloc, Limits::default())?;
-    answers(&rt, &mut both, 0, Call::Begin, begun(0))?;
-    answers(&rt, &mut both, 0, insert(7, 10, 20), Reply::Done)?;
-    answers(&rt, &mut both, 0, Call::Commit, committed(1))?;
-    apply(
-        &mut table,
-        &Write {
-            key: 7,
-            act: Act::Put(row(10, 20)),
-        },
+    run(
+        &rt,
+        rt.alloc(),
+        Limits::default(),
+        &[
+            Step::Call(0, Asked::Begin, Told::Begun(0)),
+            Step::Call(0, Asked::Insert(7, 10, 20), Told::Done),
+            Step::Call(0, Asked::Commit, Told::Committed(1)),
+            Step::Call(0, Asked::Begin, Told::Begun(1)),
+            Step::Call(0, Asked::Update(7, Some(11), None), Told::Done),
+            Step::Call(0, Asked::Commit, Told::Committed(2)),
+            Step::Call(1, Asked::Begin, Told::Begun(2)),
+            Step::Call(1, Asked::Get(7), Told::Row(11, 20)),
+        ],
     )?;
-    answers(&rt, &mut both, 0, Call::Begin, begun(1))?;
-    answers(&rt, &mut both, 0, update(7, Some(11), None), Reply::Done)?;
-    answers(&rt, &mut both, 0, Call::Commit, committed(2))?;
-    apply(
-        &mut table,
-        &Write {
-            key: 7,
-            act: Act::Set(patch(Some(11), None)),
-        },
-    )?;
-    assert_eq!(rt; table.row(7), Some(row(11, 20)));
-    answers(&rt, &mut both, 1, Call::Begin, begun(2))?;
-    answers(&rt, &mut both, 1, get(7), found(11, 20))
+    let acts = [Act::Put(row(10, 20)), Act::Set(patch(Some(11), None))];
+    let shown = applied(rt.alloc(), acts)?;
+    assert_eq!(rt; shown, Some(row(11, 20)));
+    Ok(())
 }
 
 #[test]
 fn all_rows_are_summed_counted_scanned_and_found(rt: HostRuntime) -> Result<(), Fail> {
-    let alloc = rt.alloc();
     let limits = Limits {
         indexed: 2,
         ..Limits::default()
@@ -465,58 +527,49 @@ fn all_rows_are_summed_counted_scanned_and_found(rt: HostRuntime) -> Result<(), 
     let most = u64::MAX;
     run(
         &rt,
-        alloc,
+        rt.alloc(),
         limits,
-        [
-            (0, Call::Count, refused(Cause::Idle)),
-            (0, Call::Begin, begun(0)),
-            (0, Call::Scan, rows(alloc, &[])?),
-            (0, insert(9, most, 20), Reply::Done),
-            (0, insert(7, most, 20), Reply::Done),
-            (0, insert(8, 1, 20), Reply::Done),
-            (0, Call::Delete { key: 8 }, Reply::Done),
-            (0, Call::Scan, rows(alloc, &[(7, most, 20), (9, most, 20)])?),
-            (0, Call::Sum { column: 0 }, sum(36893488147419103230)),
-            (0, Call::Count, Reply::Count { rows: 2 }),
-            (
-                0,
-                Call::Find {
-                    column: 1,
-                    value: 20,
-                },
-                keys(alloc, &[7, 9])?,
-            ),
-            (
-                0,
-                Call::Find {
-                    column: 0,
-                    value: 1,
-                },
-                refused(Cause::NotIndexed),
-            ),
-            (1, Call::Begin, begun(0)),
-            (1, Call::Sum { column: 0 }, sum(0)),
+        &[
+            Step::Call(0, Asked::Count, Told::Refused(Cause::Idle)),
+            Step::Call(0, Asked::Begin, Told::Begun(0)),
+            Step::Call(0, Asked::Scan, Told::Rows(&[])),
+            Step::Call(0, Asked::Insert(9, most, 20), Told::Done),
+            Step::Call(0, Asked::Insert(7, most, 20), Told::Done),
+            Step::Call(0, Asked::Insert(8, 1, 20), Told::Done),
+            Step::Call(0, Asked::Delete(8), Told::Done),
+            Step::Call(0, Asked::Scan, Told::Rows(&[(7, most, 20), (9, most, 20)])),
+            Step::Call(0, Asked::Sum(0), Told::Sum(36893488147419103230)),
+            Step::Call(0, Asked::Count, Told::Count(2)),
+            Step::Call(0, Asked::Find(1, 20), Told::Keys(&[7, 9])),
+            Step::Call(0, Asked::Find(0, 1), Told::Refused(Cause::NotIndexed)),
+            Step::Call(1, Asked::Begin, Told::Begun(0)),
+            Step::Call(1, Asked::Sum(0), Told::Sum(0)),
         ],
     )
 }
 
 #[test]
 fn a_merge_stops_at_an_open_write(rt: HostRuntime) -> Result<(), Fail> {
-    let mut both = opened(rt.alloc(), Limits::default())?;
-    for session in 0..3 {
-        answers(&rt, &mut both, session, Call::Begin, begun(0))?;
-    }
-    for session in 0..3 {
-        let key = u64::from(session);
-        answers(&rt, &mut both, session, insert(key, 1, 1), Reply::Done)?;
-    }
-    answers(&rt, &mut both, 0, Call::Commit, committed(1))?;
-    answers(&rt, &mut both, 2, Call::Commit, committed(2))?;
-    merges(&rt, &mut both, 0, 0, Reply::Merged { tps: 1 })?;
-    answers(&rt, &mut both, 1, Call::Abort, Reply::Aborted)?;
-    merges(&rt, &mut both, 0, 0, Reply::Merged { tps: 3 })?;
-    merges(&rt, &mut both, 0, 0, Reply::NothingNew { tps: 3 })?;
-    merges(&rt, &mut both, 1, 0, Reply::NothingNew { tps: 0 })
+    run(
+        &rt,
+        rt.alloc(),
+        Limits::default(),
+        &[
+            Step::Call(0, Asked::Begin, Told::Begun(0)),
+            Step::Call(1, Asked::Begin, Told::Begun(0)),
+            Step::Call(2, Asked::Begin, Told::Begun(0)),
+            Step::Call(0, Asked::Insert(0, 1, 1), Told::Done),
+            Step::Call(1, Asked::Insert(1, 1, 1), Told::Done),
+            Step::Call(2, Asked::Insert(2, 1, 1), Told::Done),
+            Step::Call(0, Asked::Commit, Told::Committed(1)),
+            Step::Call(2, Asked::Commit, Told::Committed(2)),
+            Step::Merge(0, 0, Told::Merged(1)),
+            Step::Call(1, Asked::Abort, Told::Aborted),
+            Step::Merge(0, 0, Told::Merged(3)),
+            Step::Merge(0, 0, Told::NothingNew(3)),
+            Step::Merge(1, 0, Told::NothingNew(0)),
+        ],
+    )
 }
 
 #[test]
@@ -525,16 +578,22 @@ fn a_merge_waits_for_the_lowest_session_that_began_before(rt: HostRuntime) -> Re
         spare: 1,
         ..Limits::default()
     };
-    let mut both = opened(rt.alloc(), limits)?;
-    answers(&rt, &mut both, 0, Call::Begin, begun(0))?;
-    answers(&rt, &mut both, 0, insert(7, 10, 20), Reply::Done)?;
-    answers(&rt, &mut both, 0, Call::Commit, committed(1))?;
-    answers(&rt, &mut both, 1, Call::Begin, begun(1))?;
-    answers(&rt, &mut both, 2, Call::Begin, begun(1))?;
-    merges(&rt, &mut both, 0, 0, Reply::Merged { tps: 1 })?;
-    merges(&rt, &mut both, 0, 1, Reply::NoFrame { session: 1 })?;
-    answers(&rt, &mut both, 1, Call::Commit, ended(1))?;
-    merges(&rt, &mut both, 0, 1, Reply::NoFrame { session: 2 })?;
-    answers(&rt, &mut both, 2, Call::Abort, Reply::Aborted)?;
-    merges(&rt, &mut both, 0, 1, Reply::Merged { tps: 1 })
+    run(
+        &rt,
+        rt.alloc(),
+        limits,
+        &[
+            Step::Call(0, Asked::Begin, Told::Begun(0)),
+            Step::Call(0, Asked::Insert(7, 10, 20), Told::Done),
+            Step::Call(0, Asked::Commit, Told::Committed(1)),
+            Step::Call(1, Asked::Begin, Told::Begun(1)),
+            Step::Call(2, Asked::Begin, Told::Begun(1)),
+            Step::Merge(0, 0, Told::Merged(1)),
+            Step::Merge(0, 1, Told::NoFrame(1)),
+            Step::Call(1, Asked::Commit, Told::Ended(1)),
+            Step::Merge(0, 1, Told::NoFrame(2)),
+            Step::Call(2, Asked::Abort, Told::Aborted),
+            Step::Merge(0, 1, Told::Merged(1)),
+        ],
+    )
 }
