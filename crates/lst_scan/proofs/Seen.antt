@@ -1,5 +1,5 @@
 -- Pages of which a reader sees each entry.
-use Rattle.std.proofs.Common.{◌≡◌, ℕ, zero, suc, ◌+◌, ◌*◌, ◌/◌, ◌%◌, ◌<◌, ◌≤◌, List, [], ◌∷◌, Bool, true, cond, length, map, filter, zip, sum, ◌==◌, ◌&&◌, nat_le, le-leb, slice_index, refl, sym, ap, ◌∙◌, arith}
+use Rattle.std.proofs.Common.{◌≡◌, ℕ, zero, suc, ◌+◌, ◌/◌, ◌%◌, ◌<◌, ◌≤◌, List, [], ◌∷◌, Bool, true, cond, length, map, filter, zip, ◌==◌, ◌&&◌, le-leb, slice_index, refl, sym, ap, ◌∙◌, arith}
 use Rattle.std.specs.List.{All}
 use Rattle.std.proofs.lemmas.List.Elements.{All-head, All-tail, All-from_get_or}
 use Rattle.lst_kernel.specs.Entries.{is_seen, seen_values, lane_of}

@@ -1,4 +1,4 @@
-use Rattle.std.proofs.Common.{◌≡◌, ℕ, ◌+◌, ◌*◌, ◌/◌, ◌<◌, ◌≤◌, slice_index, sym, subst, ap, ◌∙◌, arith, true≢false}
+use Rattle.std.proofs.Common.{◌≡◌, ℕ, ◌+◌, ◌*◌, ◌/◌, ◌<◌, ◌≤◌, Bool, Some, slice_index, sym, subst, ap, ◌∙◌, arith, true≢false}
 use Rattle.lst_bits.specs.Times.{time_of}
 use Rattle.lst_kernel.specs.Entries.{lane_of}
 use Rattle.lst_core_state.specs.declared.known.Known.{Known}
@@ -16,13 +16,13 @@ use Rattle.lst_scan.proofs.Told.{one_told, ones_told, covers_told, covers_same, 
 use Rattle.lst_scan.proofs.paged.count_untold.Goals.{then-not-is_told+then-is_some, then-not-is_told+else-is_some, else-not-is_told}
 use Rattle.lst_scan.proofs.paged.count_untold.Goals as goal
 
-pub returns-in-Some-all_present-clause-watched : goal.returns-in-Some-all_present-clause-watched
-returns-in-Some-all_present-clause-watched c = let r = c.requires.reader in
+pub returns-in-Some-clause-watched : goal.returns-in-Some-clause-watched
+returns-in-Some-clause-watched c = let r = c.requires.reader in
     let skims : Skims c.args.seat.now.view c.load_heads.new.seat.view c.args.s = heads_skim c.args.seat.now.view c.load_heads.new.seat.view c.args.s c.args.range (slice_index c.load_heads.new.out) r.host (subst (λ l. c.args.range < l.ranges) (sym r.seat_of.limits) c.requires.range) c.load_heads.ensures.loads c.load_heads.ensures.found in
     skims.watched
 
-pub returns-in-Some-all_present-clause-count : goal.returns-in-Some-all_present-clause-count
-returns-in-Some-all_present-clause-count c = let r = c.requires.reader in
+pub returns-in-Some-clause-count : goal.returns-in-Some-clause-count
+returns-in-Some-clause-count c = let r = c.requires.reader in
     let skims : Skims c.args.seat.now.view c.load_heads.new.seat.view c.args.s = heads_skim c.args.seat.now.view c.load_heads.new.seat.view c.args.s c.args.range (slice_index c.load_heads.new.out) r.host (subst (λ l. c.args.range < l.ranges) (sym r.seat_of.limits) c.requires.range) c.load_heads.ensures.loads c.load_heads.ensures.found in
     let begin_is : c.begin-begin.result ≡ (knows c.args.seat.now.view c.args.s).begin = c.begin-begin.ensures ∙ ap (λ (k : Known). k.begin) skims.watched.watches.is in
     let all : (i : ℕ) → i < 256 → (slice_index c.load_heads.new.out i / 2 ≤ c.args.tps) × (time_of (slice_index c.args.times.now i) ≤ (knows c.args.seat.now.view c.args.s).begin) =
@@ -31,15 +31,15 @@ returns-in-Some-all_present-clause-count c = let r = c.requires.reader in
     ∙ (ones_told c.args.store.now c.args.seat.now c.args.s c.args.range 0 c.args.tps c.args.times.now c.consider.ensures r c.requires.range c.args.store.now.layout.valid.columns.0 c.requires.page (slice_index c.load_heads.new.out) c.load_heads.new.seat.view c.load_heads.ensures.loads all 256 (omega arith) place places
     ∙ sym (count_is (between place (256 * c.args.range) (256 * c.args.range + 256) (table_seen (knows c.args.seat.now.view c.args.s)))))
 
-pub returns-in-Some-all_present-clause-seen : goal.returns-in-Some-all_present-clause-seen
-returns-in-Some-all_present-clause-seen c = let r = c.requires.reader in
+pub returns-in-Some-clause-seen : goal.returns-in-Some-clause-seen
+returns-in-Some-clause-seen c = let r = c.requires.reader in
     let skims : Skims c.args.seat.now.view c.load_heads.new.seat.view c.args.s = heads_skim c.args.seat.now.view c.load_heads.new.seat.view c.args.s c.args.range (slice_index c.load_heads.new.out) r.host (subst (λ l. c.args.range < l.ranges) (sym r.seat_of.limits) c.requires.range) c.load_heads.ensures.loads c.load_heads.ensures.found in
     let begin_is : c.begin-begin.result ≡ (knows c.args.seat.now.view c.args.s).begin = c.begin-begin.ensures ∙ ap (λ (k : Known). k.begin) skims.watched.watches.is in
     λ none i few. entry_seen (knows c.args.seat.now.view c.args.s).begin (slice_index c.args.times.now i) (c.in-Some.ensures.present (ap (λ (b : Bool). Some b) (c.none_counted.ensures.seen none)) i few)
     (subst (λ (n : ℕ). time_of (slice_index c.args.times.now i) ≤ n) begin_is (c.in-Some.ensures.told i few).1)
 
-pub returns-in-Some-all_present-clause-few : goal.returns-in-Some-all_present-clause-few
-returns-in-Some-all_present-clause-few c = let zero = c.none_counted.ensures.none in omega arith
+pub returns-in-Some-clause-few : goal.returns-in-Some-clause-few
+returns-in-Some-clause-few c = let zero = c.none_counted.ensures.none in omega arith
 
 pub loop-slot-init : goal.loop-slot-init
 loop-slot-init c = let r = c.requires.reader in
