@@ -2,25 +2,34 @@
 
 use crate::{LoadNumbers, limits_of_words, load_of_words};
 use lst_layout::Limits;
+use lst_model::OutOfMemory;
 use std::alloc::Global;
 use std::process::Abort;
 use std::test::Fail;
 
-/// What a line of words names, which spaces separate.
-fn expect(rt: &impl Abort, alloc: Global, line: &str, wanted: Option<Limits>) -> Result<(), Fail> {
+/// The words of a line, which spaces separate.
+fn words_of(alloc: Global, line: &str) -> Result<Vec<String>, OutOfMemory> {
     let mut words = Vec::new(alloc);
     for word in line.split_whitespace() {
         words.push(String::from_str(alloc, word)?)?;
     }
-    let found = limits_of_words(alloc, words.as_slice())?;
-    assert_eq!(rt; found, wanted, "{line}");
-    Ok(())
+    Ok(words)
+}
+
+/// The limits that a line of words names.
+fn limits_of(alloc: Global, line: &str) -> Result<Option<Limits>, OutOfMemory> {
+    let words = words_of(alloc, line)?;
+    limits_of_words(alloc, words.as_slice())
+}
+
+/// The load that a line of words names.
+fn load_of(alloc: Global, line: &str) -> Result<Option<LoadNumbers>, OutOfMemory> {
+    let words = words_of(alloc, line)?;
+    load_of_words(alloc, words.as_slice())
 }
 
 #[test]
 fn each_option_gives_its_limit(rt: HostRuntime) -> Result<(), Fail> {
-    let alloc = rt.alloc();
-    expect(&rt, alloc, "run", Some(Limits::default()))?;
     let least = Limits {
         columns: 1,
         ranges: 1,
@@ -30,12 +39,6 @@ fn each_option_gives_its_limit(rt: HostRuntime) -> Result<(), Fail> {
         spare: 1,
         indexed: 1,
     };
-    expect(
-        &rt,
-        alloc,
-        "run --columns 1 --ranges=1 --tails 01 --sessions 1 --txns 1 --spare=1 --index 0",
-        Some(least),
-    )?;
     let greatest = Limits {
         columns: 8,
         ranges: 64,
@@ -45,12 +48,21 @@ fn each_option_gives_its_limit(rt: HostRuntime) -> Result<(), Fail> {
         spare: 64,
         indexed: 128,
     };
-    expect(
-        &rt,
-        alloc,
-        "run --index 7 --spare 64 --txns 65535 --sessions 16 --tails 16384 --ranges 64 --columns 8",
-        Some(greatest),
-    )
+    for (line, wanted) in [
+        ("run", Limits::default()),
+        (
+            "run --columns 1 --ranges=1 --tails 01 --sessions 1 --txns 1 --spare=1 --index 0",
+            least,
+        ),
+        (
+            "run --index 7 --spare 64 --txns 65535 --sessions 16 --tails 16384 --ranges 64 --columns 8",
+            greatest,
+        ),
+    ] {
+        let found = limits_of(rt.alloc(), line)?;
+        assert_eq!(rt; found, Some(wanted), "{line}");
+    }
+    Ok(())
 }
 
 #[test]
@@ -83,78 +95,64 @@ fn other_words_name_no_limits(rt: HostRuntime) -> Result<(), Fail> {
         "run --version",
         "run 1",
     ] {
-        expect(&rt, rt.alloc(), line, None)?;
+        let found = limits_of(rt.alloc(), line)?;
+        assert_eq!(rt; found, None, "{line}");
     }
     Ok(())
 }
 
-/// Whether a line of words names limits.
-fn expect_taken(rt: &impl Abort, alloc: Global, line: &str, wanted: bool) -> Result<(), Fail> {
-    let mut words = Vec::new(alloc);
-    for word in line.split_whitespace() {
-        words.push(String::from_str(alloc, word)?)?;
+/// An option with its least number, its greatest one, and the number behind that.
+type Named<'a> = (&'a str, &'a str, &'a str, &'a str);
+
+/// A line in which the words `NAME`, `LEAST`, `MOST` and `BEYOND` stand for those of an option.
+fn filled(alloc: Global, form: &str, option: Named<'_>) -> Result<String, OutOfMemory> {
+    let (name, least, most, beyond) = option;
+    let line = form.replace(alloc, "NAME", name)?;
+    let line = line.replace(alloc, "LEAST", least)?;
+    let line = line.replace(alloc, "MOST", most)?;
+    Ok(line.replace(alloc, "BEYOND", beyond)?)
+}
+
+/// Each line of an option names limits, or none.
+fn expect_each_form(rt: &impl Abort, alloc: Global, option: Named<'_>) -> Result<(), Fail> {
+    for (form, is_taken) in [
+        ("run --NAME LEAST", true),
+        ("run --NAME=LEAST", true),
+        ("run --NAME MOST", true),
+        ("run --NAME=000MOST", true),
+        ("run --NAME=MOST --", true),
+        ("run --NAME BEYOND", false),
+        ("run --NAME=BEYOND", false),
+        ("run --NAME 00000000000000000000MOST", false),
+        ("run --NAME", false),
+        ("run --NAME=", false),
+        ("run --NAME -MOST", false),
+        ("run --NAME MOST MOST", false),
+        ("run --NAME MOST --NAME=MOST", false),
+        ("run -NAME MOST", false),
+        ("run --NAMEs MOST", false),
+        ("run -- --NAME MOST", false),
+    ] {
+        let line = filled(alloc, form, option)?;
+        let found = limits_of(alloc, line.as_str())?;
+        assert_eq!(rt; found.is_some(), is_taken, "{line}");
     }
-    let found = limits_of_words(alloc, words.as_slice())?;
-    assert_eq!(rt; found.is_some(), wanted, "{line}");
     Ok(())
 }
 
 #[test]
 fn each_option_is_read_in_every_form(rt: HostRuntime) -> Result<(), Fail> {
-    let alloc = rt.alloc();
-    for (name, least, most) in [
-        ("columns", 1, 8),
-        ("ranges", 1, 64),
-        ("tails", 1, 16_384),
-        ("sessions", 1, 16),
-        ("txns", 1, 65_535),
-        ("spare", 1, 64),
-        ("index", 0, 1),
+    for option in [
+        ("columns", "1", "8", "9"),
+        ("ranges", "1", "64", "65"),
+        ("tails", "1", "16384", "16385"),
+        ("sessions", "1", "16", "17"),
+        ("txns", "1", "65535", "65536"),
+        ("spare", "1", "64", "65"),
+        ("index", "0", "1", "2"),
     ] {
-        let beyond = most + 1;
-        for (line, wanted) in [
-            (format!(in alloc; "run --{name} {least}")?, true),
-            (format!(in alloc; "run --{name}={least}")?, true),
-            (format!(in alloc; "run --{name} {most}")?, true),
-            (format!(in alloc; "run --{name}=000{most}")?, true),
-            (format!(in alloc; "run --{name}={most} --")?, true),
-            (format!(in alloc; "run --{name} {beyond}")?, false),
-            (format!(in alloc; "run --{name}={beyond}")?, false),
-            (
-                format!(in alloc; "run --{name} 00000000000000000000{most}")?,
-                false,
-            ),
-            (format!(in alloc; "run --{name}")?, false),
-            (format!(in alloc; "run --{name}=")?, false),
-            (format!(in alloc; "run --{name} -{most}")?, false),
-            (format!(in alloc; "run --{name} {most} {most}")?, false),
-            (
-                format!(in alloc; "run --{name} {most} --{name}={most}")?,
-                false,
-            ),
-            (format!(in alloc; "run -{name} {most}")?, false),
-            (format!(in alloc; "run --{name}s {most}")?, false),
-            (format!(in alloc; "run -- --{name} {most}")?, false),
-        ] {
-            expect_taken(&rt, alloc, line.as_str(), wanted)?;
-        }
+        expect_each_form(&rt, rt.alloc(), option)?;
     }
-    Ok(())
-}
-
-/// The load that a line of words names, which spaces separate.
-fn expect_load(
-    rt: &impl Abort,
-    alloc: Global,
-    line: &str,
-    wanted: Option<LoadNumbers>,
-) -> Result<(), Fail> {
-    let mut words = Vec::new(alloc);
-    for word in line.split_whitespace() {
-        words.push(String::from_str(alloc, word)?)?;
-    }
-    let found = load_of_words(alloc, words.as_slice())?;
-    assert_eq!(rt; found, wanted, "{line}");
     Ok(())
 }
 
@@ -169,7 +167,6 @@ fn numbers(seed: u64, keys: u32, sessions: u32) -> Option<LoadNumbers> {
 
 #[test]
 fn each_option_gives_its_number_of_a_load(rt: HostRuntime) -> Result<(), Fail> {
-    let alloc = rt.alloc();
     for (line, wanted) in [
         ("load", numbers(1, 1_000, 4)),
         ("load --", numbers(1, 1_000, 4)),
@@ -185,7 +182,8 @@ fn each_option_gives_its_number_of_a_load(rt: HostRuntime) -> Result<(), Fail> {
             numbers(18_446_744_073_709_551_615, 4_096, 16),
         ),
     ] {
-        expect_load(&rt, alloc, line, wanted)?;
+        let found = load_of(rt.alloc(), line)?;
+        assert_eq!(rt; found, wanted, "{line}");
     }
     Ok(())
 }
@@ -217,7 +215,8 @@ fn other_words_name_no_load(rt: HostRuntime) -> Result<(), Fail> {
         "load -h",
         "load --version",
     ] {
-        expect_load(&rt, rt.alloc(), line, None)?;
+        let found = load_of(rt.alloc(), line)?;
+        assert_eq!(rt; found, None, "{line}");
     }
     Ok(())
 }
