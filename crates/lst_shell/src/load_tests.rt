@@ -56,8 +56,8 @@ fn a_load_tells_its_rows_and_their_total(rt: HostRuntime) -> Result<(), Fail> {
     loads(
         &rt,
         alloc,
-        "load --seed 1 --keys 100 --sessions 4",
-        "rows 100\ntotal 100000\n",
+        "load --seed 1 --keys 1000 --sessions 4",
+        "rows 1000\ntotal 1000000\n",
     )?;
     loads(
         &rt,
@@ -94,13 +94,13 @@ fn the_gate_of_a_load_is_called_twice_for_each_line(rt: HostRuntime) -> Result<(
     called(
         &rt,
         alloc,
-        "load --seed 1 --keys 100 --sessions 4",
+        "load --seed 1 --keys 1000 --sessions 4",
         b"",
         UNREADABLE,
         &counter,
     )?;
     let mut twice = 0u64;
-    for line in generate(alloc, 1, 100, 4)?.items() {
+    for line in generate(alloc, 1, 1000, 4)?.items() {
         if !matches!(line, Line::Phase) {
             twice = twice.wrapping_add(2);
         }
