@@ -1,6 +1,8 @@
 -- When sessions have seen alike: those of a crew that was parted, and what leaves it so.
-use Rattle.std.proofs.Common.{◌≡◌, ◌⊎◌, inl, inr, ⊎_elim, ℕ, ◌+◌, ◌<◌, ◌≤◌, List, [], ◌∷◌, ◌++◌, true, length, take, drop, get_or, refl, sym, subst, ap, ◌∙◌, arith, append_assoc, append-nil}
+use Rattle.std.proofs.Common.{◌≡◌, ◌⊎◌, inl, inr, ⊎_elim, ℕ, ◌<◌, ◌≤◌, List, [], ◌∷◌, ◌++◌, true, length, take, drop, get_or, eqb-true, refl, sym, subst, ap, ◌∙◌, arith, append_assoc, append-nil}
 use Rattle.std.specs.Prelude.{Some, None}
+use Rattle.std.specs.List.{Contains}
+use Rattle.std.proofs.lemmas.List.Elements.{Contains-append_right}
 use Rattle.std.proofs.lemmas.List.{take-append-le, take_all, take-append-drop, length-take-le}
 use Rattle.lst_layout.specs.Words.{shown}
 use Rattle.lst_model.specs.declared.acts.Act.{Act}
@@ -14,15 +16,18 @@ use Rattle.lst_core_state.specs.declared.facts.Fact.TheVariants.{IndexAt}
 use Rattle.lst_core_state.specs.State.{history_of}
 use Rattle.lst_core_state.specs.Sound.{IsRecorded}
 use Rattle.lst_rule.specs.declared.view.View.{View}
+use Rattle.lst_rule.specs.Joins.{noted}
 use Rattle.lst_rule.specs.Rule.{knows, hosts}
 use Rattle.lst_rule.specs.Learned.{Possible}
 use Rattle.lst_rule.proofs.Knowing.{knows_own, is_seen}
 use Rattle.lst_sights.specs.Seen.{HasKey}
 use Rattle.lst_sights.proofs.Keying.{same_record}
 use Rattle.lst_scan.proofs.Seeing.{none_is_not}
+use Rattle.lst_session.specs.declared.session.Session.{Session}
 use Rattle.lst_session.specs.Parting.{known_by}
+use Rattle.lst_session.proofs.Growing.{same_extends}
 use Rattle.lst_legal_work.proofs.Telling.{extends_on, later_length}
-use Rattle.lst_work.specs.ParSums.{table_of, PartedHaveSeenAlike, SeenAlikeIsKept, HearersHaveGrown, SummersHaveGrown}
+use Rattle.lst_work.specs.ParSums.{table_of, IsAlone, PartedHaveSeenAlike, TellersKnow, HearersKnow, KnowersHaveSeenAlike, SeenAlikeIsKept, HearersHaveGrown, SummersHaveGrown}
 
 -- ---- the keys of rows
 
@@ -59,24 +64,24 @@ module _ (v : View) (p : Possible v) where
       (λ (r : IsRecorded (knows v s).facts key). (r.1, (r.0, r.2)))
       (seen_record s host low key)
 
-  module _ (host : hosts v 0 ≡ true) (low : 0 < v.limits.sessions) where
-    -- the record that the first session knows of
+  module _ (first : ℕ) (host : hosts v first ≡ true) (low : first < v.limits.sessions) where
+    -- the record that this session knows of
     place_by : ℕ → ℕ
-    place_by key = ⊎_elim (λ (none : all_acts_on key (knows v 0).seen ≡ []). 0) (λ (r : IsRecorded (knows v 0).facts key). r.1) (seen_record 0 host low key)
+    place_by key = ⊎_elim (λ (none : all_acts_on key (knows v first).seen ≡ []). 0) (λ (r : IsRecorded (knows v first).facts key). r.1) (seen_record first host low key)
 
-    placed : (commits : List Commit) → Extends (knows v 0).seen commits → (key : ℕ) (row : List Cell) → row_of (table_of commits) key ≡ Some row → HasKey (knows v 0).facts (place_by key) key
+    placed : (commits : List Commit) → Extends (knows v first).seen commits → (key : ℕ) (row : List Cell) → row_of (table_of commits) key ≡ Some row → HasKey (knows v first).facts (place_by key) key
     unfolding place_by
-    placed commits e key row at = choose (seen_record 0 host low key)
+    placed commits e key row at = choose (seen_record first host low key)
       where
-        choose : (q : (all_acts_on key (knows v 0).seen ≡ []) ⊎ IsRecorded (knows v 0).facts key) → HasKey (knows v 0).facts (⊎_elim (λ (none : all_acts_on key (knows v 0).seen ≡ []). 0) (λ (r : IsRecorded (knows v 0).facts key). r.1) q) key
-        choose (inl none) = absurd (no_row (knows v 0).seen commits key row e none at)
+        choose : (q : (all_acts_on key (knows v first).seen ≡ []) ⊎ IsRecorded (knows v first).facts key) → HasKey (knows v first).facts (⊎_elim (λ (none : all_acts_on key (knows v first).seen ≡ []). 0) (λ (r : IsRecorded (knows v first).facts key). r.1) q) key
+        choose (inl none) = absurd (no_row (knows v first).seen commits key row e none at)
         choose (inr r) = (r.0, r.2)
 
     -- is the one that every session knows of
-    all_placed : (commits : List Commit) → Extends (knows v 0).seen commits → (s : ℕ) → hosts v s ≡ true → s < v.limits.sessions → Extends (knows v s).seen commits
+    all_placed : (commits : List Commit) → Extends (knows v first).seen commits → (s : ℕ) → hosts v s ≡ true → s < v.limits.sessions → Extends (knows v s).seen commits
         → (key : ℕ) (row : List Cell) → row_of (table_of commits) key ≡ Some row → HasKey (knows v s).facts (place_by key) key
     all_placed commits e s hosted few f key row at = let own = row_record s hosted few commits f key row at in
-        subst (λ (rec : ℕ). HasKey (knows v s).facts rec key) (same_record v s p hosted 0 host own.0 (place_by key) key own.1 (placed commits e key row at)) own.1
+        subst (λ (rec : ℕ). HasKey (knows v s).facts rec key) (same_record v s p hosted first host own.0 (place_by key) key own.1 (placed commits e key row at)) own.1
 
   -- what a session has seen begins with the first commits of the history
   front_seen : (s time : ℕ) → hosts v s ≡ true → time ≤ length (knows v s).seen → Extends (knows v s).seen (take time (history_of v.limits (shown v.limits p.words)))
@@ -95,13 +100,47 @@ parted_have_seen_alike store v sessions merger time parted p hosted early =
     record {
       commits = commits;
       count = length-take-le time history (let a = later_length history (knows v 0).seen (is_seen v p.words p.known p.merger p.allowed 0 at_first) in let b = early 0 some in omega arith);
-      place = place_by v p at_first some;
+      place = place_by v p 0 at_first some;
       each = λ i none low. let few : i < v.limits.sessions = (let c = parted.count in omega arith) in let from = parted.each i none few in
           let same : known_by (get_or sessions i none) ≡ knows v i = ap (λ (n : ℕ). knows (get_or sessions i none).seat.view n) from.number ∙ from.part.knows_same in
           record {
             seen = subst (λ (k : Known). Extends k.seen commits) (sym same) (seen i few);
-            places = λ key row at. subst (λ (k : Known). HasKey k.facts (place_by v p at_first some key) key) (sym same) (all_placed v p at_first some commits (seen 0 some) i (hosted i (omega arith)) few (seen i few) key row at);
+            places = λ key row at. subst (λ (k : Known). HasKey k.facts (place_by v p 0 at_first some key) key) (sym same) (all_placed v p 0 at_first some commits (seen 0 some) i (hosted i (omega arith)) few (seen i few) key row at);
           };
+    }
+
+-- the session that tells a note is the one that its seat hosts
+teller_is : (session : Session) → IsAlone session → (s : ℕ) → hosts session.seat.view s ≡ true → s ≡ session.number
+teller_is session alone s hosted = eqb-true s session.number (sym (alone s) ∙ hosted)
+
+pub tellers_know : TellersKnow
+tellers_know store teller note alone told = let v = teller.seat.view in
+    let copy : note.view ≡ noted teller.number v = told.copy ∙ ap (λ (s : ℕ). noted s v) (teller_is teller alone told.teller told.hosted) in record {
+      seen = subst (λ (n : View). Extends (knows v teller.number).seen n.note) (sym copy) (same_extends (knows v teller.number).seen);
+      facts = λ f has. subst (λ (n : View). Contains n.note_facts f) copy has;
+    }
+
+pub hearers_know : HearersKnow
+hearers_know store old new note pass same h = let number = old.number in let now = h.now number pass.host in
+    let knows_new : known_by new ≡ knows new.seat.view number = ap (λ (s : ℕ). knows new.seat.view s) same in record {
+      seen = subst (λ (k : Known). Extends k.seen note.note) (sym knows_new) (h.told number pass.host);
+      facts = λ f has. subst (λ (k : Known). Contains k.facts f) (sym (knows_new ∙ now)) (Contains-append_right (known_by old).facts note.note_facts f has);
+    }
+
+pub knowers_have_seen_alike : KnowersHaveSeenAlike
+knowers_have_seen_alike store teller note sessions time pass alone p told early all =
+    let v = teller.seat.view in let number = teller.number in let seen = (knows v number).seen in let commits = take time seen in
+    let copy : note.view ≡ noted number v = told.copy ∙ ap (λ (s : ℕ). noted s v) (teller_is teller alone told.teller told.hosted) in
+    let few : time ≤ length seen = subst (λ (n : View). time ≤ length n.note) copy early in
+    let front : Extends seen commits = (drop time seen, sym (take-append-drop time seen)) in record {
+      commits = commits;
+      count = length-take-le time seen few;
+      place = place_by v p number pass.host pass.own;
+      each = λ i none low. let one = all i none low in record {
+        seen = extends_on commits seen (known_by (get_or sessions i none)).seen front (subst (λ (n : View). Extends (known_by (get_or sessions i none)).seen n.note) copy one.seen);
+        places = λ key row at. let h = placed v p number pass.host pass.own commits front key row at in
+            (h.0, one.facts (IndexAt h.0 (place_by v p number pass.host pass.own key) key) (subst (λ (n : View). Contains n.note_facts (IndexAt h.0 (place_by v p number pass.host pass.own key) key)) (sym copy) h.1));
+      };
     }
 
 pub seen_alike_is_kept : SeenAlikeIsKept

@@ -1,5 +1,5 @@
 -- Sessions that add up a column side by side, each over its share of the ranges.
-use Rattle.std.specs.Prelude.{◌≡◌, ℕ, ◌+◌, ◌-◌, ◌*◌, ◌/◌, ◌^◌, ◌<◌, ◌≤◌, List, [], ◌++◌, Some, false, length, slice_index_or}
+use Rattle.std.specs.Prelude.{◌≡◌, ℕ, ◌+◌, ◌-◌, ◌*◌, ◌/◌, ◌^◌, ◌<◌, ◌≤◌, List, [], ◌++◌, Some, false, eqb, length, slice_index_or}
 use Rattle.std.specs.List.{All}
 use Rattle.lst_model.specs.declared.commits.Commit.{Commit}
 use Rattle.lst_model.specs.Cells.{Cell}
@@ -11,16 +11,18 @@ use Rattle.lst_core_state.specs.State.{mine}
 use Rattle.lst_rule.specs.declared.store.Store.{Store}
 use Rattle.lst_rule.specs.declared.view.View.{View}
 use Rattle.lst_rule.specs.Learned.{Possible}
-use Rattle.lst_rule.specs.Rule.{knows}
+use Rattle.lst_rule.specs.Rule.{knows, hosts}
+use Rattle.lst_rule.specs.Seats.{Sitting}
 use Rattle.lst_rule.specs.Surveys.{HostsAll}
 use Rattle.lst_sights.specs.Copies.{Includes}
 use Rattle.lst_sights.specs.Seen.{HasKey}
 use Rattle.lst_scan.specs.Scans.{between}
+use Rattle.lst_seat.specs.Seats.{Tells, Hears}
 use Rattle.lst_session.specs.declared.passes.Merger.{Merger}
 use Rattle.lst_session.specs.declared.session.Session.{Session}
 use Rattle.lst_session.specs.Calls.{Called, SameLists}
 use Rattle.lst_session.specs.Lines.{CanBegin}
-use Rattle.lst_session.specs.Parting.{known_by, IsParted, HearMore}
+use Rattle.lst_session.specs.Parting.{IsPass, known_by, IsParted, HearMore}
 use Rattle.lst_session.specs.Passes.{IsReady}
 
 -- ---- before
@@ -117,6 +119,27 @@ pub record HaveGrown (old new : List Session) : Type 0 where
 abbrev pub PartedHaveSeenAlike : Type 0
 PartedHaveSeenAlike = (store : Store) (v : View) (sessions : List Session) (merger : Merger) (time : ℕ) → IsParted store v sessions merger → Possible v → HostsAll v
     → ((s : ℕ) → s < v.limits.sessions → time ≤ length (knows v s).seen) → HaveSeenAlike time sessions
+
+-- the session's seat hosts it alone, as that of a session of a crew that is parted does
+abbrev pub IsAlone : Session → Type 0
+IsAlone session = (s : ℕ) → hosts session.seat.view s ≡ eqb s session.number
+
+-- the session has seen first what the note tells, and its facts have those of the note
+pub record KnowsNote (note : View) (session : Session) : Type 0 where
+  pub seen : Extends (known_by session).seen note.note
+  pub facts : Includes (known_by session).facts note.note_facts
+
+-- so it is of the session that tells it, and of one that has heard it
+abbrev pub TellersKnow : Type 0
+TellersKnow = (store : Store) (teller : Session) (note : Sitting) → IsAlone teller → Tells store teller.seat.view note → KnowsNote note.view teller
+
+abbrev pub HearersKnow : Type 0
+HearersKnow = (store : Store) (old new : Session) (note : View) → IsPass store old → new.number ≡ old.number → Hears old.seat.view new.seat.view note → KnowsNote note new
+
+-- sessions that know one note have seen alike up to each time that it tells
+abbrev pub KnowersHaveSeenAlike : Type 0
+KnowersHaveSeenAlike = (store : Store) (teller : Session) (note : Sitting) (sessions : List Session) (time : ℕ) → IsPass store teller → IsAlone teller → Possible teller.seat.view → Tells store teller.seat.view note
+    → time ≤ length note.view.note → All (KnowsNote note.view) sessions → HaveSeenAlike time sessions
 
 -- and what they see and learn later leaves it so
 abbrev pub SeenAlikeIsKept : Type 0

@@ -11,7 +11,7 @@ ghost use Rattle.lst_session.specs.declared.session.Session.{Session as SessionV
 ghost use Rattle.lst_session.specs.Calls.{Begins, Ends, OnlyLooks};
 ghost use Rattle.lst_session.specs.Parting.{known_by, seen_at};
 ghost use Rattle.lst_session.specs.Passes.{IsReady};
-ghost use Rattle.lst_work.specs.ParSums.{CanBeginAsOf, HasSeenFirst, HaveSeenAlike, table_of, share_start, IsSumOf, CanShare, HaveShared, HasSummed, HaveSummed, PartedHaveSeenAlike, SeenAlikeIsKept, HearersHaveGrown, SummersHaveGrown};
+ghost use Rattle.lst_work.specs.ParSums.{CanBeginAsOf, HasSeenFirst, HaveSeenAlike, table_of, share_start, IsSumOf, CanShare, HaveShared, HasSummed, HaveSummed, PartedHaveSeenAlike, TellersKnow, HearersKnow, KnowersHaveSeenAlike, SeenAlikeIsKept, HearersHaveGrown, SummersHaveGrown};
 
 use lst_model::Time;
 use lst_rule::Store;
@@ -198,11 +198,15 @@ pub fn par_sum<R: Threads + Sync>(
     sum_shares(rt, store, sessions, time, column, 0, shares)
 }
 
-/// The sessions of a crew that is parted have seen alike up to each time that all of them had seen then. It stays so where what each has seen and its
+/// The sessions of a crew that is parted have seen alike up to each time that all of them had seen then. So have the one that tells a note and those that
+/// hear it, up to each time that the note tells. It stays so where what each has seen and its
 /// facts only grow; where the sessions hear of each other, as in `next_phase`, and where they add up a column, they only grow. A law: its contract holds
 /// at all values, and its body does nothing.
 pub fn sessions_see_alike()
     ensures parted { PartedHaveSeenAlike }
+    ensures teller { TellersKnow }
+    ensures hearer { HearersKnow }
+    ensures told { KnowersHaveSeenAlike }
     ensures kept { SeenAlikeIsKept }
     ensures heard { HearersHaveGrown }
     ensures summed { SummersHaveGrown }

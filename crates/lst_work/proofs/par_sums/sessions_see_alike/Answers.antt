@@ -1,8 +1,17 @@
-use Rattle.lst_work.proofs.SeenAlike.{parted_have_seen_alike, seen_alike_is_kept, hearers_have_grown, summers_have_grown}
+use Rattle.lst_work.proofs.SeenAlike.{parted_have_seen_alike, tellers_know, hearers_know, knowers_have_seen_alike, seen_alike_is_kept, hearers_have_grown, summers_have_grown}
 use Rattle.lst_work.proofs.par_sums.sessions_see_alike.Goals as goal
 
 pub returns-clause-parted : goal.returns-clause-parted
 returns-clause-parted c = parted_have_seen_alike
+
+pub returns-clause-teller : goal.returns-clause-teller
+returns-clause-teller c = tellers_know
+
+pub returns-clause-hearer : goal.returns-clause-hearer
+returns-clause-hearer c = hearers_know
+
+pub returns-clause-told : goal.returns-clause-told
+returns-clause-told c = knowers_have_seen_alike
 
 pub returns-clause-kept : goal.returns-clause-kept
 returns-clause-kept c = seen_alike_is_kept
