@@ -1,12 +1,12 @@
 -- The seats of two sessions, as a store that opens is parted, and once a note was heard.
 use Rattle.std.proofs.Common.{◌≡◌, ℕ, ◌+◌, List, [], ◌∷◌, ◌++◌, Bool, false, length, get_or, refl, sym, subst, ap, ◌∙◌, arith, eq-eqb, length-append}
-use Rattle.std.proofs.lemmas.List.{get_or_append_left, get_or_at, get_or-replicate}
+use Rattle.std.proofs.lemmas.List.{get_or_append_left, get_or_at}
 use Rattle.lst_layout.specs.declared.limits.Limits.{Limits}
 use Rattle.lst_core_state.specs.declared.known.Known.{Known}
 use Rattle.lst_core_state.specs.State.{newcomer}
 use Rattle.lst_rule.specs.declared.store.Store.{Store}
 use Rattle.lst_rule.specs.declared.view.View.{View}
-use Rattle.lst_rule.specs.Rule.{crew, knows, hosts}
+use Rattle.lst_rule.specs.Rule.{crew, knows}
 use Rattle.lst_rule.specs.Seats.{Sitting}
 use Rattle.lst_rule.specs.Stores.{IsSeatOf}
 use Rattle.lst_rule.proofs.Opening.{same_at}

@@ -90,7 +90,9 @@ fn commits(rt: &impl Abort, store: &Store, seat: &mut Seat, s: u32, key: Key, ti
 }
 
 /// The seat hosts the session, which has seen so many commits.
-fn has_seen(rt: &impl Abort, seat: &Seat, s: u32, time: Time) {
+fn has_seen(rt: &impl Abort, seat: &Seat, s: u32, time: Time)
+    ensures { hosts seat.now.view s ≡ true }
+{
     assert!(rt; s < seat.limits().sessions && seat.hosts(s));
     assert_eq!(rt; seat.seen(s), time);
 }
