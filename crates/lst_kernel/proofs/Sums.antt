@@ -1,9 +1,10 @@
 -- Sums over what the lanes of all steps hold.
-use Rattle.std.proofs.Common.{◌≡◌, ℕ, zero, suc, ◌+◌, ◌-◌, ◌*◌, ◌/◌, ◌%◌, ◌^◌, ◌<◌, ◌≤◌, Bool, true, false, cond, List, [], ◌∷◌, ◌++◌, map, filter, zip, sum, length, get_or, take, drop, replicate, Fits, w64, refl, sym, ap, ap₂, ◌∙◌, arith}
+use Rattle.std.proofs.Common.{◌≡◌, ℕ, zero, suc, ◌+◌, ◌-◌, ◌*◌, ◌/◌, ◌%◌, ◌^◌, ◌<◌, ◌≤◌, Bool, true, false, cond, List, [], ◌∷◌, ◌++◌, map, filter, zip, sum, length, get_or, take, drop, replicate, bit_or, Fits, w64, refl, sym, ap, ap₂, ◌∙◌, arith}
 use Rattle.std.proofs.Math.Seq.{take-add}
 use Rattle.std.proofs.lemmas.List.{map-append, length-map, length-take, length-drop, take-append-drop, take_all, take_more}
 use Rattle.std.proofs.lemmas.List.Sums.{sum_by-cons}
 use Rattle.std.proofs.lemmas.Simd.{length-zip2, length-chunk, sum-zip2, sum_bound, zip2_splat, adds_fit, sum_fits, fold-sum, Each1-chunk, Each1-weaker, Each1-from_get_or, get_or-zip2}
+use Rattle.std.proofs.lemmas.Nat.{le_or_l, le_or_r, or_lt}
 use lib.Lanes.{zip2, sum_l, fold_l, chunk, Each1, Each2, Steps}
 use Rattle.lst_kernel.specs.Entries.{is_seen, seen_values, lane_of}
 use Rattle.lst_kernel.proofs.Lanes.{plus}
@@ -209,3 +210,54 @@ module _ (vs : List ℕ) (few : length vs ≤ 256) (f : (k : ℕ) → Fits w64 (
       → ((rest : ℕ) → rest < 2 ^ 64 → fold_l plus 0 sums ≡ (fold_l (λ s x. s + x) 0 halves * 4294967296 + rest) % 2 ^ 64 → r ≡ fold_l (λ s x. s + x) 0 halves * 4294967296 + rest)
       → r ≡ sum vs
   all_is i r sums halves past low high joins = joined (take i vs) r sums halves (short_of_all i) low high joins ∙ ap sum_l (take_all i vs past) ∙ sum_l_is vs
+
+-- ---- all values, where each has at most 56 bits
+
+abbrev pub greatest : ℕ
+greatest = 72057594037927935
+
+abbrev pub AreNarrow : List ℕ → Type 0
+AreNarrow xs = Each1 (λ x. x ≤ greatest) xs
+
+-- each word of a list, and the one before it, is at most what all have in bits
+pub narrow_words : (a : ℕ) (xs : List ℕ) → fold_l bit_or a xs ≤ greatest → (a ≤ greatest) × AreNarrow xs
+narrow_words a [] low = (low, tt)
+narrow_words a (x ∷ xs) low = let rest = narrow_words (bit_or a x) xs low in (omega (arith, le_or_l a x), (omega (arith, le_or_r a x), rest.1))
+
+narrow_parts : (xs ys : List ℕ) → length xs ≡ length ys → AreNarrow (zip2 bit_or xs ys) → AreNarrow xs × AreNarrow ys
+narrow_parts [] [] long all = (tt, tt)
+narrow_parts [] (y ∷ ys) long all = absurd (omega arith)
+narrow_parts (x ∷ xs) [] long all = absurd (omega arith)
+narrow_parts (x ∷ xs) (y ∷ ys) long all =
+    let rest = narrow_parts xs ys (omega arith) all.1 in
+    ((omega (arith, le_or_l x y, all.0), rest.0), (omega (arith, le_or_r x y, all.0), rest.1))
+
+pub narrow_step : (vs bits : List ℕ) (i : ℕ) → length bits ≡ 8 → i + 8 ≤ length vs → (AreNarrow bits → sum_l (take i vs) ≤ greatest * i)
+    → AreNarrow (zip2 bit_or bits (chunk i 8 vs)) → sum_l (take (i + 8) vs) ≤ greatest * (i + 8)
+narrow_step vs bits i wide within before all =
+    let long = length-chunk i 8 vs within in
+    let parts = narrow_parts bits (chunk i 8 vs) (wide ∙ sym long) all in
+    let added = ap sum_l (take-add i 8 vs) ∙ sum_l-append (take i vs) (chunk i 8 vs) in
+    omega (arith, before parts.0, sum_bound greatest (chunk i 8 vs) parts.1)
+
+pub narrow_is : (vs sums bits : List ℕ) (i : ℕ) → length vs ≡ 256 → length vs ≤ i → i ≤ length vs → sum_l sums % 2 ^ 64 ≡ sum_l (take i vs) % 2 ^ 64
+    → (AreNarrow bits → sum_l (take i vs) ≤ greatest * i) → fold_l bit_or 0 bits < 2 ^ 56 → fold_l plus 0 sums ≡ sum vs
+narrow_is vs sums bits i long past within low before narrow =
+    let few = before (narrow_words 0 bits (omega arith)).1 in
+    let whole = ap sum_l (take_all i vs past) ∙ sum_l_is vs in
+    omega (arith, folded 0 sums (omega arith))
+
+or_narrow : (a b : ℕ) → a ≤ greatest → b ≤ greatest → bit_or a b ≤ greatest
+or_narrow a b first second = omega (arith, or_lt 56 a b (omega arith) (omega arith))
+
+pub narrow_lanes : (xs ys : List ℕ) → AreNarrow xs → AreNarrow ys → AreNarrow (zip2 bit_or xs ys)
+narrow_lanes [] ys first second = tt
+narrow_lanes (x ∷ xs) [] first second = tt
+narrow_lanes (x ∷ xs) (y ∷ ys) first second = (or_narrow x y first.0 second.0, narrow_lanes xs ys first.1 second.1)
+
+pub narrow_fold : (a : ℕ) (xs : List ℕ) → a ≤ greatest → AreNarrow xs → fold_l bit_or a xs ≤ greatest
+narrow_fold a [] low all = low
+narrow_fold a (x ∷ xs) low all = narrow_fold (bit_or a x) xs (or_narrow a x low all.0) all.1
+
+pub narrow_chunk : (vs : List ℕ) (i : ℕ) → length vs ≡ 256 → ((k : ℕ) → k < 256 → get_or vs k 0 < 2 ^ 56) → AreNarrow (chunk i 8 vs)
+narrow_chunk vs i long all = Each1-chunk (λ x. x ≤ greatest) i 8 vs (Each1-from_get_or (λ x. x ≤ greatest) vs 0 (λ k low. omega (arith, all k (omega arith))))

@@ -4,7 +4,7 @@
 //! present. A reader that began at some time sees the entries that are present with a time of at most that.
 #![tactic(auto)]
 
-ghost use Rattle.std.specs.Prelude.{◌≡◌, ◌<◌, ◌≤◌, ◌+◌, ◌*◌, ◌%◌, ◌^◌, ℕ, length, sum, count_by};
+ghost use Rattle.std.specs.Prelude.{◌≡◌, ◌≢◌, ◌<◌, ◌≤◌, ◌+◌, ◌*◌, ◌%◌, ◌^◌, ℕ, IfSome, None, length, slice_index, sum, count_by};
 ghost use Rattle.std.specs.Simd.Lanes.{zip2};
 ghost use Rattle.lst_kernel.specs.Entries.{is_seen, seen_values, lane_of};
 
@@ -28,7 +28,10 @@ pub fn sum_where(values: &[u64; 256], times: &[u64; 256], begin: u64) -> u128
 pub fn sum_all(values: &[u64; 256]) -> u128
     ensures { result ≡ sum values.now }
 {
-    sum_all_by_lanes(values)
+    match sum_narrow(values) {
+        Some(total) => u128::from(total),
+        None => sum_all_by_lanes(values),
+    }
 }
 
 /// How many of a page's entries are present with a time of at most `begin`, where `times` has the entries' time words.
@@ -79,6 +82,28 @@ fn sum_by_lanes(values: &[u64], times: &[u64], begin: u64) -> u128
         at += LANES;
     }
     sum_from(sums.reduce_sum(), high_halves.strict_reduce_sum())
+}
+
+/// The sum of all values of a page, added in 64 bits. None comes where a value has more than 56 bits, since 256 of those may be too much.
+fn sum_narrow(values: &[u64]) -> Option<u64>
+    requires { length values.now ≡ 256 }
+    ensures sum { IfSome result (λ total. total ≡ sum values.now) }
+    ensures none { ((i : ℕ) → i < 256 → slice_index values.now i < 2 ^ 56) → result ≢ None }
+{
+    let mut sums = u64x8::splat(0);
+    let mut bits = u64x8::splat(0);
+    let mut at = 0;
+    while at + LANES <= values.len() {
+        let lanes = u64x8::from_slice(&values[at..]);
+        sums += lanes;
+        bits |= lanes;
+        at += LANES;
+    }
+    if bits.reduce_or() < 1 << 56 {
+        Some(sums.reduce_sum())
+    } else {
+        None
+    }
 }
 
 /// The sum of all values of a page, in the two parts in which `sum_by_lanes` keeps it.

@@ -180,6 +180,17 @@ fn all_values_are_added(rt: HostRuntime) {
         sum_of_all(&[u64::MAX; 256]),
         256 * 18_446_744_073_709_551_615
     );
-    values[255] = 1 << 63;
-    assert_eq!(rt; sum_of_all(&values), 9_223_372_036_854_808_193);
+    for (greatest, sum) in [
+        ((1 << 56) - 1, 72_057_594_037_960_320),
+        (1 << 56, 72_057_594_037_960_321),
+        (1 << 63, 9_223_372_036_854_808_193),
+    ] {
+        values[255] = greatest;
+        assert_eq!(rt; sum_of_all(&values), sum, "{greatest}");
+    }
+    assert_eq!(rt;
+        sum_of_all(&[(1 << 56) - 1; 256]),
+        18_446_744_073_709_551_360
+    );
+    assert_eq!(rt; sum_of_all(&[1 << 56; 256]), 18_446_744_073_709_551_616);
 }
