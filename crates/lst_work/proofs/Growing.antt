@@ -7,6 +7,9 @@ module _ (P : List (Option ℕ × Reply) → Type 0) (old now : List (Option ℕ
   pub grown_by_none : now ≡ old → P [] → GrowsBy P old now
   grown_by_none is none = record { added = []; grows = is ∙ sym (append-nil old); so = none }
 
+  pub grown_from : (older : List (Option ℕ × Reply)) → old ≡ older → GrowsBy P old now → GrowsBy P older now
+  grown_from older is x = record { added = x.added; grows = x.grows ∙ ap (λ (rs : List (Option ℕ × Reply)). rs ++ x.added) is; so = x.so }
+
   -- where nothing was there before
   pub grown_alone : old ≡ [] → GrowsBy P old now → P now
   grown_alone none x = subst P (sym (x.grows ∙ ap (λ (rs : List (Option ℕ × Reply)). rs ++ x.added) none)) x.so

@@ -26,10 +26,3 @@ pub use scripts::run_script;
 pub use totals::work_total;
 pub use workers::{Worker, run_lines, work_phase};
 pub use working::work_on;
-
-#[cfg(test)]
-mod line_tests;
-#[cfg(test)]
-mod par_tests;
-#[cfg(test)]
-mod work_tests;

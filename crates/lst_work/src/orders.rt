@@ -33,6 +33,23 @@ fn speaker(line: &Line) -> Option<u32>
     }
 }
 
+/// Makes room behind these replies for so many more, and writes each place of it once: so the process has the memory when they are put there. Nothing is
+/// promised of the room, and where memory doesn't suffice there is none.
+pub(crate) fn make_room(replies: &mut Vec<(Option<u32>, Reply)>, more: usize)
+    ensures { replies.new.items ≡ replies.old.items }
+{
+    let count = replies.len();
+    if replies.reserve(more).is_err() {
+        return;
+    }
+    for _ in 0..more {
+        if replies.push((None, Reply::Silent)).is_err() {
+            break;
+        }
+    }
+    replies.truncate(count);
+}
+
 /// Puts the replies to these lines behind others, in the order of the lines. Each session's stand in the queue with its number, and those to merges
 /// in the last one.
 pub(crate) fn put_in_order(

@@ -8,8 +8,9 @@ ghost use Rattle.lst_work.specs.Workers.{AreReady, AllHaveWorked};
 
 use crate::gates::Gate;
 use crate::merging::{MergeQueue, run_merges};
+use crate::orders::make_room;
 use crate::workers::{Worker, work_phase};
-use lst_model::Line;
+use lst_model::{Line, Reply};
 use lst_rule::Store;
 use lst_session::{CommitLock, Merger};
 use std::alloc::Global;
@@ -44,7 +45,28 @@ fn run_workers<R: Threads + Wait + Sync, G: Gate + Sync>(
     );
 }
 
-/// The workers run their sessions' lines beside each other, and beside them the merge worker makes the merges.
+/// Makes the merges among these lines, and then room for the replies to all of them, behind those to earlier lines.
+fn merge_and_make_room<G: Gate>(
+    store: &Store,
+    gate: &G,
+    first: u64,
+    lines: &[Line],
+    merger: &mut Merger,
+    queue: &mut MergeQueue,
+    replies: &mut Vec<(Option<u32>, Reply)>,
+)
+    requires merger { IsMergerOf store.now merger.old }
+    requires can { All (CanRun store.now.layout.limits) lines.now }
+    requires places { first + length lines.now < 2 ^ 64 }
+    ensures merges { HasMerged store.now lines.now merger.old merger.new queue.old queue.new }
+    ensures replies { replies.new.items ≡ replies.old.items }
+{
+    run_merges(store, gate, first, lines, merger, queue);
+    make_room(replies, lines.len());
+}
+
+/// The workers run their sessions' lines beside each other, and beside them the merge worker makes the merges, and room behind the replies to earlier
+/// lines.
 pub fn run_phase<R: Threads + Wait + Sync, G: Gate + Sync>(
     rt: &R,
     alloc: Global,
@@ -56,6 +78,7 @@ pub fn run_phase<R: Threads + Wait + Sync, G: Gate + Sync>(
     workers: &mut [Worker],
     merger: &mut Merger,
     queue: &mut MergeQueue,
+    replies: &mut Vec<(Option<u32>, Reply)>,
 )
     requires ready { AreReady store.now workers.old }
     requires merger { IsMergerOf store.now merger.old }
@@ -63,6 +86,7 @@ pub fn run_phase<R: Threads + Wait + Sync, G: Gate + Sync>(
     requires places { first + length lines.now < 2 ^ 64 }
     ensures sessions { AllHaveWorked store.now lines.now workers.old workers.new }
     ensures merges { HasMerged store.now lines.now merger.old merger.new queue.old queue.new }
+    ensures replies { replies.new.items ≡ replies.old.items }
 {
     join_mut(
         rt,
@@ -75,6 +99,6 @@ pub fn run_phase<R: Threads + Wait + Sync, G: Gate + Sync>(
             requires merger { IsMergerOf store.now merger.now }
             requires can { All (CanRun store.now.layout.limits) lines.now }
             requires places { first + length lines.now < 2 ^ 64 }
-        { run_merges(store, gate, first, lines, merger, queue) },
+        { merge_and_make_room(store, gate, first, lines, merger, queue, replies) },
     );
 }

@@ -45,6 +45,7 @@ fn try_phase<R: Threads + Wait + Sync, G: Gate + Sync>(
     workers: &mut [Worker],
     merger: &mut Merger,
     queue: &mut MergeQueue,
+    replies: &mut Vec<(Option<u32>, Reply)>,
 ) -> Result<(), OutOfMemory>
     requires ready { AreReady store.now workers.old }
     requires merger { IsMergerOf store.now merger.old }
@@ -54,9 +55,10 @@ fn try_phase<R: Threads + Wait + Sync, G: Gate + Sync>(
     ensures merger { IsMergerOf store.now merger.new }
     ensures ran { OnOk result (HaveRun lines.now workers.old workers.new) }
     ensures merged { OnOk result (Merged lines.now merger.old merger.new queue.old queue.new) }
+    ensures replies { replies.new.items ≡ replies.old.items }
 {
     run_phase(
-        rt, alloc, store, lock, gate, first, lines, workers, merger, queue,
+        rt, alloc, store, lock, gate, first, lines, workers, merger, queue, replies,
     );
     if queue.has_failed || has_any_failed(workers) {
         return Err(OutOfMemory);
@@ -100,6 +102,7 @@ fn phase_onto<R: Threads + Wait + Sync, G: Gate + Sync>(
         workers.as_mut_slice(),
         merger,
         &mut queue,
+        replies,
     )?;
     let (sessions, mut queues) = dismissed(alloc, workers, queue.replies)?;
     put_in_order(count, lines, queues.as_mut_slice(), replies)?;

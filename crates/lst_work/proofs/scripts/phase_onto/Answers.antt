@@ -9,7 +9,7 @@ use Rattle.lst_work.specs.Workers.{AreReady, HaveRun}
 use Rattle.lst_work.specs.Orders.{queue_at, lines_from, AreInOrder}
 use Rattle.lst_work.specs.Hiring.{sessions_of, replies_of}
 use Rattle.lst_legal_work.specs.Whole.{AreAll, IsPhase}
-use Rattle.lst_work.proofs.Growing.{grown_as}
+use Rattle.lst_work.proofs.Growing.{grown_as, grown_from}
 use Rattle.lst_work.proofs.Merges.{fresh_merging, merging_long}
 use Rattle.lst_work.proofs.Wholes.{written, ready_first, all_after, queues_long, phase_is}
 use Rattle.lst_work.proofs.scripts.phase_onto.Goals as goal
@@ -54,7 +54,7 @@ returns-clause-phase g c =
     let long : length last ≡ length items = c.try_phase.auto.workers ∙ ap length value in
     let after = written items last c.in_ok-workers.workers.len long (sym c.as_mut_slice.ensures.len ∙ ap length value) in
     let ran = subst (λ (ws : List Worker). HaveRun lines ws last) value c.in_ok-try_phase.ensures.ran in
-    let x = c.in_ok-put_in_order.ensures in
+    let x = grown_from _ c.try_phase.new.replies.items c.put_in_order.new.replies.items c.args.replies.now.items c.in_ok-try_phase.ensures.replies c.in_ok-put_in_order.ensures in
     let ordered = subst (λ (qs : List (List Reply)). AreInOrder c.args.store.now.layout.limits.sessions lines qs x.added)
     (ap (map (λ q. q.items)) c.as_mut_slice-2.ensures.value ∙ (e.queues ∙ ap (λ (ws : List Worker). replies_of ws ++ merges ∷ []) after))
     (subst (λ (y : Layout). AreInOrder y.limits.sessions lines (map (λ q. q.items) c.as_mut_slice-2.result.now) x.added) c.layout.ensures x.so) in
