@@ -5,7 +5,7 @@ use Rattle.lst_command.specs.declared.command.Command.{Command}
 use Rattle.lst_command.specs.declared.command.Command.TheVariants.{Load}
 use Rattle.lst_command.specs.declared.status.Status.{Status}
 use Rattle.lst_command.specs.declared.status.Status.TheVariants.{Done, Illegal, Usage, BadScript, TooLong, ReadFault, WriteFault, OutOfMemory}
-use Rattle.lst_command.specs.Answers.{Change, Makes, MakesOfLoad, Refuses, RefusesLoad, Says}
+use Rattle.lst_command.specs.Answers.{Change, Makes, MakesOfLoad, Refuses, RefusesLoad}
 use Rattle.lst_command.specs.Commands.{Names}
 use Rattle.lst_command.specs.Loads.{LoadsReadNothing}
 use Rattle.lst_command.specs.Runs.{Left}

@@ -37,7 +37,7 @@ use Rattle.lst_session.specs.Crews.{store_told}
 use Rattle.lst_legal_work.specs.Lines.{session_told}
 use Rattle.lst_legal_work.specs.Worked.{IsWorked}
 use Rattle.lst_legal_work.proofs.Mergers.{all_at}
-use Rattle.lst_work.specs.Totals.{state_behind, MayBeginAgain, HasNoTotal, IsTotal, IsWorkedTotal}
+use Rattle.lst_work.specs.Totals.{state_behind, MayBeginAgain, HasNoTotal, IsTotal}
 use Rattle.lst_work.proofs.Totalling.{told_behind, never_both}
 use Rattle.lst_script.specs.Counted.{LineWritesOwn, is_write, IsCounted}
 use Rattle.lst_script.specs.Generated.{range_count, course_at, final_lines, inserts, transfers, generated}

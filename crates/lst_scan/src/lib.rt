@@ -6,20 +6,14 @@
 #![tactic(auto)]
 
 mod finds;
-#[cfg(test)]
-mod index_tests;
 mod laws;
 mod lines;
 mod lists;
 mod paged;
 mod readers;
 mod records;
-#[cfg(test)]
-mod session_tests;
 mod sessions;
 mod sums;
-#[cfg(test)]
-mod tests;
 
 pub use finds::FindRefusal;
 pub use laws::{

@@ -1,7 +1,6 @@
 -- Whether an act fits the row that a transaction sees, and what stays of a judged chain while the row is read.
-use Rattle.std.proofs.Common.{slice_index_or, ◌≡◌, ◌⊎◌, ℕ, ◌<◌, List, [], ◌∷◌, ◌++◌, Bool, true, false, Option, Some, None, is_some, Result, Ok, Err, refl, sym, subst, ap, ◌∙◌, inl, inr, true≢false}
+use Rattle.std.proofs.Common.{slice_index_or, ◌≡◌, ℕ, ◌<◌, List, [], ◌∷◌, ◌++◌, Bool, true, false, Option, Some, None, is_some, Result, Ok, Err, refl, sym, subst, ap, ◌∙◌, inl, inr, true≢false}
 use mathlib.Core.Bool.{beq}
-use Rattle.std.specs.List.{Contains}
 use Rattle.lst_layout.specs.declared.limits.Limits.{Limits}
 use Rattle.lst_model.specs.declared.acts.Act.{Act}
 use Rattle.lst_model.specs.declared.acts.Act.TheVariants.{Put, Set, Del}
@@ -9,7 +8,6 @@ use Rattle.lst_model.specs.Cells.{Cell}
 use Rattle.lst_model.specs.Histories.{acts_on, all_acts_on, row_from}
 use Rattle.lst_model.specs.Soundness.{Fits}
 use Rattle.lst_core_state.specs.declared.known.Known.{Known}
-use Rattle.lst_core_state.specs.declared.facts.Fact.{Fact}
 use Rattle.lst_core_state.specs.Cells.{record_count}
 use Rattle.lst_core_state.specs.State.{sight}
 use Rattle.lst_rule.specs.declared.view.View.{View}
@@ -17,7 +15,7 @@ use Rattle.lst_rule.specs.Rule.{knows, hosts}
 use Rattle.lst_rule.specs.Learned.{Possible}
 use Rattle.lst_sights.specs.Copies.{Version, IsCopy, Includes}
 use Rattle.lst_sights.specs.Seen.{sees, SeesAlike, HasKey}
-use Rattle.lst_sights.specs.Judging.{IsClosed, IsJudged}
+use Rattle.lst_sights.specs.Judging.{IsJudged}
 use Rattle.lst_sights.specs.Watching.{Watched}
 use Rattle.lst_sights.specs.Laws.{KeptBy}
 use Rattle.lst_sights.proofs.Copying.{copies_stay}

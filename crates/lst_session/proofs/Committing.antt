@@ -36,7 +36,7 @@ use Rattle.lst_crew_state.proofs.Owns.{own_writes_are_told}
 use Rattle.lst_crew_state.proofs.Ended.{commits_are_told}
 use Rattle.lst_session.specs.Crews.{words_of, store_told}
 use Rattle.lst_session.specs.Replies.{commit_reply}
-use Rattle.lst_session.proofs.Crewed.{IsCrewView, StoreAnswers, allowed_whole, core_of, hosted_all, known_is, is_crew, told_is, others_on, opened_some, same_draws, crew_after, told_on}
+use Rattle.lst_session.proofs.Crewed.{IsCrewView, StoreAnswers, allowed_whole, core_of, known_is, is_crew, told_is, others_on, opened_some, same_draws, crew_after, told_on}
 use Rattle.lst_session.proofs.Ending.{closed_crew, closed_told}
 use Rattle.lst_session.proofs.Pinning.{unpinned_crew, unpinned_told, answers_to}
 

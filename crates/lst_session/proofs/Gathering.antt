@@ -1,23 +1,22 @@
 -- Sessions are gathered: a session of each number is there, and has seen the whole history at the seat of all.
-use Rattle.std.proofs.Common.{◌≡◌, ◌⊎◌, ℕ, suc, zero, ◌+◌, ◌<◌, ◌≤◌, List, [], ◌∷◌, ◌++◌, Bool, true, false, ◌||◌, eqb, length, map, get_or, refl, sym, subst, ap, ◌∙◌, arith, true≢false, append_assoc, length-append}
-use Rattle.std.specs.List.{All, Any, list_any}
-use Rattle.std.proofs.lemmas.Bool.{eq-eqb, eqb-true}
+use Rattle.std.proofs.Common.{◌≡◌, ℕ, ◌+◌, ◌<◌, ◌≤◌, List, [], ◌∷◌, ◌++◌, Bool, true, false, ◌||◌, eqb, length, map, get_or, refl, sym, subst, ap, ◌∙◌, arith, true≢false, append_assoc, length-append}
+use Rattle.std.specs.List.{All, list_any}
+use Rattle.std.proofs.lemmas.Bool.{eqb-true}
 use Rattle.std.proofs.lemmas.List.{get_or-map, length-map, map-append}
 use Rattle.std.proofs.lemmas.List.Folds.{Any-from_list_any, list_any_at}
 use Rattle.lst_layout.specs.declared.limits.Limits.{Limits}
 use Rattle.lst_core_state.specs.declared.known.Known.{Known}
 use Rattle.lst_rule.specs.declared.store.Store.{Store}
-use Rattle.lst_rule.specs.declared.view.View.{View}
 use Rattle.lst_rule.specs.Rule.{knows, hosts}
 use Rattle.lst_rule.specs.Seats.{Sitting}
 use Rattle.lst_rule.specs.Stores.{IsSeatOf}
-use Rattle.lst_seat.specs.Seats.{hosted_by, AreAllHosted, IsGap, Gathers, HasSeenAll, IsGatheredFrom}
+use Rattle.lst_seat.specs.Seats.{AreAllHosted, IsGap, Gathers, HasSeenAll, IsGatheredFrom}
 use Rattle.lst_rule.specs.PageSteps.{stock_of}
 use Rattle.lst_retire.specs.Frames.{AreSpares}
 use Rattle.lst_crew_state.specs.Crews.{IsIdle, IsPinnedWhereOpen}
 use Rattle.lst_session.specs.declared.crew.Crew.{Crew}
 use Rattle.lst_session.specs.declared.session.Session.{Session}
-use Rattle.lst_session.specs.Crews.{IsCrewOf, store_told}
+use Rattle.lst_session.specs.Crews.{IsCrewOf}
 use Rattle.lst_session.specs.Parting.{IsPass, has_number, known_by, AreAllThere, IsGathered}
 use Rattle.lst_session.specs.Passes.{IsReady}
 use Rattle.lst_session.proofs.Growing.{away_stays}

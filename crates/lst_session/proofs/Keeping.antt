@@ -1,5 +1,5 @@
 -- Between two calls a crew has nothing in hand, whatever its calls answer.
-use Rattle.std.proofs.Common.{◌≡◌, ◌⊎◌, ℕ, ◌+◌, ◌<◌, List, [], Bool, false, true, Option, Result, Ok, Err, IfOk, IfErr, OnOk, OnErr, refl, sym, subst, ap, ◌∙◌, arith, inl, inr, slice_index_or}
+use Rattle.std.proofs.Common.{◌≡◌, ◌⊎◌, ℕ, ◌<◌, List, Bool, false, true, Result, Ok, Err, IfOk, IfErr, OnOk, OnErr, refl, sym, subst, ap, ◌∙◌, arith, inl, inr, slice_index_or}
 use mathlib.Core.Logic.{dite}
 use native.Mathlib.Decide.{ℕ_discrete}
 use Rattle.lst_layout.specs.declared.limits.Limits.{Limits}
@@ -27,7 +27,7 @@ use Rattle.lst_crew_state.specs.Crews.{IsIdle, IsPinnedWhereOpen}
 use Rattle.lst_session.specs.declared.crew.Crew.{Crew}
 use Rattle.lst_session.specs.Calls.{Called, Begins, IsAhead, Accepts, Refuses, Cause, FindsLatch, Ends}
 use Rattle.lst_session.specs.Crews.{IsCrewOf}
-use Rattle.lst_session.proofs.Growing.{Grown, stock_stays, called, same_extends, same_facts, same_finds}
+use Rattle.lst_session.proofs.Growing.{stock_stays, called, same_extends, same_facts, same_finds}
 use Rattle.lst_session.proofs.Turning as turning
 
 -- ---- the crew after a call

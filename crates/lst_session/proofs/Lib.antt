@@ -33,5 +33,4 @@ pub mod Recounting
 pub mod Parting
 pub mod Gathering
 pub mod Telling
-pub mod ByHand
 pub mod Waiting

@@ -1,18 +1,15 @@
 -- A merge of the crew: the crew stays one, and where it tells a state of the machine, the answer is the machine's, and it tells the next state.
-use Rattle.std.proofs.Common.{◌≡◌, ◌≢◌, ℕ, ◌+◌, ◌<◌, ◌≤◌, List, Bool, true, false, length, slice_index_or, refl, sym, subst, ap, ◌∙◌, arith}
+use Rattle.std.proofs.Common.{◌≡◌, ℕ, ◌+◌, ◌<◌, ◌≤◌, List, Bool, false, slice_index_or, refl, sym, subst, ap, ◌∙◌, arith}
 use Rattle.std.specs.Prelude.{None}
 use Rattle.lst_layout.specs.declared.limits.Limits.{Limits}
-use Rattle.lst_layout.specs.Words.{Words, shown}
+use Rattle.lst_layout.specs.Words.{Words}
 use Rattle.lst_model.specs.declared.lines.Line.TheVariants as line
 use Rattle.lst_model.specs.declared.replies.Reply.{Reply}
-use Rattle.lst_machine.specs.State.{Store as Machine, Pages}
+use Rattle.lst_machine.specs.State.{Store as Machine}
 use Rattle.lst_machine.specs.Merges as machine
 use Rattle.lst_core_state.specs.declared.known.Known.{Known}
 use Rattle.lst_core_state.specs.declared.pages.MergerFrames.{MergerFrames}
-use Rattle.lst_core_state.specs.declared.pages.Retired.{Retired}
 use Rattle.lst_core_state.specs.State.{Core}
-use Rattle.lst_pages.specs.Lists.{Every}
-use Rattle.lst_pages.specs.Settled.{settled_tails}
 use Rattle.lst_pages.specs.Sound.{IsPage}
 use Rattle.lst_pages.specs.State.{oldest_epoch}
 use Rattle.lst_pages.specs.Step.{lets_go}
@@ -26,10 +23,10 @@ use Rattle.lst_rule.specs.Stores.{IsSeatOf}
 use Rattle.lst_retire.specs.Frames.{AreSpares}
 use Rattle.lst_merge.specs.declared.answers.Merge.{Merge}
 use Rattle.lst_merge.specs.declared.answers.Merge.TheVariants.{Merged, Idle, NoFrame}
-use Rattle.lst_merge.specs.Merges.{OnlyPages, MergesAs, Merges, settled_count}
+use Rattle.lst_merge.specs.Merges.{OnlyPages, Merges}
 use Rattle.lst_crew_state.specs.Crews.{IsIdle, IsPinnedWhereOpen, IsPinnedCrew}
-use Rattle.lst_crew_state.specs.Effects.{SamePinEach, SameStock, TellAlike}
-use Rattle.lst_crew_state.specs.Laws.{IsMergedTo, AreSettled, pin_lets_go}
+use Rattle.lst_crew_state.specs.Effects.{SamePinEach, TellAlike}
+use Rattle.lst_crew_state.specs.Laws.{IsMergedTo, pin_lets_go}
 use Rattle.lst_core_state.specs.Cells.{record_count}
 use Rattle.lst_core_state.specs.Index.{is_placed}
 use Rattle.lst_crew_state.specs.Telling.{told, pages_told, told_pages}
@@ -42,7 +39,7 @@ use Rattle.lst_session.specs.Parting.{IsMergerOf}
 use Rattle.lst_session.specs.Crews.{words_of, IsCrewOf, TellsState, AnswersLine, store_told, pages_known}
 use Rattle.lst_session.specs.Lines.{MergeLeaves}
 use Rattle.lst_session.specs.Replies.{merge_reply}
-use Rattle.lst_session.proofs.Crewed.{IsCrewView, allowed_whole, core_of, hosted_all, known_is, is_crew, told_is, stock_is, pages_is, told_on, same_known, same_draws}
+use Rattle.lst_session.proofs.Crewed.{IsCrewView, allowed_whole, core_of, hosted_all, known_is, is_crew, told_is, stock_is, pages_is, told_on, same_known}
 
 -- ---- what every merge leaves
 

@@ -1,9 +1,8 @@
 -- The page part of the state that a crew tells after a session's call: told by the session's pin, while the merger's stock stays.
-use Rattle.std.proofs.Common.{◌≡◌, ◌≢◌, ◌⊎◌, ℕ, ◌+◌, ◌<◌, true, false, Option, Some, Result, Ok, Err, IfOk, IfErr, OnOk, OnErr, refl, sym, subst, ap, ◌∙◌, inl, inr}
+use Rattle.std.proofs.Common.{◌≡◌, ◌⊎◌, ℕ, ◌+◌, ◌<◌, true, false, Result, Ok, Err, IfOk, IfErr, OnOk, OnErr, refl, sym, subst, ap, ◌∙◌, inl, inr}
 use mathlib.Core.Logic.{dite}
 use native.Mathlib.Decide.{ℕ_discrete}
 use Rattle.lst_layout.specs.declared.limits.Limits.{Limits}
-use Rattle.lst_model.specs.Cells.{Cell}
 use Rattle.lst_model.specs.declared.acts.Act.{Act}
 use Rattle.lst_model.specs.declared.lines.Call.{Call}
 use Rattle.lst_model.specs.declared.lines.Call.TheVariants as call
@@ -12,7 +11,6 @@ use Rattle.lst_model.specs.declared.replies.Cause.{Cause}
 use Rattle.lst_model.specs.declared.replies.Cause.TheVariants as cause
 use Rattle.lst_model.specs.declared.replies.Reply.{Reply}
 use Rattle.lst_model.specs.declared.replies.Reply.TheVariants.{Begun, Refused}
-use Rattle.lst_machine.specs.State.{Opened, Pages}
 use Rattle.lst_machine.specs.Merges.{ended_where, pages_after_call}
 use Rattle.lst_core_state.specs.declared.known.Known.{Known}
 use Rattle.lst_core_state.specs.declared.pages.MergerFrames.{MergerFrames}
@@ -31,7 +29,7 @@ use Rattle.lst_session.specs.declared.kinds.Outcome.TheVariants.{Committed, Ende
 use Rattle.lst_session.specs.Traces as traces
 use Rattle.lst_session.specs.Calls as calls
 use Rattle.lst_sights.specs.Watching.{SamePins}
-use Rattle.lst_session.specs.Calls.{Called, TakesPinAway, OnlyLooks, Begins, IsAhead, Gets, Accepts, Refuses}
+use Rattle.lst_session.specs.Calls.{Called, TakesPinAway, OnlyLooks, Begins, IsAhead, Accepts, Refuses}
 use Rattle.lst_session.specs.Crews.{store_told, pages_known, state_told, Answers, AnswersLine}
 use Rattle.lst_session.specs.Replies.{begin_cause, begin_reply, commit_reply, abort_reply}
 use Rattle.lst_session.proofs.Crewed.{StoreAnswers, opened_by, opened_some}

@@ -1,22 +1,19 @@
 -- A crew is parted: what stands at each place of the list of its sessions.
-use Rattle.std.proofs.Common.{◌≡◌, ℕ, suc, zero, ◌+◌, ◌<◌, ◌≤◌, List, [], ◌∷◌, ◌++◌, true, eqb, length, get_or, refl, sym, subst, ap, ◌∙◌, arith, eq-eqb, append_assoc, length-append}
+use Rattle.std.proofs.Common.{◌≡◌, ℕ, suc, zero, ◌+◌, ◌<◌, ◌≤◌, List, [], ◌∷◌, ◌++◌, length, get_or, refl, sym, subst, ap, ◌∙◌, arith, eq-eqb, append_assoc, length-append}
 use Rattle.std.specs.List.{All}
 use Rattle.lst_layout.specs.declared.limits.Limits.{Limits}
 use Rattle.lst_core_state.specs.declared.known.Known.{Known}
 use Rattle.lst_rule.specs.declared.store.Store.{Store}
 use Rattle.lst_rule.specs.declared.view.View.{View}
-use Rattle.lst_rule.specs.Rule.{knows, hosts}
+use Rattle.lst_rule.specs.Rule.{knows}
 use Rattle.lst_rule.specs.Seats.{Sitting}
-use Rattle.lst_rule.specs.Stores.{IsSeatOf}
-use Rattle.lst_seat.specs.Seats.{IsPartOf, Parts}
+use Rattle.lst_seat.specs.Seats.{Parts}
 use Rattle.lst_seat.proofs.Gathering.{all_first, all_last}
 use Rattle.lst_rule.specs.PageSteps.{stock_of}
 use Rattle.lst_retire.specs.Frames.{AreSpares}
 use Rattle.lst_crew_state.specs.Crews.{IsIdle, IsPinnedWhereOpen}
-use Rattle.lst_session.specs.declared.crew.Crew.{Crew}
 use Rattle.lst_session.specs.declared.passes.Merger.{Merger}
 use Rattle.lst_session.specs.declared.session.Session.{Session}
-use Rattle.lst_session.specs.Crews.{IsCrewOf}
 use Rattle.lst_session.specs.Parting.{IsPass, numbered_from, are_numbered, IsPassFrom, IsParted, IsMergerOf}
 use Rattle.lst_session.specs.Passes.{IsReady}
 use Rattle.lst_session.proofs.Keeping.{spares_still}

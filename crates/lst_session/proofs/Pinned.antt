@@ -1,5 +1,5 @@
 -- A session stays pinned exactly while it has a transaction open, whatever its calls answer.
-use Rattle.std.proofs.Common.{List, ◌≡◌, ◌⊎◌, ℕ, ◌+◌, ◌<◌, [], Bool, true, false, Option, Result, Ok, Err, IfOk, IfErr, OnOk, OnErr, refl, sym, subst, ap, ◌∙◌, arith, inl, inr, true≢false}
+use Rattle.std.proofs.Common.{List, ◌≡◌, ◌⊎◌, ℕ, ◌+◌, ◌<◌, Bool, true, false, Option, Result, Ok, Err, IfOk, IfErr, OnOk, OnErr, refl, sym, subst, ◌∙◌, arith, inl, inr, true≢false}
 use Rattle.lst_model.specs.declared.acts.Act.{Act}
 use Rattle.lst_model.specs.Cells.{Cell}
 use Rattle.lst_core_state.specs.declared.known.Known.{Known}

@@ -1,5 +1,5 @@
 -- A pin that is set or taken away leaves the crew, and the state that it tells.
-use Rattle.std.proofs.Common.{◌≡◌, ◌≢◌, ℕ, ◌+◌, ◌<◌, false, length, refl, sym, subst, ap, ◌∙◌, slice_set}
+use Rattle.std.proofs.Common.{◌≡◌, ◌≢◌, ℕ, ◌+◌, ◌<◌, false, refl, sym, subst, ap, ◌∙◌, slice_set}
 use Rattle.lst_layout.specs.declared.limits.Limits.{Limits}
 use Rattle.lst_layout.specs.declared.place.Place.TheVariants.{PinWord}
 use Rattle.lst_layout.specs.Addresses.{address}

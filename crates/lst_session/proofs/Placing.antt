@@ -16,7 +16,7 @@ use Rattle.lst_model.specs.declared.replies.Cause.{Cause}
 use Rattle.lst_model.specs.declared.replies.Cause.TheVariants as cause
 use Rattle.lst_machine.specs.State.{Store, Opened}
 use Rattle.lst_machine.specs.Writes as machine
-use Rattle.lst_machine.specs.Writes.{place_of, with_key}
+use Rattle.lst_machine.specs.Writes.{place_of}
 use Rattle.lst_machine.specs.Calls.{first_of, where_true, early_insert_refusal, with_placed}
 use Rattle.lst_core_state.specs.declared.known.Known.{Known}
 use Rattle.lst_core_state.specs.declared.known.Placing.{Placing}

@@ -1,5 +1,5 @@
 -- What each call promises of what its session has seen and done, from what led to it.
-use Rattle.std.proofs.Common.{◌≡◌, ℕ, ◌<◌, List, [], true, false, Option, Result, Ok, Err, IfOk, IfErr, OnOk, OnErr, refl, ap, arith}
+use Rattle.std.proofs.Common.{◌≡◌, ℕ, ◌<◌, List, [], true, false, Option, Result, Ok, Err, IfOk, IfErr, OnOk, OnErr, refl, ap}
 use Rattle.std.specs.Prelude.{◌↔◌, IsOk}
 use Rattle.lst_model.specs.declared.acts.Act.{Act}
 use Rattle.lst_model.specs.Cells.{Cell}

@@ -22,7 +22,7 @@ use Rattle.lst_rule.specs.Stores.{Looked}
 use Rattle.lst_index.proofs.Placed.{placed_in}
 use Rattle.lst_index.proofs.Wholes.{met_word}
 use Rattle.lst_walk.specs.Pages.{ReadsPage, SavesRow}
-use Rattle.lst_session.specs.Traces.{Reads, ReadsRecord, FindsRecord}
+use Rattle.lst_session.specs.Traces.{Reads, ReadsRecord}
 use Rattle.lst_crew_state.specs.Crews.{IsPinnedWhereOpen}
 use Rattle.lst_crew_state.specs.Folding.{AreFolded, NeedsNoTail}
 use Rattle.lst_crew_state.proofs.Folding.{folded_keys_need_no_tail, stamped_needs_no_tail}

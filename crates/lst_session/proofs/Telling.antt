@@ -1,5 +1,5 @@
 -- A session hears a note, and all sessions hear of each other.
-use Rattle.std.proofs.Common.{◌≡◌, ◌≢◌, ◌⊎◌, ℕ, suc, zero, ◌+◌, ◌<◌, ◌≤◌, List, [], ◌∷◌, ◌++◌, Bool, true, false, length, get_or, slice_set, refl, sym, subst, ap, ◌∙◌, arith, append-nil, append_assoc}
+use Rattle.std.proofs.Common.{◌≡◌, ℕ, ◌+◌, ◌<◌, List, [], ◌++◌, Bool, false, length, get_or, slice_set, refl, sym, subst, ap, ◌∙◌, arith, append-nil, append_assoc}
 use mathlib.Core.Logic.{dite}
 use native.Mathlib.Decide.{ℕ_discrete}
 use Rattle.std.specs.List.{All, Contains}
@@ -14,8 +14,7 @@ use Rattle.lst_core_state.specs.Laws.{heard}
 use Rattle.lst_core_state.specs.State.{mine}
 use Rattle.lst_core_state.proofs.Histories.{starts_trans}
 use Rattle.lst_rule.specs.declared.store.Store.{Store}
-use Rattle.lst_rule.specs.declared.view.View.{View}
-use Rattle.lst_rule.specs.Rule.{knows, hosts}
+use Rattle.lst_rule.specs.Rule.{knows}
 use Rattle.lst_rule.specs.Seats.{Sitting}
 use Rattle.lst_rule.specs.Stores.{IsSeatOf}
 use Rattle.lst_seat.specs.Seats.{Tells, Hears}

@@ -1,9 +1,8 @@
 -- A write that is tried: how each refusal comes.
-use Rattle.std.proofs.Common.{◌≡◌, ◌≢◌, ◌⊎◌, ℕ, true, false, Result, Ok, Err, refl, sym, subst, ap, ◌∙◌, inl, inr}
+use Rattle.std.proofs.Common.{◌≡◌, ℕ, Result, Ok, Err, sym, subst, inr}
 use Rattle.lst_model.specs.declared.acts.Act.{Act}
 use Rattle.lst_model.specs.declared.acts.Act.TheVariants.{Put, Set, Del}
 use Rattle.lst_rule.specs.declared.view.View.{View}
-use Rattle.lst_rule.specs.Rule.{knows}
 use Rattle.lst_session.specs.declared.kinds.WriteRefusal.{WriteRefusal}
 use Rattle.lst_session.specs.declared.kinds.WriteRefusal.TheVariants.{Idle, ReadOnly, Missing, Exists, TableFull, Latched, Newer, Unfinished, TailFull}
 use Rattle.lst_session.specs.Traces.{misfit_of, Judges, Prepares, Releases, Tries, TriesFound, TriesPlaced, MayWrite, Changes, Inserts}

@@ -15,7 +15,7 @@ use Rattle.lst_txn.specs.declared.ends.Idle.{Idle}
 use Rattle.lst_session.specs.declared.kinds.Outcome.{Outcome}
 use Rattle.lst_session.specs.declared.kinds.Outcome.TheVariants.{Committed, Ended}
 use Rattle.lst_session.specs.declared.session.Session.{Session}
-use Rattle.lst_session.specs.Calls.{Called, SameLists, Gets, FindsHeld, Commits, Ends}
+use Rattle.lst_session.specs.Calls.{Called, SameLists, Gets, FindsHeld, Commits}
 use Rattle.lst_session.specs.Passes.{IsReady}
 use Rattle.lst_session.specs.Waits.{TriesInVain, Concludes, ConcludesAtLast, IsWaiting}
 use Rattle.lst_session.proofs.Growing.{none_full_on}

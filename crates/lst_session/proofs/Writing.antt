@@ -32,7 +32,7 @@ use Rattle.lst_index.specs.Placings.{Drew, DrawsAfterLook, WasUnplaced}
 use Rattle.lst_second.specs.Posting.{IsTailLoad, Posts}
 use Rattle.lst_write.specs.Holding.{Latches}
 use Rattle.lst_write.specs.Standings.{FoundSince}
-use Rattle.lst_write.specs.Appending.{Appends, FindsFull, tail_of}
+use Rattle.lst_write.specs.Appending.{Appends, FindsFull}
 use Rattle.lst_write.specs.Appending as appending
 use Rattle.lst_crew_state.specs.Crews.{IsIdle}
 use Rattle.lst_session.specs.declared.kinds.WriteRefusal.{WriteRefusal}

@@ -1,5 +1,5 @@
 -- The calls of a session step by step: which views lie between, and what leads from each to the next.
-use Rattle.std.specs.Prelude.{◌≡◌, ◌≢◌, ◌⊎◌, ℕ, ◌+◌, ◌*◌, ◌<◌, ◌≤◌, List, [], ◌∷◌, true, false, length, slice_set, Bool, Option, None, Result, Ok, Err}
+use Rattle.std.specs.Prelude.{◌≡◌, ◌≢◌, ◌⊎◌, ℕ, ◌+◌, ◌*◌, ◌<◌, ◌≤◌, List, [], true, false, length, slice_set, Bool, Option, None, Result, Ok, Err}
 use Rattle.lst_layout.specs.Addresses.{address}
 use Rattle.lst_layout.specs.declared.place.Place.TheVariants.{CommitWord, StateWord, HeadWord}
 use Rattle.lst_model.specs.declared.acts.Act.{Act}

@@ -7,19 +7,13 @@
 mod begins;
 mod commits;
 mod crew;
-#[cfg(test)]
-mod crew_tests;
 mod gathers;
 mod histories;
 mod kinds;
 mod laws;
 mod lines;
 mod locks;
-#[cfg(test)]
-mod merge_tests;
 mod merges;
-#[cfg(test)]
-mod part_tests;
 mod parts;
 mod passes;
 mod phases;
@@ -27,10 +21,6 @@ mod reader;
 mod reads;
 mod replies;
 mod session;
-#[cfg(test)]
-mod tests;
-#[cfg(test)]
-mod thread_tests;
 mod writes;
 
 pub use crew::{Crew, open_crew};

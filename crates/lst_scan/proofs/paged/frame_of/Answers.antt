@@ -1,6 +1,6 @@
 use Rattle.lst_walk.specs.Packed.{skims_same}
 use Rattle.lst_walk.proofs.Holding.{of_skims, of_keeps}
-use Rattle.std.proofs.Common.{◌≡◌, arith}
+use Rattle.std.proofs.Common.{arith}
 use Rattle.lst_scan.proofs.Untold.{frame_told, none_told}
 use Rattle.lst_scan.proofs.paged.frame_of.Goals as goal
 

@@ -1,4 +1,4 @@
-use Rattle.std.proofs.Common.{◌≡◌, ℕ, ◌+◌, ◌<◌, slice_index, sym, subst, ap, arith}
+use Rattle.std.proofs.Common.{◌<◌, slice_index, sym, subst, ap, arith}
 use Rattle.lst_layout.specs.declared.limits.Limits.{Limits}
 use Rattle.lst_layout.specs.Areas.{frame_count}
 use Rattle.lst_core_state.specs.declared.known.Known.{Known}

@@ -1,4 +1,4 @@
-use Rattle.lst_session.proofs.Waiting.{at_once, end_after, waiting_on, first_in_vain}
+use Rattle.lst_session.proofs.Waiting.{end_after, waiting_on, first_in_vain}
 use Rattle.lst_session.proofs.locks.end_at_last.Goals as goal
 
 pub returns-in-Some-try_to_end-clause-end : goal.returns-in-Some-try_to_end-clause-end

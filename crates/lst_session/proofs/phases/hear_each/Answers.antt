@@ -1,4 +1,4 @@
-use Rattle.std.proofs.Common.{◌+◌, ◌<◌, ◌≤◌, length, arith}
+use Rattle.std.proofs.Common.{arith}
 use Rattle.lst_session.proofs.Telling.{hear_on, heard_next}
 use Rattle.lst_session.proofs.phases.hear_each.Goals as goal
 

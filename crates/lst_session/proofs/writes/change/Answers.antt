@@ -1,4 +1,4 @@
-use Rattle.std.proofs.Common.{ℕ, ◌<◌, refl, sym, subst, inl}
+use Rattle.std.proofs.Common.{◌<◌, refl, sym, subst, inl}
 use Rattle.lst_layout.specs.declared.limits.Limits.{Limits}
 use Rattle.lst_core_state.specs.Cells.{record_count}
 use Rattle.lst_session.proofs.Tried.{changed}

@@ -3,7 +3,6 @@ use Rattle.lst_layout.specs.declared.limits.Limits.{Limits}
 use Rattle.lst_model.specs.Lines.{LineFits}
 use Rattle.lst_model.specs.declared.lines.Line.{Line}
 use Rattle.lst_model.specs.declared.lines.Line.TheVariants.{Merge}
-use Rattle.lst_model.specs.declared.replies.Reply.{Reply}
 use Rattle.lst_session.specs.Crews.{AnswersLine}
 use Rattle.lst_session.specs.Lines.{LineLeaves, MergeLeaves}
 use Rattle.lst_session.proofs.Paged.{call_answers}

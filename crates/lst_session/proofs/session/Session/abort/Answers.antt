@@ -1,5 +1,4 @@
 use Rattle.lst_session.proofs.Answering.{ready}
-use Rattle.lst_session.proofs.Ending.{is_free}
 use Rattle.lst_session.proofs.Keeping.{abort_idle}
 use Rattle.lst_session.proofs.Pinned.{abort_pinned}
 use Rattle.lst_session.proofs.Promising.{aborted, not_aborted}
