@@ -1,7 +1,7 @@
 //! Counts of instructions: each line of the input is a kind of run and how often it goes, and is answered by what the run came to.
 #![tactic(auto)]
 
-ghost use Rattle.std.specs.Prelude.{◌<◌};
+ghost use Rattle.std.specs.Prelude.{◌<◌, IfSome};
 
 mod engines;
 mod making;
@@ -37,8 +37,21 @@ const LIMITS: Limits = Limits {
     indexed: 0,
 };
 
-/// How often each row is written after the commit that sums are as of.
-const LATER: u32 = 15;
+/// How many sessions add up a column in a kind of run, and how often each row is written after the commit that the sums are as of; None where there is no
+/// kind of this name.
+fn summing_of(kind: &str) -> Option<(u32, u32)>
+    ensures { IfSome result (λ summing. summing.1 < 256) }
+{
+    match kind {
+        "sums_1" => Some((1, 0)),
+        "sums_4" => Some((4, 0)),
+        "old_sums_1" => Some((1, 7)),
+        "old_sums_4" => Some((4, 7)),
+        "older_sums_1" => Some((1, 15)),
+        "older_sums_4" => Some((4, 15)),
+        _ => None,
+    }
+}
 
 /// What the kind of run came to, or None for want of memory. A kind that there isn't comes to 0.
 fn answer<R: Threads + Wait + Sync>(
@@ -54,14 +67,13 @@ fn answer<R: Threads + Wait + Sync>(
     if let Some((deed, form)) = deed_of(kind) {
         return Some(packs(deed, form, count));
     }
+    if let Some((sessions, later)) = summing_of(kind) {
+        return sums(rt, alloc, sessions, later, count).ok();
+    }
     let task = match kind {
         "drawn" => return engine(alloc, false, count).ok(),
         "plain" => return engine(alloc, true, count).ok(),
         "phases" => return phases(alloc, count).ok(),
-        "sums_1" => return sums(rt, alloc, 1, 0, count).ok(),
-        "sums_4" => return sums(rt, alloc, 4, 0, count).ok(),
-        "old_sums_1" => return sums(rt, alloc, 1, LATER, count).ok(),
-        "old_sums_4" => return sums(rt, alloc, 4, LATER, count).ok(),
         "made" => Task::Make,
         "printed" => Task::Print,
         "read" => Task::Read,

@@ -198,8 +198,8 @@ fn total<R: Threads + Sync>(rt: &R, store: &Store, sessions: &mut [Session], tim
     par_sum(rt, store, sessions, time, 0)
 }
 
-/// Fills a store of so many sessions and merges its pages, sets the number of each row so often, has the sessions add up the column as of the first commit so
-/// often, and answers the last sum.
+/// Fills a store of so many sessions and merges its pages, sets the number of each row `later` times, has the sessions add up the column as of the first commit
+/// `count` times, and answers the last sum.
 pub fn sums<R: Threads + Sync>(
     rt: &R,
     alloc: Global,

@@ -1,4 +1,4 @@
-use Rattle.std.proofs.Common.{sym, subst, arith}
+use Rattle.std.proofs.Common.{sym, subst}
 use Rattle.lst_session.proofs.Recounting.{hosts_all}
 use Rattle.lst_work.specs.ParSums.{HaveSeenAlike}
 use Rattle.lst_work.proofs.SeenAlike.{parted_have_seen_alike}
