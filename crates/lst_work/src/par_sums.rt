@@ -121,7 +121,8 @@ fn sum_share(
     sum_as_of(store, session, time, column, from, to)
 }
 
-/// The shares from a place on, one by each of the sessions, side by side.
+/// The shares from a place on, one by each of the sessions, side by side. The last is made here, and each other one gets a thread from here: a thread that
+/// is made by another one at the same time may be put where that one runs, and wait there.
 #[cycle(shares)]
 fn sum_shares<R: Threads + Sync>(
     rt: &R,
@@ -138,7 +139,7 @@ fn sum_shares<R: Threads + Sync>(
     if sessions.len() == 1 {
         return sum_share(store, &mut sessions[0], time, column, first, shares);
     }
-    let (low, high) = sessions.split_at_mut(sessions.len() / 2);
+    let (low, high) = sessions.split_at_mut(1);
     let middle = first + low.len();
     let (below, above) = sum_both(rt, store, low, high, time, column, first, middle, shares);
     below + above
