@@ -336,20 +336,13 @@ fn the_gate_is_passed_before_and_behind_each_line_with_its_place(
 }
 
 #[test]
-fn merges_are_made_beside_the_sessions(rt: HostRuntime) -> Result<(), Fail> {
-    answers_one_of(
-        &rt,
+fn a_merge_is_made_once_the_sessions_have_come_past_it(rt: HostRuntime) -> Result<(), Fail> {
+    let script =
         b"0 begin\n0 insert 1 10 20\n0 insert 2 30 40\n0 commit\nmerge 0 1\nphase\nmerge 0 1\nphase\n\
-        1 begin\nmerge 0 0\n1 sum 0\nmerge 0 0\n1 get 2\nmerge 0 1\n",
-        b"0 begun 0\n0 ok\n0 ok\n0 committed 1\n",
-        // The first merge comes before the commit, or after it.
-        &[
-            b"idle 0\nmerged 2\n",
-            b"merged 1\nmerged 2\n",
-            b"merged 2\nidle 2\n",
-        ],
-        b"1 begun 1\nmerged 2\n1 sum 40\nidle 2\n1 row 30 40\nidle 2\n",
-    )
+        1 begin\nmerge 0 0\n1 sum 0\nmerge 0 0\n1 get 2\nmerge 0 1\n";
+    let wanted = b"0 begun 0\n0 ok\n0 ok\n0 committed 1\nmerged 2\nidle 2\n\
+        1 begun 1\nmerged 2\n1 sum 40\nidle 2\n1 row 30 40\nidle 2\n";
+    answers(&rt, &FreeGate, PAIR, script, wanted)
 }
 
 /// Scripts with no phases and with empty ones, and their replies.

@@ -8,6 +8,7 @@ mod hiring;
 mod lines;
 mod merging;
 mod orders;
+mod paces;
 mod par_sums;
 mod phases;
 mod reporting;

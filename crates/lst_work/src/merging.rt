@@ -7,11 +7,13 @@ ghost use Rattle.lst_work.specs.Merges.{Merged, HasMerged};
 ghost use Rattle.lst_legal_work.specs.Runs.{CanRun};
 
 use crate::gates::Gate;
+use crate::paces::Pace;
 use lst_model::{Line, OutOfMemory, Reply};
 use lst_rule::Store;
 use lst_session::{Merge, Merger};
 use std::alloc::Global;
 use std::collections::VecDeque;
+use std::sync::Wait;
 
 /// The replies to the merges that were made, in order.
 #[derive(Drop)]
@@ -61,9 +63,11 @@ fn merge_page(
     Ok(())
 }
 
-/// Runs a line if it is a merge. The merge worker has the number of the sessions.
-fn merge_line<G: Gate>(
+/// Runs a line if it is a merge, once each session has come past it. The merge worker has the number of the sessions.
+fn merge_line<R: Wait, G: Gate>(
+    rt: &R,
     store: &Store,
+    pace: &Pace,
     gate: &G,
     place: u64,
     line: &Line,
@@ -78,6 +82,7 @@ fn merge_line<G: Gate>(
     let Line::Merge { range, column } = line else {
         return Ok(());
     };
+    pace.wait_for_all(rt, queue.replies.len() as u64 + 1);
     let number = store.layout().limits.sessions;
     gate.at(number, place, false);
     merge_page(store, *range, *column, merger, queue)?;
@@ -86,8 +91,10 @@ fn merge_line<G: Gate>(
 }
 
 /// Makes the merges among these lines. The first of them has the place `first` in the script.
-fn merge_lines<G: Gate>(
+fn merge_lines<R: Wait, G: Gate>(
+    rt: &R,
     store: &Store,
+    pace: &Pace,
     gate: &G,
     first: u64,
     lines: &[Line],
@@ -102,14 +109,16 @@ fn merge_lines<G: Gate>(
 {
     for i in 0..lines.len() {
         let place = first + i as u64;
-        merge_line(store, gate, place, &lines[i], merger, queue)?;
+        merge_line(rt, store, pace, gate, place, &lines[i], merger, queue)?;
     }
     Ok(())
 }
 
 /// Makes the merges among these lines, unless memory runs out.
-pub fn run_merges<G: Gate>(
+pub fn run_merges<R: Wait, G: Gate>(
+    rt: &R,
     store: &Store,
+    pace: &Pace,
     gate: &G,
     first: u64,
     lines: &[Line],
@@ -121,7 +130,7 @@ pub fn run_merges<G: Gate>(
     requires places { first + length lines.now < 2 ^ 64 }
     ensures { HasMerged store.now lines.now merger.old merger.new queue.old queue.new }
 {
-    if merge_lines(store, gate, first, lines, merger, queue).is_err() {
+    if merge_lines(rt, store, pace, gate, first, lines, merger, queue).is_err() {
         queue.has_failed = true;
     }
 }

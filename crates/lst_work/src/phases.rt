@@ -1,28 +1,34 @@
 //! A phase: the lines of all sessions and the merges, side by side.
 ghost use Rattle.std.specs.Prelude.{◌≡◌, ◌+◌, ◌<◌, ◌^◌, length};
 ghost use Rattle.std.specs.List.{All};
+ghost use Rattle.std.specs.Thread.{IsSync};
 ghost use Rattle.lst_session.specs.Parting.{IsMergerOf};
 ghost use Rattle.lst_work.specs.Merges.{HasMerged};
 ghost use Rattle.lst_legal_work.specs.Runs.{CanRun};
-ghost use Rattle.lst_work.specs.Workers.{AreReady, AllHaveWorked};
+ghost use Rattle.lst_session.specs.Passes.{IsReady};
+ghost use Rattle.lst_work.specs.Workers.{AreReady, AllHaveWorked, HasWorked};
 
 use crate::gates::Gate;
 use crate::merging::{MergeQueue, run_merges};
 use crate::orders::make_room;
+use crate::paces::Pace;
 use crate::workers::{Worker, work_phase};
 use lst_model::{Line, Reply};
 use lst_rule::Store;
 use lst_session::{CommitLock, Merger};
 use std::alloc::Global;
 use std::sync::Wait;
-use std::thread::{self, Threads, join_mut};
+use std::thread::{Threads, join_mut};
 
-/// Each worker runs its session's lines, in a thread of its own where one can be made.
+/// Each worker runs its session's lines. The last one does so here, and each other one in a thread that is made here, where one can be made: a thread that
+/// is made by another one at the same time may be put where that one runs, and wait there.
+#[cycle(workers)]
 fn run_workers<R: Threads + Wait + Sync, G: Gate + Sync>(
     rt: &R,
     alloc: Global,
     store: &Store,
     lock: &CommitLock,
+    pace: &Pace,
     gate: &G,
     first: u64,
     lines: &[Line],
@@ -31,23 +37,59 @@ fn run_workers<R: Threads + Wait + Sync, G: Gate + Sync>(
     requires ready { AreReady store.now workers.old }
     requires can { All (CanRun store.now.layout.limits) lines.now }
     requires places { first + length lines.now < 2 ^ 64 }
-    ensures { AllHaveWorked store.now lines.now workers.old workers.new }
+    ensures count { length workers.new ≡ length workers.old }
+    ensures worked { AllHaveWorked store.now lines.now workers.old workers.new }
 {
-    let threads = workers.len();
-    if threads == 0 {
+    let Some((worker, others)) = workers.split_first_mut() else {
         return;
+    };
+    if others.is_empty() {
+        work_phase(rt, alloc, store, lock, pace, gate, first, lines, worker);
+    } else {
+        run_beside(
+            rt, alloc, store, lock, pace, gate, first, lines, worker, others,
+        );
     }
-    thread::for_each_mut(
-        rt,
-        workers,
-        threads,
-        &|_, worker| work_phase(rt, alloc, store, lock, gate, first, lines, worker),
-    );
 }
 
-/// Makes the merges among these lines, and then room for the replies to all of them, behind those to earlier lines.
-fn merge_and_make_room<G: Gate>(
+/// A worker runs its session's lines, and others run theirs beside it.
+#[cycle(workers)]
+fn run_beside<R: Threads + Wait + Sync, G: Gate + Sync>(
+    rt: &R,
+    alloc: Global,
     store: &Store,
+    lock: &CommitLock,
+    pace: &Pace,
+    gate: &G,
+    first: u64,
+    lines: &[Line],
+    worker: &mut Worker,
+    others: &mut [Worker],
+)
+    requires ready { IsReady store.now worker.old.session }
+    requires others { AreReady store.now others.old }
+    requires can { All (CanRun store.now.layout.limits) lines.now }
+    requires places { first + length lines.now < 2 ^ 64 }
+    ensures worked { HasWorked store.now lines.now worker.old worker.new }
+    ensures count { length others.new ≡ length others.old }
+    ensures others { AllHaveWorked store.now lines.now others.old others.new }
+{
+    let mut one = ||
+        requires { IsReady store.now worker.now.session × All (CanRun store.now.layout.limits) lines.now × (first + length lines.now < 2 ^ 64) }
+        ensures { HasWorked store.entry.now lines.entry.now worker.entry.now worker.exit.now }
+    { work_phase(rt, alloc, store, lock, pace, gate, first, lines, worker) };
+    let mut rest = ||
+        requires { IsSync R.row × IsSync G.row × AreReady store.now others.now × All (CanRun store.now.layout.limits) lines.now × (first + length lines.now < 2 ^ 64) }
+        ensures { (length others.exit.now ≡ length others.entry.now) × AllHaveWorked store.entry.now lines.entry.now others.entry.now others.exit.now }
+    { run_workers(rt, alloc, store, lock, pace, gate, first, lines, others) };
+    join_mut(rt, &mut one, &mut rest);
+}
+
+/// Makes room for the replies to these lines, behind those to earlier ones, and then the merges among the lines.
+fn make_room_and_merge<R: Wait, G: Gate>(
+    rt: &R,
+    store: &Store,
+    pace: &Pace,
     gate: &G,
     first: u64,
     lines: &[Line],
@@ -61,12 +103,12 @@ fn merge_and_make_room<G: Gate>(
     ensures merges { HasMerged store.now lines.now merger.old merger.new queue.old queue.new }
     ensures replies { replies.new.items ≡ replies.old.items }
 {
-    run_merges(store, gate, first, lines, merger, queue);
     make_room(replies, lines.len());
+    run_merges(rt, store, pace, gate, first, lines, merger, queue);
 }
 
-/// The workers run their sessions' lines beside each other, and beside them the merge worker makes the merges, and room behind the replies to earlier
-/// lines.
+/// The workers run their sessions' lines beside each other, and beside them the merge worker makes room behind the replies to earlier lines, and the
+/// merges, each once all sessions have come past it. It has a thread of its own where one can be made, and goes last otherwise.
 pub fn run_phase<R: Threads + Wait + Sync, G: Gate + Sync>(
     rt: &R,
     alloc: Global,
@@ -88,17 +130,18 @@ pub fn run_phase<R: Threads + Wait + Sync, G: Gate + Sync>(
     ensures merges { HasMerged store.now lines.now merger.old merger.new queue.old queue.new }
     ensures replies { replies.new.items ≡ replies.old.items }
 {
+    let pace = Pace::new(workers.len());
     join_mut(
         rt,
-        &mut ||
-            requires ready { AreReady store.now workers.now }
-            requires can { All (CanRun store.now.layout.limits) lines.now }
-            requires places { first + length lines.now < 2 ^ 64 }
-        { run_workers(rt, alloc, store, lock, gate, first, lines, workers) },
         &mut ||
             requires merger { IsMergerOf store.now merger.now }
             requires can { All (CanRun store.now.layout.limits) lines.now }
             requires places { first + length lines.now < 2 ^ 64 }
-        { merge_and_make_room(store, gate, first, lines, merger, queue, replies) },
+        { make_room_and_merge(rt, store, &pace, gate, first, lines, merger, queue, replies) },
+        &mut ||
+            requires ready { AreReady store.now workers.now }
+            requires can { All (CanRun store.now.layout.limits) lines.now }
+            requires places { first + length lines.now < 2 ^ 64 }
+        { run_workers(rt, alloc, store, lock, &pace, gate, first, lines, workers) },
     );
 }

@@ -7,6 +7,7 @@ ghost use Rattle.lst_work.specs.Workers.{Ran, HasWorked};
 
 use crate::gates::Gate;
 use crate::lines::line_reply;
+use crate::paces::Pace;
 use lst_model::{Call, Line, OutOfMemory, Reply};
 use lst_rule::Store;
 use lst_session::{CommitLock, Session};
@@ -59,12 +60,13 @@ fn run_call<R: Wait>(
     Ok(())
 }
 
-/// Runs a line if it is the session's.
+/// Runs a line if it is the session's. Where it is a merge, the session has come past it.
 fn run_line<R: Wait, G: Gate>(
     rt: &R,
     alloc: Global,
     store: &Store,
     lock: &CommitLock,
+    pace: &Pace,
     gate: &G,
     place: u64,
     line: &Line,
@@ -76,15 +78,18 @@ fn run_line<R: Wait, G: Gate>(
     ensures number { worker.new.session.number ≡ worker.old.session.number }
     ensures ran { OnOk result (Ran (line.now ∷ []) worker.old worker.new) }
 {
-    let Line::Call { session, call } = line else {
-        return Ok(());
-    };
-    if *session != worker.session.number {
-        return Ok(());
+    match line {
+        Line::Call { session, call } => {
+            if *session != worker.session.number {
+                return Ok(());
+            }
+            gate.at(*session, place, false);
+            run_call(rt, alloc, store, lock, worker, call)?;
+            gate.at(*session, place, true);
+        }
+        Line::Merge { .. } => pace.pass(rt, worker.session.number),
+        Line::Phase => {}
     }
-    gate.at(*session, place, false);
-    run_call(rt, alloc, store, lock, worker, call)?;
-    gate.at(*session, place, true);
     Ok(())
 }
 
@@ -94,6 +99,7 @@ pub fn run_lines<R: Wait, G: Gate>(
     alloc: Global,
     store: &Store,
     lock: &CommitLock,
+    pace: &Pace,
     gate: &G,
     first: u64,
     lines: &[Line],
@@ -108,7 +114,7 @@ pub fn run_lines<R: Wait, G: Gate>(
 {
     for i in 0..lines.len() {
         let place = first + i as u64;
-        run_line(rt, alloc, store, lock, gate, place, &lines[i], worker)?;
+        run_line(rt, alloc, store, lock, pace, gate, place, &lines[i], worker)?;
     }
     Ok(())
 }
@@ -119,6 +125,7 @@ pub fn work_phase<R: Wait, G: Gate>(
     alloc: Global,
     store: &Store,
     lock: &CommitLock,
+    pace: &Pace,
     gate: &G,
     first: u64,
     lines: &[Line],
@@ -129,7 +136,8 @@ pub fn work_phase<R: Wait, G: Gate>(
     requires places { first + length lines.now < 2 ^ 64 }
     ensures { HasWorked store.now lines.now worker.old worker.new }
 {
-    if run_lines(rt, alloc, store, lock, gate, first, lines, worker).is_err() {
+    if run_lines(rt, alloc, store, lock, pace, gate, first, lines, worker).is_err() {
         worker.has_failed = true;
     }
+    pace.leave(rt, worker.session.number);
 }
