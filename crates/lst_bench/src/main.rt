@@ -49,6 +49,8 @@ fn summing_of(kind: &str) -> Option<(u32, u32)>
         "old_sums_4" => Some((4, 7)),
         "older_sums_1" => Some((1, 15)),
         "older_sums_4" => Some((4, 15)),
+        "oldest_sums_1" => Some((1, 63)),
+        "oldest_sums_4" => Some((4, 63)),
         _ => None,
     }
 }
