@@ -1,3 +1,4 @@
+pub mod Adding
 pub mod Totals
 pub mod Parts
 pub mod Seeing

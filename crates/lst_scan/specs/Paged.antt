@@ -1,5 +1,5 @@
 -- A page, of whose words those are loaded that its form takes.
-use Rattle.std.specs.Prelude.{◌≡◌, ℕ, zero, suc, ◌+◌, ◌<◌, List, Option, None, Some, slice_index}
+use Rattle.std.specs.Prelude.{◌≡◌, ℕ, zero, suc, ◌+◌, ◌<◌, List, slice_index}
 use Rattle.lst_layout.specs.declared.TheConstants.{RANGE_RECORDS, FRAME_TIMES}
 use Rattle.lst_kernel.specs.Entries.{lane_of}
 use Rattle.lst_pack.specs.Forms.{Packs}
@@ -32,7 +32,6 @@ unfoldable pub entries_add : ℕ → (ℕ → ℕ) → List ℕ → ℕ → ℕ
 entries_add begin value times zero = 0
 entries_add begin value times (suc n) = entries_add begin value times n + lane_of begin (value n) (slice_index times n)
 
--- what a walk of the records that a page doesn't tell came to, where None stands for nothing, and for a reader who sees each entry of the page
-abbrev pub walked_of : Option ℕ → ℕ
-walked_of None = 0
-walked_of (Some number) = number
+-- each entry adds its value, for a reader that began at this time
+abbrev pub AddsAll : ℕ → List ℕ → List ℕ → Type 0
+AddsAll begin values times = (i : ℕ) → i < RANGE_RECORDS → lane_of begin (slice_index values i) (slice_index times i) ≡ slice_index values i

@@ -1,7 +1,7 @@
 //! Sums and counts over the records of a range by the page of a column: of its words those are loaded that its form takes, and its time words by
 //! one call, and the indirection words of the range by another. The page tells of each record whose newest version is at most its TPS, where the
 //! entry's time is at most the begin. The other records are walked along their chains, without another look at the page.
-ghost use Rattle.std.specs.Prelude.{◌≡◌, ℕ, ◌+◌, ◌*◌, ◌/◌, ◌%◌, ◌^◌, ◌<◌, ◌≤◌, List, IfSome, Some, None, length, slice_index, nat_le, ◌&&◌, true};
+ghost use Rattle.std.specs.Prelude.{◌≡◌, ℕ, ◌+◌, ◌*◌, ◌/◌, ◌%◌, ◌^◌, ◌<◌, ◌≤◌, List, IfSome, None, length, slice_index, nat_le, ◌&&◌, true};
 ghost use Rattle.lst_model.specs.Tables.{sum_of, count_of};
 ghost use Rattle.lst_bits.specs.Times.{time_of};
 ghost use Rattle.lst_layout.specs.Areas.{frame_count};
@@ -13,7 +13,7 @@ ghost use Rattle.lst_walk.specs.Readers.{IsReader};
 ghost use Rattle.lst_walk.specs.Packed.{Skims, packed_words};
 ghost use Rattle.lst_scan.specs.Savings.{SavesPart, TellsFrame, TellsNone, TellsStamps};
 ghost use Rattle.lst_scan.specs.Scans.{table_seen, Places, between};
-ghost use Rattle.lst_scan.specs.Paged.{IsInHand, HasPage, HasValues, entries_add, walked_of};
+ghost use Rattle.lst_scan.specs.Paged.{IsInHand, HasPage, HasValues, AddsAll, entries_add};
 ghost use Rattle.lst_kernel.specs.Entries.{is_seen};
 
 use crate::records::cell_by_chain;
@@ -30,7 +30,7 @@ const LAST: u64 = u64::MAX / 2;
 pub(crate) struct Sheet {
     /// The packed words of a page.
     packed: [u64; 257],
-    /// Its values.
+    /// Its values, with 0 at the records that are walked.
     values: [u64; 256],
     /// Its time words, with 0 at the records that are walked.
     times: [u64; 256],
@@ -135,12 +135,20 @@ fn is_told(head: u64, stamp: u64, tps: u64, begin: u64) -> bool
     head / 2 <= tps && stamp / 2 <= begin
 }
 
-/// Whether all entries of a page are present, where a page with this TPS tells of all records of a range, by the indirection words and the page's time
-/// words; None where it doesn't. Half of each word gets the room that its greatest number has below 2^63 added: one that is above comes to 2^63 or
-/// more. So all are looked at once, without a branch.
-fn all_told(heads: &[u64; 256], times: &[u64; 256], tps: u64, begin: u64) -> Option<bool>
-    ensures told { IfSome result (λ _. (i : ℕ) → i < 256 → (slice_index heads.now i / 2 ≤ tps) × (time_of (slice_index times.now i) ≤ begin)) }
-    ensures present { result ≡ Some true → (i : ℕ) → i < 256 → slice_index times.now i % 2 ≡ 1 }
+/// What is known of a range once the indirection words of its records and the time words of a page were looked at.
+#[derive(Clone, Copy)]
+struct Survey {
+    /// The page tells of all records.
+    all_told: bool,
+    /// All its entries are present.
+    all_present: bool,
+}
+
+/// Looks at the indirection words of a range and the time words of a page with this TPS. Half of each word gets the room that its greatest number has below
+/// 2^63 added: one that is above comes to 2^63 or more. So all are looked at once, without a branch.
+fn surveyed(heads: &[u64; 256], times: &[u64; 256], tps: u64, begin: u64) -> Survey
+    ensures told { result.all_told ≡ true → (i : ℕ) → i < 256 → (slice_index heads.now i / 2 ≤ tps) × (time_of (slice_index times.now i) ≤ begin) }
+    ensures present { result.all_present ≡ true → (i : ℕ) → i < 256 → slice_index times.now i % 2 ≡ 1 }
 {
     let head_room = LAST - tps.min(LAST);
     let time_room = LAST - begin.min(LAST);
@@ -150,11 +158,19 @@ fn all_told(heads: &[u64; 256], times: &[u64; 256], tps: u64, begin: u64) -> Opt
         late |= (heads[slot] / 2 + head_room) | (times[slot] / 2 + time_room);
         present &= times[slot];
     }
-    if late <= LAST {
-        Some(present % 2 == 1)
-    } else {
-        None
+    Survey {
+        all_told: late <= LAST,
+        all_present: present % 2 == 1,
     }
+}
+
+/// What a walk of the records that a page doesn't tell came to.
+#[derive(Clone, Copy)]
+struct Walked<N> {
+    /// The sum over them, or their number.
+    total: N,
+    /// A reader sees each entry of the page but theirs.
+    sees_others: bool,
 }
 
 /// The numbers of a column, 0 for null, added over the rows of one range, by the page in this frame, which is in hand.
@@ -189,33 +205,28 @@ pub(crate) fn sum_by_page(
         tps,
         &mut sheet.heads,
         &mut sheet.times,
+        &mut sheet.values,
     );
     with_entries(walked, &sheet.values, &sheet.times, seat.begin(s))
 }
 
-/// A sum, with that of the values of a page's entries that a reader sees who began at this time. None stands for 0, where it sees each entry.
-fn with_entries(walked: Option<u128>, values: &[u64; 256], times: &[u64; 256], begin: u64) -> u128
-    requires few { walked_of walked ≤ 2 ^ 72 }
-    requires seen { walked ≡ None → (i : ℕ) → i < 256 → is_seen begin (slice_index times.now i) ≡ true }
-    ensures sum { result ≡ walked_of walked + entries_add begin (slice_index values.now) times.now 256 }
+/// A sum, with that of the values of a page's entries that a reader sees who began at this time. Where the reader sees all but some, those have the value 0.
+fn with_entries(walked: Walked<u128>, values: &[u64; 256], times: &[u64; 256], begin: u64) -> u128
+    requires few { walked.total ≤ 2 ^ 72 }
+    requires others { walked.sees_others ≡ true → AddsAll begin values.now times.now }
+    ensures sum { result ≡ walked.total + entries_add begin (slice_index values.now) times.now 256 }
     ensures few { result ≤ 2 ^ 73 }
 {
-    match walked {
-        Some(walked) => walked + sum_where(values, times, begin),
-        None => sum_all(values),
-    }
+    let entries = if walked.sees_others {
+        sum_all(values)
+    } else {
+        sum_where(values, times, begin)
+    };
+    walked.total + entries
 }
 
-/// What a walk of no record comes to.
-fn none_walked(all_seen: bool) -> Option<u128>
-    ensures none { walked_of result ≡ 0 }
-    ensures seen { result ≡ None → all_seen ≡ true }
-{
-    if all_seen { None } else { Some(0) }
-}
-
-/// The same over the rows of those records alone that the page doesn't tell, by its TPS and its time words. At the records that were walked the
-/// time words become 0. None comes only where no record was walked, and the reader sees each entry. The indirection words of the range are loaded into `heads`.
+/// The same over the rows of those records alone that the page doesn't tell, by its TPS and its time words. At the records that are walked the time words
+/// and the values become 0. The indirection words of the range are loaded into `heads`.
 fn sum_untold(
     store: &Store,
     seat: &mut Seat,
@@ -225,7 +236,8 @@ fn sum_untold(
     tps: u64,
     heads: &mut [u64; 256],
     times: &mut [u64; 256],
-) -> Option<u128>
+    values: &mut [u64; 256],
+) -> Walked<u128>
     requires reader { IsReader store.now seat.old s }
     requires range { range < store.now.layout.limits.ranges }
     requires column { c < store.now.layout.limits.columns }
@@ -233,28 +245,36 @@ fn sum_untold(
     requires told { TellsStamps seat.old.view s range c tps times.old }
     ensures reader { IsReader store.now seat.new s }
     ensures watched { Watched seat.old.view seat.new.view s }
-    ensures sum { (page : HasPage seat.old.view s range c tps times.old) (values : List ℕ) → HasValues page values → (place : ℕ → ℕ) → Places (knows seat.old.view s) place → walked_of result + entries_add (knows seat.old.view s).begin (slice_index values) times.new 256 ≡ sum_of (between place (256 * range) (256 * range + 256) (table_seen (knows seat.old.view s))) c }
+    ensures sum { (page : HasPage seat.old.view s range c tps times.old) → HasValues page values.old → (place : ℕ → ℕ) → Places (knows seat.old.view s) place → result.total + entries_add (knows seat.old.view s).begin (slice_index values.new) times.new 256 ≡ sum_of (between place (256 * range) (256 * range + 256) (table_seen (knows seat.old.view s))) c }
     ensures saves { SavesPart seat.old.view seat.new.view s c (256 * range) (256 * range + 256) }
-    ensures seen { result ≡ None → (i : ℕ) → i < 256 → is_seen (knows seat.old.view s).begin (slice_index times.new i) ≡ true }
-    ensures few { walked_of result ≤ 2 ^ 72 }
+    ensures others { result.sees_others ≡ true → AddsAll (knows seat.old.view s).begin values.new times.new }
+    ensures few { result.total ≤ 2 ^ 72 }
 {
     seat.consider();
     load_heads(store, seat, s, range, heads);
     let begin = seat.begin(s);
-    if let Some(all_present) = all_told(heads, times, tps, begin) {
-        return none_walked(all_present);
+    let known = surveyed(heads, times, tps, begin);
+    if known.all_told {
+        return Walked {
+            total: 0,
+            sees_others: known.all_present,
+        };
     }
     let mut total: u128 = 0;
     for slot in 0..256 {
         seat.consider();
         if !is_told(heads[slot as usize], times[slot as usize], tps, begin) {
             times[slot as usize] = 0;
+            values[slot as usize] = 0;
             let number = 256 * range + slot;
             let found = cell_by_chain(store, seat, s, RecordId { number }, c);
             total += u128::from(found.unwrap_or(0));
         }
     }
-    Some(total)
+    Walked {
+        total,
+        sees_others: known.all_present,
+    }
 }
 
 /// The number of rows of one range, by the page of the first column in this frame, which is in hand. Its time words are loaded into `times`, and
@@ -283,30 +303,23 @@ pub(crate) fn count_by_page(
     with_rows(walked, times, seat.begin(s))
 }
 
-/// A count, with that of a page's entries that a reader sees who began at this time. None stands for 0, where it sees each entry.
-fn with_rows(walked: Option<u64>, times: &[u64; 256], begin: u64) -> u64
-    requires few { walked_of walked ≤ 256 }
-    requires seen { walked ≡ None → (i : ℕ) → i < 256 → is_seen begin (slice_index times.now i) ≡ true }
-    ensures rows { result ≡ walked_of walked + entries_add begin (λ slot. 1) times.now 256 }
+/// A count, with that of a page's entries that a reader sees who began at this time.
+fn with_rows(walked: Walked<u64>, times: &[u64; 256], begin: u64) -> u64
+    requires few { walked.total ≤ 256 }
+    requires others { walked.sees_others ≡ true → (i : ℕ) → i < 256 → is_seen begin (slice_index times.now i) ≡ true }
+    ensures rows { result ≡ walked.total + entries_add begin (λ slot. 1) times.now 256 }
     ensures few { result ≤ 512 }
 {
-    match walked {
-        Some(walked) => walked + u64::from(count_where(times, begin)),
-        None => 256,
-    }
+    let entries = if walked.sees_others {
+        256
+    } else {
+        u64::from(count_where(times, begin))
+    };
+    walked.total + entries
 }
 
-/// What a count of no record comes to.
-fn none_counted(all_seen: bool) -> Option<u64>
-    ensures none { walked_of result ≡ 0 }
-    ensures seen { result ≡ None → all_seen ≡ true }
-{
-    if all_seen { None } else { Some(0) }
-}
-
-/// The number of rows on those records alone that the page doesn't tell, by its TPS and its time words. At the records that were walked the time
-/// words become 0. None comes only where no record was walked, and the reader sees each entry. The indirection words of the range are loaded into
-/// `heads`.
+/// The number of rows on those records alone that the page doesn't tell, by its TPS and its time words. At the records that are walked the time
+/// words become 0. The indirection words of the range are loaded into `heads`.
 fn count_untold(
     store: &Store,
     seat: &mut Seat,
@@ -315,32 +328,39 @@ fn count_untold(
     tps: u64,
     heads: &mut [u64; 256],
     times: &mut [u64; 256],
-) -> Option<u64>
+) -> Walked<u64>
     requires reader { IsReader store.now seat.old s }
     requires range { range < store.now.layout.limits.ranges }
     requires page { HasPage seat.old.view s range 0 tps times.old }
     ensures reader { IsReader store.now seat.new s }
     ensures watched { Watched seat.old.view seat.new.view s }
-    ensures count { (place : ℕ → ℕ) → Places (knows seat.old.view s) place → walked_of result + entries_add (knows seat.old.view s).begin (λ slot. 1) times.new 256 ≡ count_of (between place (256 * range) (256 * range + 256) (table_seen (knows seat.old.view s))) }
-    ensures seen { result ≡ None → (i : ℕ) → i < 256 → is_seen (knows seat.old.view s).begin (slice_index times.new i) ≡ true }
-    ensures few { walked_of result ≤ 256 }
+    ensures count { (place : ℕ → ℕ) → Places (knows seat.old.view s) place → result.total + entries_add (knows seat.old.view s).begin (λ slot. 1) times.new 256 ≡ count_of (between place (256 * range) (256 * range + 256) (table_seen (knows seat.old.view s))) }
+    ensures others { result.sees_others ≡ true → (i : ℕ) → i < 256 → is_seen (knows seat.old.view s).begin (slice_index times.new i) ≡ true }
+    ensures few { result.total ≤ 256 }
 {
     seat.consider();
     load_heads(store, seat, s, range, heads);
     let begin = seat.begin(s);
-    if let Some(all_present) = all_told(heads, times, tps, begin) {
-        return none_counted(all_present);
+    let known = surveyed(heads, times, tps, begin);
+    if known.all_told {
+        return Walked {
+            total: 0,
+            sees_others: known.all_present,
+        };
     }
-    let mut rows: u64 = 0;
+    let mut total: u64 = 0;
     for slot in 0..256 {
         seat.consider();
         if !is_told(heads[slot as usize], times[slot as usize], tps, begin) {
             times[slot as usize] = 0;
             let number = 256 * range + slot;
             if cell_by_chain(store, seat, s, RecordId { number }, 0).is_some() {
-                rows += 1;
+                total += 1;
             }
         }
     }
-    Some(rows)
+    Walked {
+        total,
+        sees_others: false,
+    }
 }

@@ -7,7 +7,7 @@ use Rattle.lst_rule.specs.Rule.{knows}
 use Rattle.lst_sights.proofs.Watching.{watches_join}
 use Rattle.lst_walk.specs.Packed.{Skims}
 use Rattle.lst_scan.specs.Scans.{table_seen, between}
-use Rattle.lst_scan.specs.Paged.{entries_add, walked_of}
+use Rattle.lst_scan.specs.Paged.{entries_add}
 use Rattle.lst_scan.proofs.Sheets.{hand_low, stamps_loaded, stamps_skim, count_before}
 use Rattle.lst_scan.proofs.paged.count_by_page.Goals as goal
 
@@ -29,10 +29,10 @@ returns-clause-count c = let r = c.requires.reader in
     let skims : Skims c.args.seat.now.view c.load_times.new.seat.view c.args.s = stamps_skim c.args.seat.now.view c.load_frame-tps.new.seat.view c.load_times.new.seat.view c.args.s c.args.frame c.load_frame-tps.result (slice_index c.load_times.new.out) r.host
     (hand_low c.args.seat.now.view c.args.s c.args.range 0 c.args.frame c.consider.ensures r.host r.own c.requires.frame) c.load_frame-tps.ensures.loaded c.load_times.ensures.loads c.load_times.ensures.found in
     let begin_is : c.begin.result ≡ (knows c.load_times.new.seat.view c.args.s).begin = c.begin.ensures ∙ ap (λ (k : Known). k.begin) c.count_untold-walked.ensures.watched.watches.is in
-    let lanes : c.with_rows.result ≡ walked_of c.count_untold-walked.result + entries_add (knows c.load_times.new.seat.view c.args.s).begin (λ (slot : ℕ). 1) c.count_untold-walked.new.times 256 =
-    c.with_rows.ensures.rows ∙ ap (λ (b : ℕ). walked_of c.count_untold-walked.result + entries_add b (λ (slot : ℕ). 1) c.count_untold-walked.new.times 256) begin_is in
+    let lanes : c.with_rows.result ≡ c.count_untold-walked.result.total + entries_add (knows c.load_times.new.seat.view c.args.s).begin (λ (slot : ℕ). 1) c.count_untold-walked.new.times 256 =
+    c.with_rows.ensures.rows ∙ ap (λ (b : ℕ). c.count_untold-walked.result.total + entries_add b (λ (slot : ℕ). 1) c.count_untold-walked.new.times 256) begin_is in
     let end : 256 * c.args.range + 256 ≡ 256 * (c.args.range + 1) = omega arith in
     count_before c.args.seat.now.view c.load_times.new.seat.view c.args.s (256 * c.args.range) (256 * (c.args.range + 1)) c.with_rows.result c.consider.ensures r.host r.opened skims.watched
     (λ place places. lanes
-    ∙ subst (λ (n : ℕ). walked_of c.count_untold-walked.result + entries_add (knows c.load_times.new.seat.view c.args.s).begin (λ (slot : ℕ). 1) c.count_untold-walked.new.times 256 ≡ count_of (between place (256 * c.args.range) n (table_seen (knows c.load_times.new.seat.view c.args.s)))) end
+    ∙ subst (λ (n : ℕ). c.count_untold-walked.result.total + entries_add (knows c.load_times.new.seat.view c.args.s).begin (λ (slot : ℕ). 1) c.count_untold-walked.new.times 256 ≡ count_of (between place (256 * c.args.range) n (table_seen (knows c.load_times.new.seat.view c.args.s)))) end
     (c.count_untold-walked.ensures.count place places))

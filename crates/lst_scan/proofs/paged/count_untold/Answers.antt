@@ -1,4 +1,4 @@
-use Rattle.std.proofs.Common.{◌≡◌, ℕ, ◌+◌, ◌*◌, ◌/◌, ◌<◌, ◌≤◌, Bool, Some, slice_index, sym, subst, ap, ◌∙◌, arith, true≢false}
+use Rattle.std.proofs.Common.{◌≡◌, ℕ, ◌+◌, ◌*◌, ◌/◌, ◌<◌, ◌≤◌, slice_index, sym, subst, ap, ◌∙◌, arith, true≢false}
 use Rattle.lst_bits.specs.Times.{time_of}
 use Rattle.lst_kernel.specs.Entries.{lane_of}
 use Rattle.lst_core_state.specs.declared.known.Known.{Known}
@@ -11,35 +11,23 @@ use Rattle.lst_scan.proofs.Dividing.{cells_stay}
 use Rattle.lst_scan.proofs.Parts.{count_is}
 use Rattle.lst_scan.proofs.Seeing.{one_weight, no_weight}
 use Rattle.lst_scan.proofs.Sheets.{heads_skim, told_both, put_short, walks_start, walks_told, walks_walked, covers_start, covers_put}
-use Rattle.lst_scan.proofs.Seen.{entry_seen}
 use Rattle.lst_scan.proofs.Told.{one_told, ones_told, covers_told, covers_same, stands_first, stands_told, stands_put}
 use Rattle.lst_scan.proofs.paged.count_untold.Goals.{then-not-is_told+then-is_some, then-not-is_told+else-is_some, else-not-is_told}
 use Rattle.lst_scan.proofs.paged.count_untold.Goals as goal
 
-pub returns-in-Some-clause-watched : goal.returns-in-Some-clause-watched
-returns-in-Some-clause-watched c = let r = c.requires.reader in
+pub returns-then-known-clause-watched : goal.returns-then-known-clause-watched
+returns-then-known-clause-watched c = let r = c.requires.reader in
     let skims : Skims c.args.seat.now.view c.load_heads.new.seat.view c.args.s = heads_skim c.args.seat.now.view c.load_heads.new.seat.view c.args.s c.args.range (slice_index c.load_heads.new.out) r.host (subst (λ l. c.args.range < l.ranges) (sym r.seat_of.limits) c.requires.range) c.load_heads.ensures.loads c.load_heads.ensures.found in
     skims.watched
 
-pub returns-in-Some-clause-count : goal.returns-in-Some-clause-count
-returns-in-Some-clause-count c = let r = c.requires.reader in
+pub returns-then-known-clause-count : goal.returns-then-known-clause-count
+returns-then-known-clause-count c = let r = c.requires.reader in
     let skims : Skims c.args.seat.now.view c.load_heads.new.seat.view c.args.s = heads_skim c.args.seat.now.view c.load_heads.new.seat.view c.args.s c.args.range (slice_index c.load_heads.new.out) r.host (subst (λ l. c.args.range < l.ranges) (sym r.seat_of.limits) c.requires.range) c.load_heads.ensures.loads c.load_heads.ensures.found in
     let begin_is : c.begin-begin.result ≡ (knows c.args.seat.now.view c.args.s).begin = c.begin-begin.ensures ∙ ap (λ (k : Known). k.begin) skims.watched.watches.is in
     let all : (i : ℕ) → i < 256 → (slice_index c.load_heads.new.out i / 2 ≤ c.args.tps) × (time_of (slice_index c.args.times.now i) ≤ (knows c.args.seat.now.view c.args.s).begin) =
-    λ i few. let both = c.in-Some.ensures.told i few in (both.0, subst (λ (n : ℕ). time_of (slice_index c.args.times.now i) ≤ n) begin_is both.1) in
-    λ place places. ap (λ (n : ℕ). n + entries_add (knows c.args.seat.now.view c.args.s).begin (λ (slot : ℕ). 1) c.args.times.now 256) c.none_counted.ensures.none
-    ∙ (ones_told c.args.store.now c.args.seat.now c.args.s c.args.range 0 c.args.tps c.args.times.now c.consider.ensures r c.requires.range c.args.store.now.layout.valid.columns.0 c.requires.page (slice_index c.load_heads.new.out) c.load_heads.new.seat.view c.load_heads.ensures.loads all 256 (omega arith) place places
-    ∙ sym (count_is (between place (256 * c.args.range) (256 * c.args.range + 256) (table_seen (knows c.args.seat.now.view c.args.s)))))
-
-pub returns-in-Some-clause-seen : goal.returns-in-Some-clause-seen
-returns-in-Some-clause-seen c = let r = c.requires.reader in
-    let skims : Skims c.args.seat.now.view c.load_heads.new.seat.view c.args.s = heads_skim c.args.seat.now.view c.load_heads.new.seat.view c.args.s c.args.range (slice_index c.load_heads.new.out) r.host (subst (λ l. c.args.range < l.ranges) (sym r.seat_of.limits) c.requires.range) c.load_heads.ensures.loads c.load_heads.ensures.found in
-    let begin_is : c.begin-begin.result ≡ (knows c.args.seat.now.view c.args.s).begin = c.begin-begin.ensures ∙ ap (λ (k : Known). k.begin) skims.watched.watches.is in
-    λ none i few. entry_seen (knows c.args.seat.now.view c.args.s).begin (slice_index c.args.times.now i) (c.in-Some.ensures.present (ap (λ (b : Bool). Some b) (c.none_counted.ensures.seen none)) i few)
-    (subst (λ (n : ℕ). time_of (slice_index c.args.times.now i) ≤ n) begin_is (c.in-Some.ensures.told i few).1)
-
-pub returns-in-Some-clause-few : goal.returns-in-Some-clause-few
-returns-in-Some-clause-few c = let zero = c.none_counted.ensures.none in omega arith
+    λ i few. let both = c.surveyed-known.ensures.told c.if-known.true i few in (both.0, subst (λ (n : ℕ). time_of (slice_index c.args.times.now i) ≤ n) begin_is both.1) in
+    λ place places. ones_told c.args.store.now c.args.seat.now c.args.s c.args.range 0 c.args.tps c.args.times.now c.consider.ensures r c.requires.range c.args.store.now.layout.valid.columns.0 c.requires.page (slice_index c.load_heads.new.out) c.load_heads.new.seat.view c.load_heads.ensures.loads all 256 (omega arith) place places
+    ∙ sym (count_is (between place (256 * c.args.range) (256 * c.args.range + 256) (table_seen (knows c.args.seat.now.view c.args.s))))
 
 pub loop-slot-init : goal.loop-slot-init
 loop-slot-init c = let r = c.requires.reader in
@@ -61,28 +49,28 @@ loop-slot-preserved c = let r = c.requires.reader in let walks = c.loop-slot.inv
       | then-not-is_told+then-is_some w ↦
           let on = cells_stay c.args.seat.now.view c.loop-slot.seat.view c.args.s (256 * c.args.range + c.loop-slot.slot) 0 w.cell_by_chain.result c.consider.ensures c.consider-in-loop-slot.ensures r.host r.opened walks.scans.watched w.cell_by_chain.ensures.cell in
           let weight = one_weight 0 on.0 w.cell_by_chain.result on.2 (sym w.is_some.ensures ∙ w.if-is_some.true) in (
-            walks_walked c.args.store.now c.args.seat.now.view c.loop-slot.seat c.if-not-is_told.seat w.cell_by_chain.new.seat c.args.s 1 c.loop-slot.slot c.loop-slot.rows c.if-not-is_told.rows 1 w.seat-is (let e = w.rows-is in omega arith) (omega arith) few w.cell_by_chain.ensures.reader w.cell_by_chain.ensures.watched walks,
-            covers_put c.args.seat.now.view c.args.s (λ _. 1) (256 * c.args.range) c.loop-slot.slot c.loop-slot.rows c.if-not-is_told.rows (knows c.args.seat.now.view c.args.s).begin (λ (slot : ℕ). 1) c.loop-slot.times c.if-not-is_told.times
+            walks_walked c.args.store.now c.args.seat.now.view c.loop-slot.seat c.if-not-is_told.seat w.cell_by_chain.new.seat c.args.s 1 c.loop-slot.slot c.loop-slot.total c.if-not-is_told.total 1 w.seat-is (let e = w.total-is in omega arith) (omega arith) few w.cell_by_chain.ensures.reader w.cell_by_chain.ensures.watched walks,
+            covers_put c.args.seat.now.view c.args.s (λ _. 1) (256 * c.args.range) c.loop-slot.slot c.loop-slot.total c.if-not-is_told.total (knows c.args.seat.now.view c.args.s).begin (λ (slot : ℕ). 1) c.loop-slot.times c.if-not-is_told.times
                 0 1 (put_short c.loop-slot.times c.if-not-is_told.times c.loop-slot.slot 0 few c.if-not-is_told.array_long w.times-is) c.consider.ensures r.host on.0 on.1
-                (omega arith) (let e = w.rows-is in omega arith) w.times-is c.loop-slot.invariant.1,
+                (omega arith) (let e = w.total-is in omega arith) w.times-is c.loop-slot.invariant.1,
             stands_put c.loop-slot.slot 0 c.args.times.now c.loop-slot.times c.if-not-is_told.times w.times-is stands,
           )
       | then-not-is_told+else-is_some w ↦
           let on = cells_stay c.args.seat.now.view c.loop-slot.seat.view c.args.s (256 * c.args.range + c.loop-slot.slot) 0 w.cell_by_chain.result c.consider.ensures c.consider-in-loop-slot.ensures r.host r.opened walks.scans.watched w.cell_by_chain.ensures.cell in
           let weight = no_weight 0 on.0 w.cell_by_chain.result on.2 (λ there. true≢false (sym there ∙ (sym w.is_some.ensures ∙ w.if-is_some.false))) in (
-            walks_walked c.args.store.now c.args.seat.now.view c.loop-slot.seat c.if-not-is_told.seat w.cell_by_chain.new.seat c.args.s 1 c.loop-slot.slot c.loop-slot.rows c.if-not-is_told.rows 0 w.seat-is (let e = w.rows-is in omega arith) (omega arith) few w.cell_by_chain.ensures.reader w.cell_by_chain.ensures.watched walks,
-            covers_put c.args.seat.now.view c.args.s (λ _. 1) (256 * c.args.range) c.loop-slot.slot c.loop-slot.rows c.if-not-is_told.rows (knows c.args.seat.now.view c.args.s).begin (λ (slot : ℕ). 1) c.loop-slot.times c.if-not-is_told.times
+            walks_walked c.args.store.now c.args.seat.now.view c.loop-slot.seat c.if-not-is_told.seat w.cell_by_chain.new.seat c.args.s 1 c.loop-slot.slot c.loop-slot.total c.if-not-is_told.total 0 w.seat-is (let e = w.total-is in omega arith) (omega arith) few w.cell_by_chain.ensures.reader w.cell_by_chain.ensures.watched walks,
+            covers_put c.args.seat.now.view c.args.s (λ _. 1) (256 * c.args.range) c.loop-slot.slot c.loop-slot.total c.if-not-is_told.total (knows c.args.seat.now.view c.args.s).begin (λ (slot : ℕ). 1) c.loop-slot.times c.if-not-is_told.times
                 0 0 (put_short c.loop-slot.times c.if-not-is_told.times c.loop-slot.slot 0 few c.if-not-is_told.array_long w.times-is) c.consider.ensures r.host on.0 on.1
-                (omega arith) (let e = w.rows-is in omega arith) w.times-is c.loop-slot.invariant.1,
+                (omega arith) (let e = w.total-is in omega arith) w.times-is c.loop-slot.invariant.1,
             stands_put c.loop-slot.slot 0 c.args.times.now c.loop-slot.times c.if-not-is_told.times w.times-is stands,
           )
       | else-not-is_told w ↦
           let both = told_both (slice_index c.load_heads.new.out c.loop-slot.slot) (slice_index c.loop-slot.times c.loop-slot.slot) c.args.tps c.begin-begin.result c.is_told.result c.is_told.ensures w.if-not-is_told.false in
           let early : time_of (slice_index c.args.times.now c.loop-slot.slot) ≤ (knows c.args.seat.now.view c.args.s).begin = subst (λ (n : ℕ). time_of (slice_index c.args.times.now c.loop-slot.slot) ≤ n) begin_is (subst (λ (n : ℕ). time_of n ≤ c.begin-begin.result) here both.1) in
           let told = one_told c.args.store.now c.args.seat.now c.args.s c.args.range 0 c.args.tps c.args.times.now c.consider.ensures r c.requires.range c.args.store.now.layout.valid.columns.0 c.requires.page (slice_index c.load_heads.new.out) c.load_heads.new.seat.view c.load_heads.ensures.loads c.loop-slot.slot few both.0 early in (
-            walks_told c.args.store.now c.args.seat.now.view c.loop-slot.seat c.if-not-is_told.seat c.args.s 1 c.loop-slot.slot c.loop-slot.rows c.if-not-is_told.rows w.seat-is w.rows-is few walks,
-            covers_same c.args.seat.now.view c.args.s (λ _. 1) (256 * c.args.range) (c.loop-slot.slot + 1) c.loop-slot.rows c.if-not-is_told.rows (knows c.args.seat.now.view c.args.s).begin (λ (slot : ℕ). 1) c.loop-slot.times c.if-not-is_told.times w.rows-is w.times-is
-                (covers_told c.args.seat.now.view c.args.s (λ _. 1) (256 * c.args.range) c.loop-slot.slot c.loop-slot.rows (knows c.args.seat.now.view c.args.s).begin (λ (slot : ℕ). 1) c.loop-slot.times c.consider.ensures r.host told.0 told.1
+            walks_told c.args.store.now c.args.seat.now.view c.loop-slot.seat c.if-not-is_told.seat c.args.s 1 c.loop-slot.slot c.loop-slot.total c.if-not-is_told.total w.seat-is w.total-is few walks,
+            covers_same c.args.seat.now.view c.args.s (λ _. 1) (256 * c.args.range) (c.loop-slot.slot + 1) c.loop-slot.total c.if-not-is_told.total (knows c.args.seat.now.view c.args.s).begin (λ (slot : ℕ). 1) c.loop-slot.times c.if-not-is_told.times w.total-is w.times-is
+                (covers_told c.args.seat.now.view c.args.s (λ _. 1) (256 * c.args.range) c.loop-slot.slot c.loop-slot.total (knows c.args.seat.now.view c.args.s).begin (λ (slot : ℕ). 1) c.loop-slot.times c.consider.ensures r.host told.0 told.1
                 (ap (λ (n : ℕ). lane_of (knows c.args.seat.now.view c.args.s).begin 1 n) here ∙ told.2) c.loop-slot.invariant.1),
             stands_told c.loop-slot.slot c.args.times.now c.loop-slot.times c.if-not-is_told.times w.times-is stands,
           )
@@ -90,5 +78,5 @@ loop-slot-preserved c = let r = c.requires.reader in let walks = c.loop-slot.inv
 
 pub returns-clause-count : goal.returns-clause-count
 returns-clause-count c = λ place places. let invariant = c.loop-slot.invariant in let end : c.loop-slot.slot ≡ 256 = (let t = c.loop-slot-test.false in let few = invariant.0.few in omega arith) in
-    subst (λ (n : ℕ). c.loop-slot.rows + entries_add (knows c.args.seat.now.view c.args.s).begin (λ (slot : ℕ). 1) c.loop-slot.times n ≡ count_of (between place (256 * c.args.range) (256 * c.args.range + n) (table_seen (knows c.args.seat.now.view c.args.s)))) end
+    subst (λ (n : ℕ). c.loop-slot.total + entries_add (knows c.args.seat.now.view c.args.s).begin (λ (slot : ℕ). 1) c.loop-slot.times n ≡ count_of (between place (256 * c.args.range) (256 * c.args.range + n) (table_seen (knows c.args.seat.now.view c.args.s)))) end
     (invariant.1 place places ∙ sym (count_is (between place (256 * c.args.range) (256 * c.args.range + c.loop-slot.slot) (table_seen (knows c.args.seat.now.view c.args.s)))))

@@ -6,4 +6,4 @@ use Rattle.lst_scan.proofs.Told.{Stands}
 use Rattle.lst_scan.proofs.paged.count_untold.Given as goal
 
 abbrev pub invariant-loop-slot : goal.invariant-loop-slot
-invariant-loop-slot l = Walks l.store l.fn.seat.view l.seat l.s 1 l.slot l.rows × Covers l.fn.seat.view l.s (λ _. 1) (256 * l.range) l.slot (l.rows + entries_add (knows l.fn.seat.view l.s).begin (λ (slot : ℕ). 1) l.times l.slot) × Stands l.slot l.fn.times l.times
+invariant-loop-slot l = Walks l.store l.fn.seat.view l.seat l.s 1 l.slot l.total × Covers l.fn.seat.view l.s (λ _. 1) (256 * l.range) l.slot (l.total + entries_add (knows l.fn.seat.view l.s).begin (λ (slot : ℕ). 1) l.times l.slot) × Stands l.slot l.fn.times l.times

@@ -6,7 +6,7 @@ use Rattle.lst_rule.specs.Rule.{knows}
 use Rattle.lst_sights.proofs.Watching.{watches_join}
 use Rattle.lst_scan.specs.Scans.{table_seen, between}
 use Rattle.lst_scan.specs.Savings.{SavesPart}
-use Rattle.lst_scan.specs.Paged.{entries_add, walked_of}
+use Rattle.lst_scan.specs.Paged.{entries_add}
 use Rattle.lst_scan.proofs.Folded.{none_saves, saves_join}
 use Rattle.lst_scan.proofs.Sheets.{part_before}
 use Rattle.lst_scan.proofs.paged.sum_by_page.Goals as goal
@@ -32,10 +32,10 @@ returns-clause-saves c = let skims = c.open_page-tps.ensures.skims in let end : 
 pub returns-clause-sum : goal.returns-clause-sum
 returns-clause-sum c = let r = c.requires.reader in
     let begin_is : c.begin.result ≡ (knows c.open_page-tps.new.seat.view c.args.s).begin = c.begin.ensures ∙ ap (λ (k : Known). k.begin) c.sum_untold-walked.ensures.watched.watches.is in
-    let lanes : c.with_entries.result ≡ walked_of c.sum_untold-walked.result + entries_add (knows c.open_page-tps.new.seat.view c.args.s).begin (slice_index c.open_page-tps.new.sheet.values) c.sum_untold-walked.new.times 256 =
-    c.with_entries.ensures.sum ∙ ap (λ (b : ℕ). walked_of c.sum_untold-walked.result + entries_add b (slice_index c.open_page-tps.new.sheet.values) c.sum_untold-walked.new.times 256) begin_is in
+    let lanes : c.with_entries.result ≡ c.sum_untold-walked.result.total + entries_add (knows c.open_page-tps.new.seat.view c.args.s).begin (slice_index c.sum_untold-walked.new.values) c.sum_untold-walked.new.times 256 =
+    c.with_entries.ensures.sum ∙ ap (λ (b : ℕ). c.sum_untold-walked.result.total + entries_add b (slice_index c.sum_untold-walked.new.values) c.sum_untold-walked.new.times 256) begin_is in
     let end : 256 * c.args.range + 256 ≡ 256 * (c.args.range + 1) = omega arith in
     part_before c.args.seat.now.view c.open_page-tps.new.seat.view c.args.s (number_at c.args.c) (256 * c.args.range) (256 * (c.args.range + 1)) c.with_entries.result c.consider.ensures r.host r.opened c.open_page-tps.ensures.skims.watched
     (λ place places. lanes
-    ∙ subst (λ (n : ℕ). walked_of c.sum_untold-walked.result + entries_add (knows c.open_page-tps.new.seat.view c.args.s).begin (slice_index c.open_page-tps.new.sheet.values) c.sum_untold-walked.new.times 256 ≡ sum_of (between place (256 * c.args.range) n (table_seen (knows c.open_page-tps.new.seat.view c.args.s))) c.args.c) end
-    (c.sum_untold-walked.ensures.sum c.open_page-tps.ensures.page.0 c.open_page-tps.new.sheet.values c.open_page-tps.ensures.page.1 place places))
+    ∙ subst (λ (n : ℕ). c.sum_untold-walked.result.total + entries_add (knows c.open_page-tps.new.seat.view c.args.s).begin (slice_index c.sum_untold-walked.new.values) c.sum_untold-walked.new.times 256 ≡ sum_of (between place (256 * c.args.range) n (table_seen (knows c.open_page-tps.new.seat.view c.args.s))) c.args.c) end
+    (c.sum_untold-walked.ensures.sum c.open_page-tps.ensures.page.0 c.open_page-tps.ensures.page.1 place places))

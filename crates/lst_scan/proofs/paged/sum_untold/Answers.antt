@@ -1,6 +1,6 @@
-use Rattle.std.proofs.Common.{◌≡◌, ℕ, ◌+◌, ◌*◌, ◌/◌, ◌^◌, ◌<◌, ◌≤◌, Bool, Some, slice_index, sym, subst, ap, ◌∙◌, arith}
+use Rattle.std.proofs.Common.{◌≡◌, ℕ, ◌+◌, ◌*◌, ◌/◌, ◌^◌, ◌<◌, ◌≤◌, true, slice_index, sym, subst, ap, ◌∙◌, arith}
 use Rattle.lst_bits.specs.Times.{time_of}
-use Rattle.lst_kernel.specs.Entries.{lane_of}
+use Rattle.lst_kernel.specs.Entries.{is_seen, lane_of}
 use Rattle.lst_core_state.specs.declared.known.Known.{Known}
 use Rattle.lst_model.specs.Cells.{number_at}
 use Rattle.lst_model.specs.Tables.{sum_of}
@@ -15,33 +15,23 @@ use Rattle.lst_scan.proofs.Seeing.{number_weight}
 use Rattle.lst_scan.proofs.Sheets.{heads_skim, told_both, put_short, walks_start, walks_told, walks_walked, covers_start, covers_put}
 use Rattle.lst_scan.proofs.Told.{number_told, numbers_told, covers_told, covers_same, stands_first, stands_told, stands_put}
 use Rattle.lst_scan.proofs.Seen.{entry_seen}
+use Rattle.lst_scan.proofs.Adding.{adds_first, adds_told, adds_put, adds_same}
 use Rattle.lst_scan.proofs.Untold.{saves_told, saves_untold, not_told}
 use Rattle.lst_scan.proofs.paged.sum_untold.Goals.{then-not-is_told, else-not-is_told}
 use Rattle.lst_scan.proofs.paged.sum_untold.Goals as goal
 
-pub returns-in-Some-clause-watched : goal.returns-in-Some-clause-watched
-returns-in-Some-clause-watched c = let r = c.requires.reader in
+pub returns-then-known-clause-watched : goal.returns-then-known-clause-watched
+returns-then-known-clause-watched c = let r = c.requires.reader in
     let skims : Skims c.args.seat.now.view c.load_heads.new.seat.view c.args.s = heads_skim c.args.seat.now.view c.load_heads.new.seat.view c.args.s c.args.range (slice_index c.load_heads.new.out) r.host (subst (λ l. c.args.range < l.ranges) (sym r.seat_of.limits) c.requires.range) c.load_heads.ensures.loads c.load_heads.ensures.found in
     skims.watched
 
-pub returns-in-Some-clause-sum : goal.returns-in-Some-clause-sum
-returns-in-Some-clause-sum c = let r = c.requires.reader in
+pub returns-then-known-clause-sum : goal.returns-then-known-clause-sum
+returns-then-known-clause-sum c = let r = c.requires.reader in
     let skims : Skims c.args.seat.now.view c.load_heads.new.seat.view c.args.s = heads_skim c.args.seat.now.view c.load_heads.new.seat.view c.args.s c.args.range (slice_index c.load_heads.new.out) r.host (subst (λ l. c.args.range < l.ranges) (sym r.seat_of.limits) c.requires.range) c.load_heads.ensures.loads c.load_heads.ensures.found in
     let begin_is : c.begin-begin.result ≡ (knows c.args.seat.now.view c.args.s).begin = c.begin-begin.ensures ∙ ap (λ (k : Known). k.begin) skims.watched.watches.is in
     let all : (i : ℕ) → i < 256 → (slice_index c.load_heads.new.out i / 2 ≤ c.args.tps) × (time_of (slice_index c.args.times.now i) ≤ (knows c.args.seat.now.view c.args.s).begin) =
-    λ i few. let both = c.in-Some.ensures.told i few in (both.0, subst (λ (n : ℕ). time_of (slice_index c.args.times.now i) ≤ n) begin_is both.1) in
-    λ page values has place places. ap (λ (n : ℕ). n + entries_add (knows c.args.seat.now.view c.args.s).begin (slice_index values) c.args.times.now 256) c.none_walked.ensures.none
-    ∙ numbers_told c.args.store.now c.args.seat.now c.args.s c.args.range c.args.c c.args.tps c.args.times.now c.consider.ensures r c.requires.range c.requires.column page (slice_index c.load_heads.new.out) c.load_heads.new.seat.view c.load_heads.ensures.loads all values has 256 (omega arith) place places
-
-pub returns-in-Some-clause-seen : goal.returns-in-Some-clause-seen
-returns-in-Some-clause-seen c = let r = c.requires.reader in
-    let skims : Skims c.args.seat.now.view c.load_heads.new.seat.view c.args.s = heads_skim c.args.seat.now.view c.load_heads.new.seat.view c.args.s c.args.range (slice_index c.load_heads.new.out) r.host (subst (λ l. c.args.range < l.ranges) (sym r.seat_of.limits) c.requires.range) c.load_heads.ensures.loads c.load_heads.ensures.found in
-    let begin_is : c.begin-begin.result ≡ (knows c.args.seat.now.view c.args.s).begin = c.begin-begin.ensures ∙ ap (λ (k : Known). k.begin) skims.watched.watches.is in
-    λ none i few. entry_seen (knows c.args.seat.now.view c.args.s).begin (slice_index c.args.times.now i) (c.in-Some.ensures.present (ap (λ (b : Bool). Some b) (c.none_walked.ensures.seen none)) i few)
-    (subst (λ (n : ℕ). time_of (slice_index c.args.times.now i) ≤ n) begin_is (c.in-Some.ensures.told i few).1)
-
-pub returns-in-Some-clause-few : goal.returns-in-Some-clause-few
-returns-in-Some-clause-few c = let zero = c.none_walked.ensures.none in omega arith
+    λ i few. let both = c.surveyed-known.ensures.told c.if-known.true i few in (both.0, subst (λ (n : ℕ). time_of (slice_index c.args.times.now i) ≤ n) begin_is both.1) in
+    λ page has place places. numbers_told c.args.store.now c.args.seat.now c.args.s c.args.range c.args.c c.args.tps c.args.times.now c.consider.ensures r c.requires.range c.requires.column page (slice_index c.load_heads.new.out) c.load_heads.new.seat.view c.load_heads.ensures.loads all c.args.values.now has 256 (omega arith) place places
 
 pub loop-slot-init : goal.loop-slot-init
 loop-slot-init c = let r = c.requires.reader in
@@ -50,6 +40,7 @@ loop-slot-init c = let r = c.requires.reader in
       λ page values has. covers_start c.args.seat.now.view c.args.s (number_at c.args.c) (256 * c.args.range) (knows c.args.seat.now.view c.args.s).begin (slice_index values) c.args.times.now,
       stands_first c.args.times.now,
       λ whole pinned needs. skims.finds,
+      adds_first (knows c.args.seat.now.view c.args.s).begin c.args.values.now c.surveyed-known.result.all_present c.args.times.now,
     )
 
 pub loop-slot-preserved : goal.loop-slot-preserved
@@ -70,6 +61,8 @@ loop-slot-preserved c = let r = c.requires.reader in let walks = c.loop-slot.inv
         saves_untold c.args.seat.now.view c.load_heads.new.seat.view c.if-not-is_told.seat.view c.args.s c.args.range c.args.c c.args.tps c.loop-slot.slot c.args.times.now (slice_index c.load_heads.new.out) few c.requires.told c.load_heads.ensures.loads
             (λ both. not_told (slice_index c.load_heads.new.out c.loop-slot.slot) (slice_index c.loop-slot.times c.loop-slot.slot) c.args.tps c.begin-begin.result c.is_told.result c.is_told.ensures w.if-not-is_told.true
             (both.0, subst (λ (n : ℕ). time_of n ≤ c.begin-begin.result) (sym here) (subst (λ (n : ℕ). time_of (slice_index c.args.times.now c.loop-slot.slot) ≤ n) (sym begin_is) both.1))),
+        adds_put (knows c.args.seat.now.view c.args.s).begin c.loop-slot.slot c.args.values.now c.surveyed-known.result.all_present c.loop-slot.times c.loop-slot.values c.if-not-is_told.times c.if-not-is_told.values
+            (put_short c.loop-slot.times c.if-not-is_told.times c.loop-slot.slot 0 few c.if-not-is_told.array_long w.times-is) (put_short c.loop-slot.values c.if-not-is_told.values c.loop-slot.slot 0 few c.if-not-is_told.array_long2 w.values-is) w.times-is w.values-is c.loop-slot.invariant.4,
       )
       | else-not-is_told w ↦
           let both = told_both (slice_index c.load_heads.new.out c.loop-slot.slot) (slice_index c.loop-slot.times c.loop-slot.slot) c.args.tps c.begin-begin.result c.is_told.result c.is_told.ensures w.if-not-is_told.false in
@@ -82,12 +75,15 @@ loop-slot-preserved c = let r = c.requires.reader in let walks = c.loop-slot.inv
                 (ap (λ (n : ℕ). lane_of (knows c.args.seat.now.view c.args.s).begin (slice_index values c.loop-slot.slot) n) here ∙ told.2) (c.loop-slot.invariant.1 page values has)),
             stands_told c.loop-slot.slot c.args.times.now c.loop-slot.times c.if-not-is_told.times w.times-is stands,
             saves_told c.args.seat.now.view c.loop-slot.seat.view c.if-not-is_told.seat.view c.args.s c.args.c (256 * c.args.range) c.loop-slot.slot (ap (λ (x : Sitting). (knows x.view c.args.s).finds) w.seat-is) c.loop-slot.invariant.3,
+            adds_told (knows c.args.seat.now.view c.args.s).begin c.loop-slot.slot c.args.values.now c.surveyed-known.result.all_present c.loop-slot.times c.loop-slot.values c.if-not-is_told.times c.if-not-is_told.values w.times-is w.values-is
+                (λ there. subst (λ (n : ℕ). is_seen (knows c.args.seat.now.view c.args.s).begin n ≡ true) (sym here) (entry_seen (knows c.args.seat.now.view c.args.s).begin (slice_index c.args.times.now c.loop-slot.slot) (c.surveyed-known.ensures.present there c.loop-slot.slot few) early)) c.loop-slot.invariant.4,
           )
     ]
 
 pub returns-clause-sum : goal.returns-clause-sum
-returns-clause-sum c = λ page values has place places. let invariant = c.loop-slot.invariant in let end : c.loop-slot.slot ≡ 256 = (let t = c.loop-slot-test.false in let few = invariant.0.few in omega arith) in
-    subst (λ (n : ℕ). c.loop-slot.total + entries_add (knows c.args.seat.now.view c.args.s).begin (slice_index values) c.loop-slot.times n ≡ sum_of (between place (256 * c.args.range) (256 * c.args.range + n) (table_seen (knows c.args.seat.now.view c.args.s))) c.args.c) end (invariant.1 page values has place places)
+returns-clause-sum c = λ page has place places. let invariant = c.loop-slot.invariant in let end : c.loop-slot.slot ≡ 256 = (let t = c.loop-slot-test.false in let few = invariant.0.few in omega arith) in
+    ap (λ (n : ℕ). c.loop-slot.total + n) (adds_same (knows c.args.seat.now.view c.args.s).begin c.loop-slot.slot c.args.values.now c.surveyed-known.result.all_present c.loop-slot.times c.loop-slot.values invariant.4 256)
+    ∙ subst (λ (n : ℕ). c.loop-slot.total + entries_add (knows c.args.seat.now.view c.args.s).begin (slice_index c.args.values.now) c.loop-slot.times n ≡ sum_of (between place (256 * c.args.range) (256 * c.args.range + n) (table_seen (knows c.args.seat.now.view c.args.s))) c.args.c) end (invariant.1 page c.args.values.now has place places)
 
 pub returns-clause-saves : goal.returns-clause-saves
 returns-clause-saves c = let invariant = c.loop-slot.invariant in let end : c.loop-slot.slot ≡ 256 = (let t = c.loop-slot-test.false in let few = invariant.0.few in omega arith) in

@@ -4,7 +4,7 @@ use native.Mathlib.Decide.{ℕ_discrete}
 use Rattle.std.specs.Int.{bit_at}
 use Rattle.std.proofs.lemmas.Nat.Bits.{bit_at_or, bit_at_and, bit_at_lowest}
 use Rattle.lst_bits.specs.Times.{time_of}
-use Rattle.lst_scan.proofs.paged.all_told.Goals as goal
+use Rattle.lst_scan.proofs.paged.surveyed.Goals as goal
 
 -- neither number has the bit where both together haven't
 or_none : (a b : ℕ) → bit_at (bit_or a b) 63 ≡ 0 → (bit_at a 63 ≡ 0) × (bit_at b 63 ≡ 0)
