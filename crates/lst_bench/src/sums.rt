@@ -12,7 +12,7 @@ use lst_layout::Limits;
 use lst_model::{Key, OutOfMemory, Patch, Row, Time};
 use lst_rule::Store;
 use lst_session::{Crew, Session, open_crew};
-use lst_work::par_sum;
+use lst_work::{all_can_begin, all_have_seen, par_sum};
 use std::alloc::Global;
 use std::thread::Threads;
 
@@ -139,26 +139,13 @@ fn end(store: &Store, crew: &mut Crew, s: u32)
     }
 }
 
-/// Whether each session of the crew has seen so many commits.
-fn have_seen(store: &Store, crew: &Crew, time: Time) -> bool
-    requires { IsCrewOf store.now crew.now }
-    ensures { IsTrue result → (s : ℕ) → s < crew.now.seat.view.limits.sessions → time ≤ length (knows crew.now.seat.view s).seen }
-{
-    for s in 0..crew.seat.limits().sessions {
-        if crew.seat.seen(s) < time {
-            return false;
-        }
-    }
-    true
-}
-
 /// The sessions of a crew that is parted, each of which has seen the commits up to this time.
 fn parted(alloc: Global, store: &Store, crew: Crew, time: Time) -> Result<Vec<Session>, OutOfMemory>
     requires { IsCrewOf store.now crew }
     ensures ready { IfOk result (λ sessions. All (IsReady store.now) sessions.items) }
     ensures alike { IfOk result (λ sessions. HaveSeenAlike time sessions.items) }
 {
-    if !have_seen(store, &crew, time) {
+    if !all_have_seen(store, &crew, time) {
         return Err(OutOfMemory);
     }
     crew.seat.consider();
@@ -166,20 +153,6 @@ fn parted(alloc: Global, store: &Store, crew: Crew, time: Time) -> Result<Vec<Se
         Ok((sessions, _)) => Ok(sessions.into_vec()),
         Err((_, OutOfMemory)) => Err(OutOfMemory),
     }
-}
-
-/// Whether each of the sessions may begin a transaction as of a time.
-fn can_begin(store: &Store, sessions: &[Session], time: Time) -> bool
-    requires { All (IsReady store.now) sessions.now }
-    ensures { IsTrue result → All (CanBeginAsOf store.now time) sessions.now }
-{
-    for i in 0..sessions.len() {
-        let session = &sessions[i];
-        if !session.is_idle() || session.is_spent() || session.seen() < time {
-            return false;
-        }
-    }
-    true
 }
 
 /// The sum of the column by these sessions side by side, or 0 where one of them may not begin a transaction.
@@ -191,7 +164,7 @@ fn total<R: Threads + Sync>(rt: &R, store: &Store, sessions: &mut [Session], tim
 {
     if sessions.is_empty()
         || store.layout().limits.columns == 0
-        || !can_begin(store, sessions, time)
+        || !all_can_begin(store, sessions, time)
     {
         return 0;
     }

@@ -10,7 +10,7 @@ use lst_layout::Limits;
 use lst_model::{Key, Row, Time};
 use lst_rule::Store;
 use lst_session::{Crew, Session, open_crew};
-use lst_work::par_sum;
+use lst_work::{all_can_begin, all_have_seen, par_sum};
 use std::alloc::Global;
 use std::process::Abort;
 use std::test::Fail;
@@ -54,26 +54,13 @@ fn hear(rt: &impl Abort, store: &Store, crew: &mut Crew)
     assert!(rt; crew.abort(store, 1).is_ok());
 }
 
-/// Whether each session of the crew has seen so many commits.
-fn have_seen(store: &Store, crew: &Crew, time: Time) -> bool
-    requires { IsCrewOf store.now crew.now }
-    ensures { IsTrue result → (s : ℕ) → s < crew.now.seat.view.limits.sessions → time ≤ length (knows crew.now.seat.view s).seen }
-{
-    for s in 0..crew.seat.limits().sessions {
-        if crew.seat.seen(s) < time {
-            return false;
-        }
-    }
-    true
-}
-
 /// The sessions of a crew that is parted, each of which has seen so many commits.
 fn parted(alloc: Global, store: &Store, crew: Crew, time: Time) -> Result<Vec<Session>, Fail>
     requires { IsCrewOf store.now crew }
     ensures ready { IfOk result (λ sessions. All (IsReady store.now) sessions.items) }
     ensures alike { IfOk result (λ sessions. (t : ℕ) → t ≤ time → HaveSeenAlike t sessions.items) }
 {
-    if !have_seen(store, &crew, time) {
+    if !all_have_seen(store, &crew, time) {
         return Err(Fail::from("each has seen them"));
     }
     crew.seat.consider();
@@ -81,20 +68,6 @@ fn parted(alloc: Global, store: &Store, crew: Crew, time: Time) -> Result<Vec<Se
         Ok((sessions, _)) => Ok(sessions.into_vec()),
         Err(_) => Err(Fail::from("there is memory")),
     }
-}
-
-/// Whether each of the sessions may begin a transaction as of a time.
-fn can_begin(store: &Store, sessions: &[Session], time: Time) -> bool
-    requires { All (IsReady store.now) sessions.now }
-    ensures { IsTrue result → All (CanBeginAsOf store.now time) sessions.now }
-{
-    for i in 0..sessions.len() {
-        let session = &sessions[i];
-        if !session.is_idle() || session.is_spent() || session.seen() < time {
-            return false;
-        }
-    }
-    true
 }
 
 /// What the sessions add up as of a time.
@@ -113,7 +86,7 @@ fn total(
 {
     assert!(rt; store.layout().limits.columns == 1);
     assert!(rt; sessions.len() == 2);
-    assert!(rt; can_begin(store, sessions, time));
+    assert!(rt; all_can_begin(store, sessions, time));
     par_sum(rt, store, sessions, time, 0)
 }
 

@@ -19,11 +19,7 @@ mod working;
 
 pub use gates::{FreeGate, Gate};
 pub use lines::line_reply;
-pub use merging::{MergeQueue, empty_queue, run_merges};
-pub use par_sums::{par_sum, sessions_see_alike};
-pub use phases::run_phase;
+pub use par_sums::{all_can_begin, all_have_seen, par_sum, sessions_see_alike};
 pub use reporting::work;
-pub use scripts::run_script;
 pub use totals::work_total;
-pub use workers::{Worker, run_lines, work_phase};
 pub use working::work_on;

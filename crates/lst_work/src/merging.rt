@@ -17,14 +17,14 @@ use std::sync::Wait;
 
 /// The replies to the merges that were made, in order.
 #[derive(Drop)]
-pub struct MergeQueue {
-    pub replies: VecDeque<Reply>,
+pub(crate) struct MergeQueue {
+    pub(crate) replies: VecDeque<Reply>,
     /// Memory ran out, and the rest of the lines was given up.
-    pub has_failed: bool,
+    pub(crate) has_failed: bool,
 }
 
 /// A queue of no replies.
-pub fn empty_queue(alloc: Global) -> MergeQueue
+pub(crate) fn empty_queue(alloc: Global) -> MergeQueue
     ensures none { result.replies.items ≡ [] }
     ensures ready { result.has_failed ≡ false }
 {
@@ -115,7 +115,7 @@ fn merge_lines<R: Wait, G: Gate>(
 }
 
 /// Makes the merges among these lines, unless memory runs out.
-pub fn run_merges<R: Wait, G: Gate>(
+pub(crate) fn run_merges<R: Wait, G: Gate>(
     rt: &R,
     store: &Store,
     pace: &Pace,

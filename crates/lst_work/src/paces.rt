@@ -7,7 +7,7 @@ const SESSIONS: usize = 16;
 /// How many merge lines each session of a phase has come past. The merge worker waits here, before each of its lines, for the sessions that haven't come
 /// past it yet. That is for speed alone: no promise rests on it.
 #[derive(Drop)]
-pub struct Pace {
+pub(crate) struct Pace {
     /// By session. One that has no more lines, or isn't there, has the greatest number.
     passed: Mutex<[u64; SESSIONS]>,
     moved: Condvar,

@@ -1,5 +1,5 @@
 //! A sum by several sessions side by side.
-ghost use Rattle.std.specs.Prelude.{◌≡◌, ℕ, List, ◌+◌, ◌-◌, ◌*◌, ◌^◌, ◌<◌, ◌≤◌, length, true};
+ghost use Rattle.std.specs.Prelude.{◌≡◌, ℕ, List, ◌+◌, ◌-◌, ◌*◌, ◌^◌, ◌<◌, ◌≤◌, ◌↔◌, length, true};
 ghost use Rattle.std.specs.List.{All};
 ghost use Rattle.std.specs.Thread.{IsSync};
 ghost use Rattle.lst_model.specs.declared.commits.Commit.{Commit};
@@ -8,6 +8,7 @@ ghost use Rattle.lst_model.specs.Tables.{sum_of};
 ghost use Rattle.lst_rule.specs.Rule.{knows};
 ghost use Rattle.lst_scan.specs.Scans.{table_seen, Places, between};
 ghost use Rattle.lst_session.specs.declared.session.Session.{Session as SessionValue};
+ghost use Rattle.lst_session.specs.Crews.{IsCrewOf};
 ghost use Rattle.lst_session.specs.Calls.{Begins, Ends, OnlyLooks};
 ghost use Rattle.lst_session.specs.Parting.{known_by, seen_at};
 ghost use Rattle.lst_session.specs.Passes.{IsReady};
@@ -16,7 +17,7 @@ ghost use Rattle.lst_work.specs.ParSums.{CanBeginAsOf, HasSeenFirst, HaveSeenAli
 use lst_model::Time;
 use lst_rule::Store;
 use lst_scan::sum_part;
-use lst_session::{Reader, Session};
+use lst_session::{Crew, Reader, Session};
 use std::thread::{Threads, join_mut};
 
 /// Begins a transaction as of a time that the session has seen.
@@ -178,8 +179,8 @@ fn sum_both<R: Threads + Sync>(
 /// one at the place i takes the ranges from i*R/n up to and without (i+1)*R/n, where R is the number of ranges. Each begins a read-only transaction as
 /// of the time, and ends it. The answer is that of one session's `sum` as of the time: numbers are added with 0 for null, and the sum never wraps.
 ///
-/// None of the sessions has a transaction open, and each may begin one more. They have seen the commits up to the time, the same ones, and know of the
-/// same records of their keys; `sessions_see_alike` says of which sessions that is so. Nothing here waits, and no memory is taken but for the threads.
+/// None of the sessions has a transaction open, and each may begin one more (`all_can_begin` tells). They have seen the commits up to the time, the same ones,
+/// and know of the same records of their keys; `sessions_see_alike` says of which sessions that is so. Nothing here waits, and no memory is taken but for the threads.
 pub fn par_sum<R: Threads + Sync>(
     rt: &R,
     store: &Store,
@@ -197,6 +198,35 @@ pub fn par_sum<R: Threads + Sync>(
     sessions[0].seat.consider();
     let shares = sessions.len();
     sum_shares(rt, store, sessions, time, column, 0, shares)
+}
+
+/// Whether each session of a crew has seen the commits up to a time. If so, those that the crew is parted into have seen alike up to it, as
+/// `sessions_see_alike` says.
+pub fn all_have_seen(store: &Store, crew: &Crew, time: Time) -> bool
+    requires { IsCrewOf store.now crew.now }
+    ensures { (result ≡ true) ↔ ((s : ℕ) → s < crew.now.seat.view.limits.sessions → time ≤ length (knows crew.now.seat.view s).seen) }
+{
+    for s in 0..crew.seat.limits().sessions {
+        if crew.seat.seen(s) < time {
+            return false;
+        }
+    }
+    true
+}
+
+/// Whether each of the sessions may begin a transaction as of a time, as `par_sum` asks: none has one open, each may begin one more, and has seen the
+/// commits up to the time.
+pub fn all_can_begin(store: &Store, sessions: &[Session], time: Time) -> bool
+    requires { All (IsReady store.now) sessions.now }
+    ensures { (result ≡ true) ↔ All (CanBeginAsOf store.now time) sessions.now }
+{
+    for i in 0..sessions.len() {
+        let session = &sessions[i];
+        if !session.is_idle() || session.is_spent() || session.seen() < time {
+            return false;
+        }
+    }
+    true
 }
 
 /// The sessions of a crew that is parted have seen alike up to each time that all of them had seen then. So have the one that tells a note and those that

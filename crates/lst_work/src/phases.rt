@@ -109,7 +109,7 @@ fn make_room_and_merge<R: Wait, G: Gate>(
 
 /// The workers run their sessions' lines beside each other, and beside them the merge worker makes room behind the replies to earlier lines, and the
 /// merges, each once all sessions have come past it. It has a thread of its own where one can be made, and goes last otherwise.
-pub fn run_phase<R: Threads + Wait + Sync, G: Gate + Sync>(
+pub(crate) fn run_phase<R: Threads + Wait + Sync, G: Gate + Sync>(
     rt: &R,
     alloc: Global,
     store: &Store,

@@ -183,7 +183,7 @@ fn run_part<R: Threads + Wait + Sync, G: Gate + Sync>(
 /// Runs a script: its phases one after another, and lets the sessions hear of each other between any two. The list has every session of the store,
 /// in order. Answers the sessions, and the replies in the order of the lines. The gate is called before and after each line, with the line's
 /// place in the script, from 1 on.
-pub fn run_script<R: Threads + Wait + Sync, G: Gate + Sync>(
+pub(crate) fn run_script<R: Threads + Wait + Sync, G: Gate + Sync>(
     rt: &R,
     alloc: Global,
     store: &Store,

@@ -16,18 +16,18 @@ use std::sync::Wait;
 
 /// One session's pass, with the replies to the lines that it has run, in order.
 #[derive(Drop)]
-pub struct Worker {
-    pub session: Session,
-    pub replies: Vec<Reply>,
+pub(crate) struct Worker {
+    pub(crate) session: Session,
+    pub(crate) replies: Vec<Reply>,
     /// Memory ran out, and the rest of the lines was given up.
-    pub has_failed: bool,
+    pub(crate) has_failed: bool,
 }
 
 impl Worker {
     ghost use Rattle.std.specs.Prelude.{◌≡◌, [], false};
 
     /// A worker that has run nothing yet.
-    pub fn new(alloc: Global, session: Session) -> Worker
+    pub(crate) fn new(alloc: Global, session: Session) -> Worker
         ensures session { result.session ≡ session }
         ensures none { result.replies.items ≡ [] }
         ensures ready { result.has_failed ≡ false }
@@ -94,7 +94,7 @@ fn run_line<R: Wait, G: Gate>(
 }
 
 /// Runs the session's lines among these. The first of them has the place `first` in the script.
-pub fn run_lines<R: Wait, G: Gate>(
+pub(crate) fn run_lines<R: Wait, G: Gate>(
     rt: &R,
     alloc: Global,
     store: &Store,
@@ -120,7 +120,7 @@ pub fn run_lines<R: Wait, G: Gate>(
 }
 
 /// Runs the session's lines among these, unless memory runs out.
-pub fn work_phase<R: Wait, G: Gate>(
+pub(crate) fn work_phase<R: Wait, G: Gate>(
     rt: &R,
     alloc: Global,
     store: &Store,

@@ -1,6 +1,0 @@
-use Rattle.std.proofs.Common.{ℕ, ◌<◌, ◌≤◌, length}
-use Rattle.lst_rule.specs.Rule.{knows}
-use Rattle.lst_bench.proofs.sums.have_seen.Given as goal
-
-abbrev pub invariant-loop-s : goal.invariant-loop-s
-invariant-loop-s l = (t : ℕ) → t < l.s → l.time ≤ length (knows l.crew.seat.view t).seen
