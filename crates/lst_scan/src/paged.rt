@@ -1,7 +1,7 @@
 //! Sums and counts over the records of a range by the page of a column: of its words those are loaded that its form takes, and its time words by
 //! one call, and the indirection words of the range by another. The page tells of each record whose newest version is at most its TPS, where the
 //! entry's time is at most the begin. The other records are walked along their chains, without another look at the page.
-ghost use Rattle.std.specs.Prelude.{◌≡◌, ℕ, ◌+◌, ◌*◌, ◌/◌, ◌%◌, ◌^◌, ◌<◌, ◌≤◌, List, IfSome, None, length, slice_index, nat_le, ◌&&◌, true};
+ghost use Rattle.std.specs.Prelude.{◌≡◌, ℕ, ◌+◌, ◌*◌, ◌/◌, ◌%◌, ◌^◌, ◌<◌, ◌≤◌, ◌↔◌, List, IfSome, None, length, slice_index, nat_le, ◌&&◌, true};
 ghost use Rattle.lst_model.specs.Tables.{sum_of, count_of};
 ghost use Rattle.lst_bits.specs.Times.{time_of};
 ghost use Rattle.lst_layout.specs.Areas.{frame_count};
@@ -147,8 +147,8 @@ struct Survey {
 /// Looks at the indirection words of a range and the time words of a page with this TPS. Half of each word gets the room that its greatest number has below
 /// 2^63 added: one that is above comes to 2^63 or more. So all are looked at once, without a branch.
 fn surveyed(heads: &[u64; 256], times: &[u64; 256], tps: u64, begin: u64) -> Survey
-    ensures told { result.all_told ≡ true → (i : ℕ) → i < 256 → (slice_index heads.now i / 2 ≤ tps) × (time_of (slice_index times.now i) ≤ begin) }
-    ensures present { result.all_present ≡ true → (i : ℕ) → i < 256 → slice_index times.now i % 2 ≡ 1 }
+    ensures told { (result.all_told ≡ true) ↔ ((i : ℕ) → i < 256 → (slice_index heads.now i / 2 ≤ tps) × (time_of (slice_index times.now i) ≤ begin)) }
+    ensures present { (result.all_present ≡ true) ↔ ((i : ℕ) → i < 256 → slice_index times.now i % 2 ≡ 1) }
 {
     let head_room = LAST - tps.min(LAST);
     let time_room = LAST - begin.min(LAST);
@@ -248,6 +248,7 @@ fn sum_untold(
     ensures sum { (page : HasPage seat.old.view s range c tps times.old) → HasValues page values.old → (place : ℕ → ℕ) → Places (knows seat.old.view s) place → result.total + entries_add (knows seat.old.view s).begin (slice_index values.new) times.new 256 ≡ sum_of (between place (256 * range) (256 * range + 256) (table_seen (knows seat.old.view s))) c }
     ensures saves { SavesPart seat.old.view seat.new.view s c (256 * range) (256 * range + 256) }
     ensures others { result.sees_others ≡ true → AddsAll (knows seat.old.view s).begin values.new times.new }
+    ensures present { ((i : ℕ) → i < 256 → slice_index times.old i % 2 ≡ 1) → result.sees_others ≡ true }
     ensures few { result.total ≤ 2 ^ 72 }
 {
     seat.consider();

@@ -25,7 +25,7 @@ returns-then-known-clause-count c = let r = c.requires.reader in
     let skims : Skims c.args.seat.now.view c.load_heads.new.seat.view c.args.s = heads_skim c.args.seat.now.view c.load_heads.new.seat.view c.args.s c.args.range (slice_index c.load_heads.new.out) r.host (subst (λ l. c.args.range < l.ranges) (sym r.seat_of.limits) c.requires.range) c.load_heads.ensures.loads c.load_heads.ensures.found in
     let begin_is : c.begin-begin.result ≡ (knows c.args.seat.now.view c.args.s).begin = c.begin-begin.ensures ∙ ap (λ (k : Known). k.begin) skims.watched.watches.is in
     let all : (i : ℕ) → i < 256 → (slice_index c.load_heads.new.out i / 2 ≤ c.args.tps) × (time_of (slice_index c.args.times.now i) ≤ (knows c.args.seat.now.view c.args.s).begin) =
-    λ i few. let both = c.surveyed-known.ensures.told c.if-known.true i few in (both.0, subst (λ (n : ℕ). time_of (slice_index c.args.times.now i) ≤ n) begin_is both.1) in
+    λ i few. let both = c.surveyed-known.ensures.told.0 c.if-known.true i few in (both.0, subst (λ (n : ℕ). time_of (slice_index c.args.times.now i) ≤ n) begin_is both.1) in
     λ place places. ones_told c.args.store.now c.args.seat.now c.args.s c.args.range 0 c.args.tps c.args.times.now c.consider.ensures r c.requires.range c.args.store.now.layout.valid.columns.0 c.requires.page (slice_index c.load_heads.new.out) c.load_heads.new.seat.view c.load_heads.ensures.loads all 256 (omega arith) place places
     ∙ sym (count_is (between place (256 * c.args.range) (256 * c.args.range + 256) (table_seen (knows c.args.seat.now.view c.args.s))))
 

@@ -30,7 +30,7 @@ returns-then-known-clause-sum c = let r = c.requires.reader in
     let skims : Skims c.args.seat.now.view c.load_heads.new.seat.view c.args.s = heads_skim c.args.seat.now.view c.load_heads.new.seat.view c.args.s c.args.range (slice_index c.load_heads.new.out) r.host (subst (λ l. c.args.range < l.ranges) (sym r.seat_of.limits) c.requires.range) c.load_heads.ensures.loads c.load_heads.ensures.found in
     let begin_is : c.begin-begin.result ≡ (knows c.args.seat.now.view c.args.s).begin = c.begin-begin.ensures ∙ ap (λ (k : Known). k.begin) skims.watched.watches.is in
     let all : (i : ℕ) → i < 256 → (slice_index c.load_heads.new.out i / 2 ≤ c.args.tps) × (time_of (slice_index c.args.times.now i) ≤ (knows c.args.seat.now.view c.args.s).begin) =
-    λ i few. let both = c.surveyed-known.ensures.told c.if-known.true i few in (both.0, subst (λ (n : ℕ). time_of (slice_index c.args.times.now i) ≤ n) begin_is both.1) in
+    λ i few. let both = c.surveyed-known.ensures.told.0 c.if-known.true i few in (both.0, subst (λ (n : ℕ). time_of (slice_index c.args.times.now i) ≤ n) begin_is both.1) in
     λ page has place places. numbers_told c.args.store.now c.args.seat.now c.args.s c.args.range c.args.c c.args.tps c.args.times.now c.consider.ensures r c.requires.range c.requires.column page (slice_index c.load_heads.new.out) c.load_heads.new.seat.view c.load_heads.ensures.loads all c.args.values.now has 256 (omega arith) place places
 
 pub loop-slot-init : goal.loop-slot-init
@@ -76,7 +76,7 @@ loop-slot-preserved c = let r = c.requires.reader in let walks = c.loop-slot.inv
             stands_told c.loop-slot.slot c.args.times.now c.loop-slot.times c.if-not-is_told.times w.times-is stands,
             saves_told c.args.seat.now.view c.loop-slot.seat.view c.if-not-is_told.seat.view c.args.s c.args.c (256 * c.args.range) c.loop-slot.slot (ap (λ (x : Sitting). (knows x.view c.args.s).finds) w.seat-is) c.loop-slot.invariant.3,
             adds_told (knows c.args.seat.now.view c.args.s).begin c.loop-slot.slot c.args.values.now c.surveyed-known.result.all_present c.loop-slot.times c.loop-slot.values c.if-not-is_told.times c.if-not-is_told.values w.times-is w.values-is
-                (λ there. subst (λ (n : ℕ). is_seen (knows c.args.seat.now.view c.args.s).begin n ≡ true) (sym here) (entry_seen (knows c.args.seat.now.view c.args.s).begin (slice_index c.args.times.now c.loop-slot.slot) (c.surveyed-known.ensures.present there c.loop-slot.slot few) early)) c.loop-slot.invariant.4,
+                (λ there. subst (λ (n : ℕ). is_seen (knows c.args.seat.now.view c.args.s).begin n ≡ true) (sym here) (entry_seen (knows c.args.seat.now.view c.args.s).begin (slice_index c.args.times.now c.loop-slot.slot) (c.surveyed-known.ensures.present.0 there c.loop-slot.slot few) early)) c.loop-slot.invariant.4,
           )
     ]
 
