@@ -1,11 +1,10 @@
 //! Sums of a column, by one session or by several side by side: over merged pages, or as of the first commit, along chains of later versions.
-ghost use Rattle.std.specs.Prelude.{◌≡◌, ◌≤◌, ◌<◌, ℕ, IfOk, IsTrue, length};
+ghost use Rattle.std.specs.Prelude.{◌≤◌, ◌<◌, IfOk};
 ghost use Rattle.std.specs.List.{All};
 ghost use Rattle.lst_model.specs.Lines.{IsPatch};
-ghost use Rattle.lst_rule.specs.Rule.{knows};
 ghost use Rattle.lst_session.specs.Crews.{IsCrewOf};
 ghost use Rattle.lst_session.specs.Passes.{IsReady};
-ghost use Rattle.lst_work.specs.ParSums.{CanBeginAsOf, HaveSeenAlike};
+ghost use Rattle.lst_work.specs.ParSums.{HaveSeenAlike};
 
 use arrayvec::ArrayVec;
 use lst_layout::Limits;

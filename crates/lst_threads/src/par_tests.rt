@@ -1,10 +1,9 @@
 //! The sessions of a crew that is parted add up a column side by side.
-ghost use Rattle.std.specs.Prelude.{◌≡◌, ◌≤◌, ◌<◌, ℕ, IfOk, IsTrue, length};
+ghost use Rattle.std.specs.Prelude.{◌≤◌, ℕ, IfOk};
 ghost use Rattle.std.specs.List.{All};
-ghost use Rattle.lst_rule.specs.Rule.{knows};
 ghost use Rattle.lst_session.specs.Crews.{IsCrewOf};
 ghost use Rattle.lst_session.specs.Passes.{IsReady};
-ghost use Rattle.lst_work.specs.ParSums.{CanBeginAsOf, HaveSeenAlike};
+ghost use Rattle.lst_work.specs.ParSums.{HaveSeenAlike};
 
 use lst_layout::Limits;
 use lst_model::{Key, Row, Time};
