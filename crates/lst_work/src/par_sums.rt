@@ -10,7 +10,7 @@ ghost use Rattle.lst_scan.specs.Scans.{table_seen, Places, between};
 ghost use Rattle.lst_session.specs.declared.session.Session.{Session as SessionValue};
 ghost use Rattle.lst_session.specs.Crews.{IsCrewOf};
 ghost use Rattle.lst_session.specs.Calls.{Begins, Ends, OnlyLooks};
-ghost use Rattle.lst_session.specs.Parting.{known_by, seen_at};
+ghost use Rattle.lst_session.specs.Parting.{seen_at};
 ghost use Rattle.lst_session.specs.Passes.{IsReady};
 ghost use Rattle.lst_work.specs.ParSums.{CanBeginAsOf, HasSeenFirst, HaveSeenAlike, table_of, share_start, IsSumOf, CanShare, HaveShared, HasSummed, HaveSummed, PartedHaveSeenAlike, TellersKnow, HearersKnow, KnowersHaveSeenAlike, SeenAlikeIsKept, HearersHaveGrown, SummersHaveGrown};
 

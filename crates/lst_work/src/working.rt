@@ -19,13 +19,14 @@ use std::sync::Wait;
 use std::thread::Threads;
 
 /// Runs a script by the sessions of a store and its merger. In each phase a worker of each session runs its lines in order, beside the others and
-/// beside a merge worker, which runs the merges in order; the gate is called before and after each line. Between any two phases the sessions hear
-/// of each other. The list has every session of the store, in order.
+/// beside a merge worker, which runs the merges in order, each once all sessions have come past it; the gate is called before and after each line.
+/// Between any two phases the sessions hear of each other. The list has every session of the store, in order.
 ///
 /// Answers the sessions and the replies, in the order of the script's lines. `Works` says what the replies tell, by those rules of a legal report
 /// that speak of one session or of the merger, and what the lines leave of what each of them knows; `HaveRunThrough` says of each line what its
 /// session or the merger knew before and after it. For want of memory the sessions are given up,
-/// and what their lines did stands. A commit waits while another session commits; nothing is promised of when the call returns.
+/// and what their lines did stands. A commit waits while another session commits, and a merge for the lines before it; nothing is promised of when the
+/// call returns.
 pub fn work_on<R: Threads + Wait + Sync, G: Gate + Sync>(
     rt: &R,
     alloc: Global,
