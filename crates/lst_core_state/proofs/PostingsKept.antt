@@ -14,7 +14,7 @@ use Rattle.lst_core_state.specs.Cells.{has_bit, has_number, tail_count}
 use Rattle.lst_core_state.specs.declared.known.Hold.{Hold}
 use Rattle.lst_core_state.specs.State.{Words, record_in}
 use Rattle.lst_core_state.specs.Postings.{postings_size, value_first, value_position, IsAlike, IsPosted, is_alike, ends_at, is_unposted}
-use Rattle.lst_core_state.proofs.Functions.{either, put_in_else}
+use Rattle.lst_core_state.proofs.Functions.{put_in_else}
 use Rattle.lst_core_state.proofs.Positions.{bits_enough}
 use Rattle.lst_core_state.proofs.CellsKept.{put_in_here}
 

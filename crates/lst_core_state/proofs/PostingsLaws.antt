@@ -1,5 +1,5 @@
 -- What postings say in every sound state.
-use Rattle.std.proofs.Common.{◌≡◌, ◌⊎◌, ⊎_elim, inl, inr, ℕ, ◌+◌, ◌-◌, ◌<◌, refl, sym, subst, ap, ◌∙◌, arith}
+use Rattle.std.proofs.Common.{◌≡◌, ⊎_elim, inl, inr, ℕ, ◌+◌, ◌-◌, ◌<◌, refl, sym, subst, ap, ◌∙◌, arith}
 use mathlib.Core.Logic.{dite}
 use native.Mathlib.Decide.{ℕ_discrete, dec_lt}
 use Rattle.lst_layout.specs.declared.limits.Limits.{Limits}
@@ -8,8 +8,8 @@ use Rattle.lst_probe.proofs.Empty.{entries_leave_empty, runs_end}
 use Rattle.lst_core_state.specs.Lists.{Has}
 use Rattle.lst_core_state.specs.Cells.{tail_count}
 use Rattle.lst_core_state.specs.Postings.{postings_size, value_first, value_position, IsAlike}
-use Rattle.lst_core_state.specs.State.{Words, Core, line, record_in, writes_of}
-use Rattle.lst_core_state.specs.Sound.{InHand, Sound}
+use Rattle.lst_core_state.specs.State.{Words, line, record_in, writes_of}
+use Rattle.lst_core_state.specs.Sound.{InHand}
 use Rattle.lst_core_state.specs.Laws.{ChainsAreHistory, AbsentIsUnwritten, PostingsHaveRoom, VersionsAreShown, PostingsAreTails, MarkedArePosted, EndsAreMarked, UnpostedMayBePosted}
 use Rattle.lst_core_state.proofs.PostingsKept.{tails_low, value_low, ends_unposted}
 use Rattle.lst_core_state.proofs.Sightings.{history_front, chain_history, absent_line}

@@ -35,10 +35,11 @@ fn refreshed(turn: Stage) -> Stage
 fn gives_up(now: &Numbers, rec: u32, found: u64) -> bool
     ensures { result ≡ spec.gives_up now.now rec found }
 {
-    if now.hand as u64 == rec as u64 + 1 {
-        false
+    if now.has_key {
+        let named = rec as u64 + 1;
+        found == now.key && now.index == named && now.hand as u64 != named
     } else {
-        now.has_key && found == now.key && now.index == rec as u64 + 1
+        false
     }
 }
 
