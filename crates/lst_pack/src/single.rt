@@ -1,5 +1,5 @@
 //! One value of a packed page.
-ghost use Rattle.std.specs.Prelude.{◌≡◌, ℕ, ◌+◌, ◌*◌, ◌/◌, ◌%◌, ◌^◌, ◌<◌, ◌≤◌, List, length, slice_index};
+ghost use Rattle.std.specs.Prelude.{◌≡◌, ℕ, ◌+◌, ◌*◌, ◌/◌, ◌%◌, ◌^◌, ◌<◌, ◌≤◌, ◌⊎◌, List, length, slice_index};
 ghost use Rattle.lst_pack.specs.Forms.{number_at, run_value as value_of_run, code_at, difference_at, IsDictionary, AreRuns, IsInRun, IsReference, Packs, IsPacked};
 
 /// Words that are loaded one by one.
@@ -66,16 +66,31 @@ pub fn get_from<W: Words>(words: &mut W, i: u32) -> u64
     ensures later { W.later words.old words.new }
 {
     let first = words.word(0);
-    let kind = first % 8;
-    // The two forms that take the most steps are told first.
-    if kind == 4 {
+    // Of the five forms a frame of reference alone has this bit.
+    if first / 4 % 2 == 1 {
         referred_value(words, (first / 8) as u32, i)
-    } else if kind == 2 {
+    } else if first % 8 == 2 {
         named_value(words, (first / 8) as u32, i)
-    } else if first == 0 {
-        words.word(1 + i)
     } else if first == 1 {
         words.word(1)
+    } else {
+        other_value(words, first, i)
+    }
+}
+
+// The value at place `i` of a plain page, or of runs, whose first word this is. It stands apart, so that a reader's loop has the short forms alone.
+#[inline(never)]
+fn other_value<W: Words>(words: &mut W, first: u64, i: u32) -> u64
+    requires place { i < 256 }
+    requires packed { IsPacked (W.words words.old) }
+    requires first { first ≡ slice_index (W.words words.old) 0 }
+    requires other { (first ≡ 0) ⊎ (first % 8 ≡ 3) }
+    ensures value { (values : List ℕ) → Packs (W.words words.old) values → result ≡ slice_index values i }
+    ensures same { W.words words.new ≡ W.words words.old }
+    ensures later { W.later words.old words.new }
+{
+    if first == 0 {
+        words.word(1 + i)
     } else {
         run_value(words, (first / 8) as u32, i)
     }
