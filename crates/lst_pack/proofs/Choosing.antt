@@ -71,17 +71,17 @@ difference_within others values least greatest width is_least is_greatest stands
     let n = number_low others 2 width b.0 in
     omega (arith, a.2, b.2)
 
-module _ (values : List ℕ) (found : Survey) (counted : found.runs ≡ runs_below values 256) (are : AreKnown values 256 found.known found.distinct)
+module _ (values : List ℕ) (found : Survey) (runs : ℕ) (counted : runs ≡ runs_below values 256) (are : AreKnown values 256 found.known found.distinct)
     (is_least : IsLeast values 256 found.least) (is_greatest : IsGreatest values 256 found.greatest) (width : ℕ) (is_width : IsLeastWidth (found.greatest - found.least) width) where
   -- whatever list of words stands for the values, its form is one that may stand
-  may_stand : (other : Form) (others : List ℕ) → PacksAs other others values → MayStand found.runs found.distinct width other
+  may_stand : (other : Form) (others : List ℕ) → PacksAs other others values → MayStand runs found.distinct width other
   may_stand Constant others p = counted ∙ equal_is_one values (slice_index others 1) p.stands
   may_stand (Dictionary size) others p = (distinct_at_most others values found.known size found.distinct are p.has.named p.stands, p.has.few)
-  may_stand (Runs runs) others p = (subst (λ (n : ℕ). n ≤ runs) (sym counted) (runs_at_most others values runs p.has (λ place run low is. p.stands place low run is) (ends_within others runs p.has)), p.has.few)
+  may_stand (Runs more) others p = (subst (λ (n : ℕ). n ≤ more) (sym counted) (runs_at_most others values more p.has (λ place run low is. p.stands place low run is) (ends_within others more p.has)), p.has.few)
   may_stand (Reference other) others p = (is_width.least other p.has.whole (difference_within others values found.least found.greatest other is_least is_greatest p.stands), p.has.whole)
   may_stand Plain others p = tt
 
   -- so one that is at most each that may stand takes the fewest words
-  pub fewest : (form : Form) → ((other : Form) → MayStand found.runs found.distinct width other → IsAtMost form other)
+  pub fewest : (form : Form) → ((other : Form) → MayStand runs found.distinct width other → IsAtMost form other)
       → (other : Form) (others : List ℕ) → PacksAs other others values → IsAtMost form other
   fewest form each other others p = each other (may_stand other others p)

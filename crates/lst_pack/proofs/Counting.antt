@@ -31,30 +31,51 @@ begins_few values place = elim (nat_eq place 0) as (λ b. cond b 1 (cond (nat_eq
 
 -- ---- what is known
 
-stands_on : (values : List ℕ) (place value : ℕ) → StandsBelow values place value → StandsBelow values (place + 1) value
-stands_on values place value s = (s.0, omega (arith, s.1), s.2)
+-- of the values below the place each is among the known ones, which rise and stand somewhere
+pub record AreNoted (values : List ℕ) (place : ℕ) (known : List ℕ) (count : ℕ) : Type 0 where
+  pub few : count ≤ 17
+  pub rising : Rises known count
+  pub standing : (code : ℕ) → code < count → StandsBelow values 256 (slice_index known code)
+  pub all : (before : ℕ) → before < place → IsKnown known count (slice_index values before)
 
--- no more than 17 are known, and the value at the place isn't learnt: it stands before, or there are 17
-pub known_on : (values : List ℕ) (place : ℕ) (known : List ℕ) (count : ℕ) → AreKnown values place known count
-    → (count ≤ 16 → IsKnown known count (slice_index values place)) → AreKnown values (place + 1) known count
-known_on values place known count are here = record {
-  few = are.few;
-  rising = are.rising;
-  standing = λ code low. stands_on values place _ (are.standing code low);
-  all = λ few before low. dite (dec_lt before place) (λ (h : before < place). are.all few before h)
-      (λ past. let e : place ≡ before = omega (arith, past) in subst (λ (n : ℕ). IsKnown known count (slice_index values n)) e (here few));
+pub noted_first : (values known : List ℕ) → slice_index known 0 ≡ slice_index values 0 → AreNoted values 0 known 1
+noted_first values known e = record {
+  few = omega arith;
+  rising = λ code next order low. absurd (omega arith);
+  standing = λ code low. let z : 0 ≡ code = omega arith in (0, omega arith, sym e ∙ ap (λ n. slice_index known n) z);
+  all = λ before low. absurd (omega arith);
 }
 
-pub known_learnt : (values : List ℕ) (place : ℕ) (known later : List ℕ) (count more : ℕ) → AreKnown values place known count → count ≤ 16 → more ≤ 17 → Rises later more
+-- the value at the place is known
+pub noted_on : (values : List ℕ) (place : ℕ) (known : List ℕ) (count : ℕ) → AreNoted values place known count → IsKnown known count (slice_index values place) → AreNoted values (place + 1) known count
+noted_on values place known count are here = record {
+  few = are.few;
+  rising = are.rising;
+  standing = are.standing;
+  all = λ before low. dite (dec_lt before place) (λ (h : before < place). are.all before h)
+      (λ past. let e : place ≡ before = omega (arith, past) in subst (λ (n : ℕ). IsKnown known count (slice_index values n)) e here);
+}
+
+-- it is learnt
+pub noted_learnt : (values : List ℕ) (place : ℕ) (known later : List ℕ) (count more : ℕ) → place < 256 → AreNoted values place known count → more ≤ 17 → Rises later more
     → IsKnown later more (slice_index values place) → ((other : ℕ) → IsKnown known count other → IsKnown later more other)
-    → ((code : ℕ) → code < more → IsNew known count (slice_index values place) (slice_index later code)) → AreKnown values (place + 1) later more
-known_learnt values place known later count more are few within rises new kept others = record {
-  few = within;
+    → ((code : ℕ) → code < more → IsNew known count (slice_index values place) (slice_index later code)) → AreNoted values (place + 1) later more
+noted_learnt values place known later count more within are few rises new kept others = record {
+  few = few;
   rising = rises;
-  standing = λ code low. ⊎_elim (λ (e : slice_index later code ≡ slice_index values place). (place, omega arith, sym e))
-      (λ (k : IsKnown known count (slice_index later code)). let s = are.standing k.0 k.1 in (s.0, omega (arith, s.1), s.2 ∙ k.2)) (others code low);
-  all = λ _ before low. dite (dec_lt before place) (λ (h : before < place). kept _ (are.all few before h))
+  standing = λ code low. ⊎_elim (λ (e : slice_index later code ≡ slice_index values place). (place, within, sym e))
+      (λ (k : IsKnown known count (slice_index later code)). let s = are.standing k.0 k.1 in (s.0, s.1, s.2 ∙ k.2)) (others code low);
+  all = λ before low. dite (dec_lt before place) (λ (h : before < place). kept _ (are.all before h))
       (λ past. let e : place ≡ before = omega (arith, past) in subst (λ (n : ℕ). IsKnown later more (slice_index values n)) e new);
+}
+
+-- all were looked at, or there are more than 16
+pub noted_all : (values : List ℕ) (place : ℕ) (known : List ℕ) (count : ℕ) → AreNoted values place known count → (count ≤ 16 → place ≡ 256) → AreKnown values 256 known count
+noted_all values place known count are done = record {
+  few = are.few;
+  rising = are.rising;
+  standing = are.standing;
+  all = λ few before low. are.all before (let e = done few in omega arith);
 }
 
 -- the recent values are known at first, and stay known as one more is learnt, which takes a spot
@@ -66,14 +87,19 @@ recent_learnt known later recent count more spot value low are here kept other s
     (λ e. subst (λ (n : ℕ). IsKnown later more n) (sym (ap (slice_index (slice_set recent spot value)) e ∙ get_or-set_same recent spot value 0 low)) here)
     (λ ne. subst (λ (n : ℕ). IsKnown later more n) (sym (get_or-set_other recent spot other value 0 ne)) (kept _ (are other short)))
 
--- a value that is at a place among rising ones stands above those before it
-pub near_below : (known : List ℕ) (count near value : ℕ) → Rises known count → near < count → slice_index known near ≡ value → (code : ℕ) → code < near → slice_index known code < value
-near_below known count near value rises low is code before = let r = rises code near before low in omega arith
+-- what is known once the values below the place were looked at, and those that stand at spots
+pub record Notes (values : List ℕ) (place : ℕ) (found spots : List ℕ) (count : ℕ) : Type 0 where
+  pub long : length spots ≡ 128
+  pub few : count ≤ 16
+  pub known : AreNoted values place found count
+  pub recent : AreRecent found count spots
 
-pub near_from : (known : List ℕ) (count near value : ℕ) → Rises known count → near < count → slice_index known near ≡ value → (code : ℕ) → near ≤ code → code < count → value ≤ slice_index known code
-near_from known count near value rises low is code from short = dite (ℕ_discrete near code)
-    (λ e. let same : slice_index known near ≡ slice_index known code = ap (slice_index known) e in omega arith)
-    (λ ne. let r = rises near code (omega arith) short in omega arith)
+pub notes_same : (values known later recent others : List ℕ) (place next count more : ℕ) → later ≡ known → others ≡ recent → more ≡ count → next ≡ place → Notes values place known recent count → Notes values next later others more
+notes_same values known later recent others place next count more k r c p is =
+    subst (λ (x : List ℕ). Notes values next x others more) (sym k)
+    (subst (λ (x : List ℕ). Notes values next known x more) (sym r)
+    (subst (λ (x : ℕ). Notes values next known recent x) (sym c)
+    (subst (λ (x : ℕ). Notes values x known recent count) (sym p) is)))
 
 pub least_on : (values : List ℕ) (place least smaller : ℕ) → IsLeast values place least → smaller ≤ least → smaller ≤ slice_index values place
     → ((smaller ≡ least) ⊎ (smaller ≡ slice_index values place)) → IsLeast values (place + 1) smaller
@@ -91,15 +117,24 @@ greatest_on values place greatest larger is above here one = record {
       (λ past. let e : place ≡ before = omega (arith, past) in subst (λ (n : ℕ). slice_index values n ≤ larger) e here);
 }
 
--- ---- the first place
-
-pub known_first : (values known : List ℕ) → slice_index known 0 ≡ slice_index values 0 → AreKnown values 1 known 1
-known_first values known e = record {
-  few = omega arith;
-  rising = λ code next order low. absurd (omega arith);
-  standing = λ code low. let z : 0 ≡ code = omega arith in (0, omega arith, sym e ∙ ap (λ n. slice_index known n) z);
-  all = λ _ before low. let z : 0 ≡ before = omega arith in (0, omega arith, e ∙ ap (λ n. slice_index values n) z);
+-- the first and the last of known values that are all there are
+pub known_least : (values known : List ℕ) (count : ℕ) → AreKnown values 256 known count → count ≤ 16 → IsLeast values 256 (slice_index known 0)
+known_least values known count are few = record {
+  stands = are.standing 0 (let some = are.all few 0 (omega arith) in omega (arith, some.1));
+  bound = λ before low. let k = are.all few before low in
+      dite (dec_lt 0 k.0) (λ (h : 0 < k.0). let r = are.rising 0 k.0 h k.1 in omega (arith, r, k.2))
+      (λ no. let e : 0 ≡ k.0 = omega (arith, no) in let f = ap (λ n. slice_index known n) e in omega (arith, f, k.2));
 }
+
+pub known_greatest : (values known : List ℕ) (count : ℕ) → AreKnown values 256 known count → count ≤ 16 → IsGreatest values 256 (slice_index known (count - 1))
+known_greatest values known count are few = record {
+  stands = are.standing (count - 1) (let some = are.all few 0 (omega arith) in omega (arith, some.1));
+  bound = λ before low. let k = are.all few before low in
+      dite (dec_lt k.0 (count - 1)) (λ (h : k.0 < count - 1). let r = are.rising k.0 (count - 1) h (omega arith) in omega (arith, r, k.2))
+      (λ no. let e : k.0 ≡ count - 1 = omega (arith, no, k.1) in let f = ap (λ n. slice_index known n) e in omega (arith, f, k.2));
+}
+
+-- ---- the first place
 
 pub least_first : (values : List ℕ) → IsLeast values 1 (slice_index values 0)
 least_first values = record {

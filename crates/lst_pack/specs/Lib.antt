@@ -3,4 +3,3 @@ pub mod Chosen
 pub mod Counts
 pub mod Choices
 pub mod Laws
-pub mod Surveys

@@ -6,7 +6,7 @@ ghost use Rattle.lst_pack.specs.Counts.{runs_below, AreKnown, IsLeast, AddsRun};
 ghost use Rattle.lst_pack.specs.declared.forms.Form.TheVariants.{Constant, Dictionary, Runs, Reference, Plain};
 
 use crate::forms::Form;
-use crate::survey::{SPOTS, choose, place_near, spot_of, survey_of, width_of};
+use crate::survey::{SPOTS, choose, place_near, runs_of, spot_of, survey_of, width_of};
 
 /// Packs 256 values, and answers how many words from the front of `out` they take. The others may hold anything.
 ///
@@ -15,9 +15,13 @@ use crate::survey::{SPOTS, choose, place_near, spot_of, survey_of, width_of};
 pub fn pack(values: &[u64; 256], out: &mut [u64; 257]) -> usize
     ensures { IsChosen out.new values.now result }
 {
+    let runs = runs_of(values);
+    if runs == 1 {
+        return write_constant(values, out);
+    }
     let found = survey_of(values);
     let width = width_of(found.greatest - found.least);
-    match choose(found.runs, found.distinct, width) {
+    match choose(runs as u32, found.distinct, width) {
         Form::Constant => write_constant(values, out),
         Form::Dictionary { size } => write_dictionary(values, &found.known, size as usize, out),
         Form::Runs { runs } => write_runs(values, runs as usize, out),
@@ -70,9 +74,11 @@ fn write_dictionary(
     17 + size
 }
 
-// The code at the spot of each known value. Where two have one spot the later one stands there.
+// The code at the spot of each known value. Where two have one spot the later one stands there, and where none has it the first.
 fn spots_of(known: &[u64; 17], size: usize) -> [u8; SPOTS]
-    requires { size ≤ 16 }
+    requires few { size ≤ 16 }
+    requires some { 0 < size }
+    ensures { (spot : ℕ) → spot < 128 → slice_index result spot < size }
 {
     let mut spots = [0; SPOTS];
     for code in 0..size {
@@ -92,6 +98,7 @@ fn word_of_codes(
     requires few { size ≤ 16 }
     requires turn { turn < 16 }
     requires known { AreKnown values.now 256 known.now size }
+    requires spots { (spot : ℕ) → spot < 128 → slice_index spots.now spot < size }
     ensures { (k : ℕ) → k < 16 → (result / 2 ^ (k * 4) % 2 ^ 4 < size) × (slice_index known.now (result / 2 ^ (k * 4) % 2 ^ 4) ≡ slice_index values.now (turn * 16 + k)) }
 {
     let mut word: u64 = 0;
@@ -142,26 +149,50 @@ fn write_reference(values: &[u64; 256], least: u64, width: usize, out: &mut [u64
     ensures packs { PacksAs (Reference width) out.new values.now }
     ensures tight { IsTight out.new values.now width }
 {
-    out[0] = 4 + 8 * width as u64;
-    out[1] = least;
-    for turn in 0..4 * width {
-        out[2 + turn] = word_of_differences(values, least, width, turn);
+    match width {
+        1 => write_differences::<1>(values, least, out),
+        2 => write_differences::<2>(values, least, out),
+        4 => write_differences::<4>(values, least, out),
+        8 => write_differences::<8>(values, least, out),
+        16 => write_differences::<16>(values, least, out),
+        _ => write_differences::<32>(values, least, out),
     }
-    2 + 4 * width
 }
 
-// The differences of the values from place `turn` * 64 / `width` on, as many as a word holds.
-fn word_of_differences(values: &[u64; 256], least: u64, width: usize, turn: usize) -> u64
-    requires width { IsWidth width }
-    requires turn { turn < 4 * width }
-    requires least { (place : ℕ) → place < 256 → least ≤ slice_index values.now place }
-    requires holds { (place : ℕ) → place < 256 → slice_index values.now place < least + 2 ^ width }
-    ensures { (k : ℕ) → k < 64 / width → result / 2 ^ (k * width) % 2 ^ width ≡ slice_index values.now (turn * (64 / width) + k) - least }
+fn write_differences<const WIDTH: usize>(
+    values: &[u64; 256],
+    least: u64,
+    out: &mut [u64; 257],
+) -> usize
+    requires width { IsWidth WIDTH }
+    requires least { IsLeast values.now 256 least }
+    requires holds { (place : ℕ) → place < 256 → slice_index values.now place < least + 2 ^ WIDTH }
+    requires narrow { (WIDTH ≡ 1) ⊎ ((place : ℕ) × (place < 256) × (least + 2 ^ (WIDTH / 2) ≤ slice_index values.now place)) }
+    ensures count { result ≡ 2 + 4 * WIDTH }
+    ensures packs { PacksAs (Reference WIDTH) out.new values.now }
+    ensures tight { IsTight out.new values.now WIDTH }
 {
-    let count = 64 / width;
+    out[0] = 4 + 8 * WIDTH as u64;
+    out[1] = least;
+    for turn in 0..4 * WIDTH {
+        out[2 + turn] = word_of_differences::<WIDTH>(values, least, turn);
+    }
+    2 + 4 * WIDTH
+}
+
+// The differences of the values from place `turn` * 64 / `WIDTH` on, as many as a word holds.
+#[inline(always)]
+fn word_of_differences<const WIDTH: usize>(values: &[u64; 256], least: u64, turn: usize) -> u64
+    requires width { IsWidth WIDTH }
+    requires turn { turn < 4 * WIDTH }
+    requires least { (place : ℕ) → place < 256 → least ≤ slice_index values.now place }
+    requires holds { (place : ℕ) → place < 256 → slice_index values.now place < least + 2 ^ WIDTH }
+    ensures { (k : ℕ) → k < 64 / WIDTH → result / 2 ^ (k * WIDTH) % 2 ^ WIDTH ≡ slice_index values.now (turn * (64 / WIDTH) + k) - least }
+{
+    let count = 64 / WIDTH;
     let mut word: u64 = 0;
     for k in (0..count).rev() {
-        word = word * (1 << width) + (values[turn * count + k] - least);
+        word = word * (1 << WIDTH) + (values[turn * count + k] - least);
     }
     word
 }

@@ -1,7 +1,6 @@
 //! What the values of a page have in common, and the form that follows from it.
 ghost use Rattle.std.specs.Prelude.{◌≡◌, ℕ, ◌+◌, ◌-◌, ◌<◌, ◌≤◌, ◌^◌, length, slice_index};
 ghost use Rattle.lst_pack.specs.Counts.{runs_below, IsKnown, IsNew, Rises, AreKnown, AreRecent, IsLeast, IsGreatest};
-ghost use Rattle.lst_pack.specs.Surveys.{IsSurvey};
 ghost use Rattle.lst_pack.specs.Choices.{IsLeastWidth, IsChoice};
 
 use crate::forms::Form;
@@ -12,8 +11,6 @@ pub(crate) const SPOTS: usize = 128;
 // What was found of 256 values.
 #[derive(Drop)]
 pub(crate) struct Survey {
-    // The number of maximal runs.
-    pub runs: u32,
     // The distinct values, rising, as far as 17 of them.
     pub known: [u64; 17],
     pub distinct: usize,
@@ -22,68 +19,74 @@ pub(crate) struct Survey {
 }
 
 pub(crate) fn survey_of(values: &[u64; 256]) -> Survey
-    ensures runs { result.runs ≡ runs_below values.now 256 }
     ensures known { AreKnown values.now 256 result.known result.distinct }
     ensures least { IsLeast values.now 256 result.least }
     ensures greatest { IsGreatest values.now 256 result.greatest }
 {
-    let first = values[0];
-    let mut recent = [first; SPOTS];
-    let mut found = Survey {
-        runs: 1,
-        known: [first; 17],
-        distinct: 1,
-        least: first,
-        greatest: first,
+    let mut known = [0; 17];
+    let distinct = note(values, &mut known);
+    let (least, greatest) = if distinct <= 16 {
+        (known[0], known[distinct - 1])
+    } else {
+        bounds_of(values)
     };
+    Survey {
+        known,
+        distinct,
+        least,
+        greatest,
+    }
+}
+
+// The number of maximal runs: each place begins one, unless the value before it is the same.
+pub(crate) fn runs_of(values: &[u64; 256]) -> usize
+    ensures { result ≡ runs_below values.now 256 }
+{
+    let mut same = 0;
     for place in 1..256 {
-        look(values, place, &mut found, &mut recent);
+        if values[place] == values[place - 1] {
+            same += 1;
+        }
     }
-    found
+    256 - same
 }
 
-// Looks at the value at a place, which isn't the first. One that goes on with a run changes nothing. One that was seen a short while ago is
-// mostly found at its spot among the recent ones, and then it is only counted as a run.
-fn look(values: &[u64; 256], place: usize, found: &mut Survey, recent: &mut [u64; SPOTS])
-    requires place { place < 256 }
-    requires later { 0 < place }
-    requires found { IsSurvey values.now place found.old recent.old }
-    ensures { IsSurvey values.now (place + 1) found.new recent.new }
+// Learns the values one after another, until more than 16 are known. One that was seen a short while ago is mostly found at its spot
+// among the recent ones.
+fn note(values: &[u64; 256], known: &mut [u64; 17]) -> usize
+    ensures { AreKnown values.now 256 known.new result }
 {
-    let value = values[place];
-    if value == values[place - 1] {
-        return;
+    let mut recent = [values[0]; SPOTS];
+    let mut count = 1;
+    known[0] = values[0];
+    for turn in 0..16 {
+        for k in 0..16 {
+            let value = values[turn * 16 + k];
+            let spot = spot_of(value);
+            if recent[spot] != value {
+                recent[spot] = value;
+                count = learn(known, count, value);
+                if count > 16 {
+                    return count;
+                }
+            }
+        }
     }
-    found.runs += 1;
-    if found.distinct <= 16 && recent[spot_of(value)] == value {
-        return;
-    }
-    found.distinct = note(values, place, &mut found.known, found.distinct, recent);
-    found.least = found.least.min(value);
-    found.greatest = found.greatest.max(value);
+    count
 }
 
-// Learns the value at `place`, which isn't the first, unless it stands before it too or more than 16 values are known.
-fn note(
-    values: &[u64; 256],
-    place: usize,
-    known: &mut [u64; 17],
-    count: usize,
-    recent: &mut [u64; SPOTS],
-) -> usize
-    requires place { place < 256 }
-    requires later { 0 < place }
-    requires known { AreKnown values.now place known.old count }
-    requires recent { AreRecent known.old count recent.old }
-    ensures known { AreKnown values.now (place + 1) known.new result }
-    ensures recent { AreRecent known.new result recent.new }
+// The least and the greatest value.
+fn bounds_of(values: &[u64; 256]) -> (u64, u64)
+    ensures least { IsLeast values.now 256 result.0 }
+    ensures greatest { IsGreatest values.now 256 result.1 }
 {
-    let value = values[place];
-    if count > 16 {
-        return count;
+    let mut least = values[0];
+    let mut greatest = values[0];
+    for place in 1..256 {
+        least = least.min(values[place]);
+        greatest = greatest.max(values[place]);
     }
-    recent[spot_of(value)] = value;
-    learn(known, count, value)
+    (least, greatest)
 }
 
 // The spot of a value, by multiplicative hashing (Knuth, The Art of Computer Programming, volume 3, 6.4): the upper bits of its product with
@@ -94,42 +97,51 @@ pub(crate) fn spot_of(value: u64) -> usize
     (value.wrapping_mul(0x9E37_79B9_7F4A_7C15) >> 57) as usize
 }
 
-// The same as `place_of`, where the value is likely to stand at the place `near`.
+// The same as `place_of`, of a value that mostly stands at the place `near`.
+#[inline(always)]
 pub(crate) fn place_near(known: &[u64; 17], count: usize, value: u64, near: usize) -> usize
     requires few { count ≤ 17 }
     requires rising { Rises known.now count }
+    requires near { near < count }
     ensures within { result ≤ count }
     ensures below { (code : ℕ) → code < result → slice_index known.now code < value }
     ensures from { (code : ℕ) → result ≤ code → code < count → value ≤ slice_index known.now code }
 {
-    if near < count && known[near] == value {
+    if known[near] == value {
         return near;
     }
-    place_of(known, count, value)
+    place_far(known, count, value)
 }
 
-// How many of the first `count` known values are below this one.
-pub(crate) fn place_of(known: &[u64; 17], count: usize, value: u64) -> usize
+// `place_of`, apart from the loop of those that are near.
+#[inline(never)]
+fn place_far(known: &[u64; 17], count: usize, value: u64) -> usize
     requires few { count ≤ 17 }
     requires rising { Rises known.now count }
     ensures within { result ≤ count }
     ensures below { (code : ℕ) → code < result → slice_index known.now code < value }
     ensures from { (code : ℕ) → result ≤ code → code < count → value ≤ slice_index known.now code }
 {
-    let mut low = 0;
-    let mut high = count;
-    while low < high {
-        let middle = (low + high) / 2;
-        if known[middle] < value {
-            low = middle + 1;
-        } else {
-            high = middle;
-        }
+    place_of(known, count, value)
+}
+
+// How many of the first `count` known values are below this one. It is looked for from the greatest on, since values often rise.
+fn place_of(known: &[u64; 17], count: usize, value: u64) -> usize
+    requires few { count ≤ 17 }
+    requires rising { Rises known.now count }
+    ensures within { result ≤ count }
+    ensures below { (code : ℕ) → code < result → slice_index known.now code < value }
+    ensures from { (code : ℕ) → result ≤ code → code < count → value ≤ slice_index known.now code }
+{
+    let mut place = count;
+    while place > 0 && known[place - 1] >= value {
+        place -= 1;
     }
-    low
+    place
 }
 
 // Puts a value at its place among the known ones, unless it is known. Answers how many there are then.
+#[inline(never)]
 fn learn(known: &mut [u64; 17], count: usize, value: u64) -> usize
     requires few { count ≤ 16 }
     requires rising { Rises known.old count }

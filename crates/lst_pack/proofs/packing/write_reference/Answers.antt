@@ -1,26 +1,8 @@
-use Rattle.std.proofs.Common.{◌≡◌, ◌≢◌, ◌+◌, ◌*◌, ◌/◌, ◌%◌, ◌^◌, ◌-◌, ◌<◌, slice_index, arith, ◌∙◌, sym, ap, get_or-set_other}
-use mathlib.Core.Logic.{dite}
-use native.Mathlib.Decide.{dec_lt}
-use Rattle.std.proofs.lemmas.Grind.{common_steps, get_or-set_at}
-use Rattle.lst_pack.proofs.Numbers.{per_word}
-use Rattle.lst_pack.proofs.Written.{reference_written}
+use Rattle.std.proofs.Common.{◌≡◌, ℕ, arith, subst}
+use Rattle.lst_pack.specs.declared.forms.Form.TheVariants.{Reference}
+use Rattle.lst_pack.specs.Forms.{PacksAs}
 use Rattle.lst_pack.proofs.packing.write_reference.Goals as goal
 
-pub loop-turn-preserved : goal.loop-turn-preserved
-loop-turn-preserved c =
-    let per = per_word c.args.width c.requires.width in
-    record {
-      long = grind (arith, common_steps);
-      first = grind (arith, common_steps);
-      base = grind (arith, common_steps);
-      differences = λ t k low few. dite (dec_lt t c.loop-turn.turn)
-          (λ (h : t < c.loop-turn.turn). let ne : 2 + t ≢ 2 + c.loop-turn.turn = omega arith in rw get_or-set_other (c.loop-turn.invariant.differences t k h few))
-          (λ past. let e : t ≡ c.loop-turn.turn = omega (arith, past) in
-          let s = get_or-set_at c.loop-turn.out (2 + c.loop-turn.turn) (2 + t) c.word_of_differences.result 0 (omega arith) (omega arith) in
-          ap (λ n. n / 2 ^ (k * c.args.width) % 2 ^ c.args.width) s ∙ c.word_of_differences.ensures k few ∙ ap (λ n. slice_index c.args.values.now (n * (64 / c.args.width) + k) - c.args.least) (sym e));
-    }
-
-pub returns-clause-packs : goal.returns-clause-packs
-returns-clause-packs c = let per = per_word c.args.width c.requires.width in
-    reference_written c.loop-turn.out c.args.values.now c.args.width c.args.least c.requires.width c.loop-turn.invariant.first c.loop-turn.invariant.long c.told-values c.loop-turn.invariant.base
-    per.2 c.requires.least.bound c.fits-values (λ t k h. c.loop-turn.invariant.differences t k (omega arith))
+pub returns-in_default-clause-packs : goal.returns-in_default-clause-packs
+returns-in_default-clause-packs c = let e : 32 ≡ c.args.width = omega arith in
+    subst (λ (width : ℕ). PacksAs (Reference width) c.write_differences-in_default.new.out c.args.values.now) e c.write_differences-in_default.ensures.packs

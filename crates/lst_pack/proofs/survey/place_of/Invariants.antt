@@ -1,12 +1,11 @@
-use Rattle.std.proofs.Common.{ℕ, ◌-◌, ◌<◌, ◌≤◌, slice_index}
+use Rattle.std.proofs.Common.{ℕ, ◌<◌, ◌≤◌, slice_index}
 use Rattle.lst_pack.proofs.survey.place_of.Given as goal
 
-abbrev pub invariant-loop-low : goal.invariant-loop-low
-invariant-loop-low l = record {
-  order : (l.low ≤ l.high) × (l.high ≤ l.count);
-  below : (code : ℕ) → code < l.low → slice_index l.known code < l.value;
-  from : (code : ℕ) → l.high ≤ code → code < l.count → l.value ≤ slice_index l.known code;
+abbrev pub invariant-loop-place : goal.invariant-loop-place
+invariant-loop-place l = record {
+  within : l.place ≤ l.count;
+  from : (code : ℕ) → l.place ≤ code → code < l.count → l.value ≤ slice_index l.known code;
 }
 
-abbrev pub decreases-loop-low : goal.decreases-loop-low
-decreases-loop-low l = l.high - l.low
+abbrev pub decreases-loop-place : goal.decreases-loop-place
+decreases-loop-place l = l.place

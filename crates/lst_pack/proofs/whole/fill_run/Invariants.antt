@@ -1,4 +1,4 @@
-use Rattle.std.proofs.Common.{◌-◌, ◌≡◌, ℕ, ◌+◌, ◌<◌, ◌≤◌, slice_index}
+use Rattle.std.proofs.Common.{◌-◌, ◌≡◌, ℕ, ◌<◌, ◌≤◌, slice_index}
 use Rattle.lst_pack.proofs.whole.fill_run.Given as goal
 
 -- the places from the start of the run to here have its value
