@@ -27,6 +27,20 @@ ends_before words runs are run next low within =
 pub ends_within : (words : List ℕ) (runs : ℕ) → AreRuns words runs → (run : ℕ) → run < runs → run_end words run ≤ 256
 ends_within words runs are run low = let h = ends_before words runs are run runs low (omega arith) in omega (arith, are.last)
 
+-- the end of a run with twice so many words as runs before it
+pub end_here : (words : List ℕ) (run at : ℕ) → at ≡ 2 * run → slice_index words (2 + at) ≡ run_end words run
+end_here words run at is = ap (λ n. slice_index words (2 + n)) is
+
+-- it is past where the run before it ends, or past 0
+pub end_past : (words : List ℕ) (runs run at start : ℕ) → AreRuns words runs → at ≡ 2 * run → run < runs → (0 < at → start ≡ slice_index words at) → (at ≡ 0 → start ≡ 0) → start < run_end words run
+end_past words runs zero at start are is low some none = let z = none (omega arith) in let b = are.begins in omega arith
+end_past words runs (suc run) at start are is low some none =
+    let s = some (omega arith) in
+    let r = are.rising run (omega arith) in
+    let e : slice_index words at ≡ run_end words run = ap (λ n. slice_index words n) (omega arith) in
+    let f : run_end words (run + 1) ≡ run_end words (suc run) = ap (λ n. run_end words n) (omega arith) in
+    omega arith
+
 not_below : (words : List ℕ) (runs place run next : ℕ) → AreRuns words runs → IsInRun words runs place run → IsInRun words runs place next → next ≤ run
 not_below words runs place run next are one other = dite (dec_lt run next)
     (λ (h : run < next). let e = ends_before words runs are run next h (omega (arith, other.one)) in let f = other.from (omega arith) in absurd (omega (arith, one.below)))

@@ -1,14 +1,22 @@
 -- Which forms what was found leaves, and which of them is chosen.
-use Rattle.std.specs.Prelude.{◌≡◌, ℕ, ◌/◌, ◌^◌, ◌<◌, ◌≤◌, ◌⊎◌}
+use Rattle.std.specs.Prelude.{◌≡◌, ℕ, ◌+◌, ◌/◌, ◌^◌, ◌<◌, ◌≤◌, ◌⊎◌, List, slice_index}
 use Rattle.lst_pack.specs.declared.forms.Form.{Form}
 use Rattle.lst_pack.specs.declared.forms.Form.TheVariants.{Constant, Dictionary, Runs, Reference, Plain}
 use Rattle.lst_pack.specs.Forms.{IsWidth}
+use Rattle.lst_pack.specs.Counts.{IsLeast}
 use Rattle.lst_pack.specs.Chosen.{IsAtMost}
 
 -- the least width that holds the difference, or 64 where none of the six does
 pub record IsLeastWidth (difference width : ℕ) : Type 0 where
   pub least : (other : ℕ) → IsWidth other → difference < 2 ^ other → width ≤ other
   pub holds : (IsWidth width × (difference < 2 ^ width) × ((width ≡ 1) ⊎ (2 ^ (width / 2) ≤ difference))) ⊎ (width ≡ 64)
+
+-- the base is the least of the values, and the width the least that holds their differences from it
+pub record IsFrame (values : List ℕ) (base width : ℕ) : Type 0 where
+  pub whole : IsWidth width
+  pub least : IsLeast values 256 base
+  pub holds : (place : ℕ) → place < 256 → slice_index values place < base + 2 ^ width
+  pub narrow : (width ≡ 1) ⊎ ((place : ℕ) × (place < 256) × (base + 2 ^ (width / 2) ≤ slice_index values place))
 
 -- a form that may stand for values with this many runs and distinct values, and this least width
 abbrev pub MayStand : ℕ → ℕ → ℕ → Form → Type 0

@@ -47,6 +47,12 @@ pub record IsGreatest (values : List ℕ) (place greatest : ℕ) : Type 0 where
 abbrev pub IsNew : List ℕ → ℕ → ℕ → ℕ → Type 0
 IsNew known count value other = (other ≡ value) ⊎ IsKnown known count other
 
+-- so many of the first `count` known values are below this one
+pub record IsPlace (known : List ℕ) (count value place : ℕ) : Type 0 where
+  pub within : place ≤ count
+  pub below : (code : ℕ) → code < place → slice_index known code < value
+  pub from : (code : ℕ) → place ≤ code → code < count → value ≤ slice_index known code
+
 -- `later` is `words` with one more run, of the value before this place, up to the place
 pub record AddsRun (values words later : List ℕ) (runs place : ℕ) : Type 0 where
   pub same : (word : ℕ) → word ≤ 2 * runs → slice_index later word ≡ slice_index words word

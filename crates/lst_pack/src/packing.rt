@@ -2,7 +2,8 @@
 ghost use Rattle.std.specs.Prelude.{◌≡◌, ℕ, ◌+◌, ◌-◌, ◌*◌, ◌/◌, ◌%◌, ◌^◌, ◌<◌, ◌≤◌, ◌⊎◌, length, slice_index};
 ghost use Rattle.lst_pack.specs.Forms.{IsWidth, PacksAs};
 ghost use Rattle.lst_pack.specs.Chosen.{IsSorted, IsTight, AreMaximal, IsChosen};
-ghost use Rattle.lst_pack.specs.Counts.{runs_below, AreKnown, IsLeast, AddsRun};
+ghost use Rattle.lst_pack.specs.Choices.{IsFrame};
+ghost use Rattle.lst_pack.specs.Counts.{runs_below, AreKnown, AddsRun};
 ghost use Rattle.lst_pack.specs.declared.forms.Form.TheVariants.{Constant, Dictionary, Runs, Reference, Plain};
 
 use crate::forms::Form;
@@ -141,10 +142,7 @@ fn close_run(values: &[u64; 256], place: usize, run: usize, out: &mut [u64; 257]
 }
 
 fn write_reference(values: &[u64; 256], least: u64, width: usize, out: &mut [u64; 257]) -> usize
-    requires width { IsWidth width }
-    requires least { IsLeast values.now 256 least }
-    requires holds { (place : ℕ) → place < 256 → slice_index values.now place < least + 2 ^ width }
-    requires narrow { (width ≡ 1) ⊎ ((place : ℕ) × (place < 256) × (least + 2 ^ (width / 2) ≤ slice_index values.now place)) }
+    requires { IsFrame values.now least width }
     ensures count { result ≡ 2 + 4 * width }
     ensures packs { PacksAs (Reference width) out.new values.now }
     ensures tight { IsTight out.new values.now width }
@@ -164,10 +162,7 @@ fn write_differences<const WIDTH: usize>(
     least: u64,
     out: &mut [u64; 257],
 ) -> usize
-    requires width { IsWidth WIDTH }
-    requires least { IsLeast values.now 256 least }
-    requires holds { (place : ℕ) → place < 256 → slice_index values.now place < least + 2 ^ WIDTH }
-    requires narrow { (WIDTH ≡ 1) ⊎ ((place : ℕ) × (place < 256) × (least + 2 ^ (WIDTH / 2) ≤ slice_index values.now place)) }
+    requires { IsFrame values.now least WIDTH }
     ensures count { result ≡ 2 + 4 * WIDTH }
     ensures packs { PacksAs (Reference WIDTH) out.new values.now }
     ensures tight { IsTight out.new values.now WIDTH }

@@ -1,6 +1,6 @@
 //! What the values of a page have in common, and the form that follows from it.
 ghost use Rattle.std.specs.Prelude.{◌≡◌, ℕ, ◌+◌, ◌-◌, ◌<◌, ◌≤◌, ◌^◌, length, slice_index};
-ghost use Rattle.lst_pack.specs.Counts.{runs_below, IsKnown, IsNew, Rises, AreKnown, AreRecent, IsLeast, IsGreatest};
+ghost use Rattle.lst_pack.specs.Counts.{runs_below, IsKnown, IsNew, IsPlace, Rises, AreKnown, AreRecent, IsLeast, IsGreatest};
 ghost use Rattle.lst_pack.specs.Choices.{IsLeastWidth, IsChoice};
 
 use crate::forms::Form;
@@ -103,9 +103,7 @@ pub(crate) fn place_near(known: &[u64; 17], count: usize, value: u64, near: usiz
     requires few { count ≤ 17 }
     requires rising { Rises known.now count }
     requires near { near < count }
-    ensures within { result ≤ count }
-    ensures below { (code : ℕ) → code < result → slice_index known.now code < value }
-    ensures from { (code : ℕ) → result ≤ code → code < count → value ≤ slice_index known.now code }
+    ensures { IsPlace known.now count value result }
 {
     if known[near] == value {
         return near;
@@ -118,9 +116,7 @@ pub(crate) fn place_near(known: &[u64; 17], count: usize, value: u64, near: usiz
 fn place_far(known: &[u64; 17], count: usize, value: u64) -> usize
     requires few { count ≤ 17 }
     requires rising { Rises known.now count }
-    ensures within { result ≤ count }
-    ensures below { (code : ℕ) → code < result → slice_index known.now code < value }
-    ensures from { (code : ℕ) → result ≤ code → code < count → value ≤ slice_index known.now code }
+    ensures { IsPlace known.now count value result }
 {
     place_of(known, count, value)
 }
@@ -129,9 +125,7 @@ fn place_far(known: &[u64; 17], count: usize, value: u64) -> usize
 fn place_of(known: &[u64; 17], count: usize, value: u64) -> usize
     requires few { count ≤ 17 }
     requires rising { Rises known.now count }
-    ensures within { result ≤ count }
-    ensures below { (code : ℕ) → code < result → slice_index known.now code < value }
-    ensures from { (code : ℕ) → result ≤ code → code < count → value ≤ slice_index known.now code }
+    ensures { IsPlace known.now count value result }
 {
     let mut place = count;
     while place > 0 && known[place - 1] >= value {

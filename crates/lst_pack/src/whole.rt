@@ -59,15 +59,17 @@ fn unpack_runs(words: &[u64], runs: usize, out: &mut [u64; 256])
     ensures { (place run : ℕ) → IsInRun words.now runs place run → slice_index out.new place ≡ run_value words.now run }
 {
     let mut start = 0;
-    for run in 0..runs {
-        let value = words[1 + 2 * run];
-        let end = words[2 + 2 * run] as usize;
+    let mut at = 0;
+    while at < 2 * runs {
+        let value = words[1 + at];
+        let end = words[2 + at] as usize;
         fill_run(start, end, value, out);
         start = end;
+        at += 2;
     }
 }
 
-// Eight places at a time while these are within the page. So places past the end may be written, where the next run is to stand.
+// Two places, six more, then eight at a time, while all are within the page. So places past the end may be written, where the next run is to stand.
 fn fill_run(start: usize, end: usize, value: u64, out: &mut [u64; 256])
     requires some { start < end }
     requires end { end ≤ 256 }
@@ -75,11 +77,14 @@ fn fill_run(start: usize, end: usize, value: u64, out: &mut [u64; 256])
     ensures run { (place : ℕ) → start ≤ place → place < end → slice_index out.new place ≡ value }
 {
     if end <= 248 {
-        fill_eight(start, value, out);
-        let mut place = start + 8;
-        while place < end {
-            fill_eight(place, value, out);
-            place += 8;
+        fill::<2>(start, value, out);
+        if start + 2 < end {
+            fill::<6>(start + 2, value, out);
+            let mut place = start + 8;
+            while place < end {
+                fill::<8>(place, value, out);
+                place += 8;
+            }
         }
     } else {
         for place in start..end {
@@ -89,12 +94,12 @@ fn fill_run(start: usize, end: usize, value: u64, out: &mut [u64; 256])
 }
 
 #[inline(always)]
-fn fill_eight(from: usize, value: u64, out: &mut [u64; 256])
-    requires { from + 8 ≤ 256 }
+fn fill<const COUNT: usize>(from: usize, value: u64, out: &mut [u64; 256])
+    requires { from + COUNT ≤ 256 }
     ensures before { (place : ℕ) → place < from → slice_index out.new place ≡ slice_index out.old place }
-    ensures eight { (place : ℕ) → from ≤ place → place < from + 8 → slice_index out.new place ≡ value }
+    ensures here { (place : ℕ) → from ≤ place → place < from + COUNT → slice_index out.new place ≡ value }
 {
-    for k in 0..8 {
+    for k in 0..COUNT {
         out[from + k] = value;
     }
 }

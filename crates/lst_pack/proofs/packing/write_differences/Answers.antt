@@ -8,7 +8,7 @@ use Rattle.lst_pack.proofs.packing.write_differences.Goals as goal
 
 pub loop-turn-preserved : goal.loop-turn-preserved
 loop-turn-preserved g c =
-    let per = per_word g.row.WIDTH c.requires.width in
+    let per = per_word g.row.WIDTH c.requires.whole in
     record {
       long = grind (arith, common_steps);
       first = grind (arith, common_steps);
@@ -21,6 +21,6 @@ loop-turn-preserved g c =
     }
 
 pub returns-clause-packs : goal.returns-clause-packs
-returns-clause-packs g c = let per = per_word g.row.WIDTH c.requires.width in
-    reference_written c.loop-turn.out c.args.values.now g.row.WIDTH c.args.least c.requires.width c.loop-turn.invariant.first c.loop-turn.invariant.long c.told-values c.loop-turn.invariant.base
+returns-clause-packs g c = let per = per_word g.row.WIDTH c.requires.whole in
+    reference_written c.loop-turn.out c.args.values.now g.row.WIDTH c.args.least c.requires.whole c.loop-turn.invariant.first c.loop-turn.invariant.long c.told-values c.loop-turn.invariant.base
     per.2 c.requires.least.bound c.fits-values (λ t k h. c.loop-turn.invariant.differences t k (omega arith))
