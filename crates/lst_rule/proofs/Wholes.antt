@@ -1,12 +1,12 @@
 -- All words of a frame, loaded or stored one after another.
-use Rattle.std.proofs.Common.{◌≡◌, ℕ, ◌+◌, ◌<◌, ◌≤◌, List, Bool, true, false, Some, length, slice_index, get_or, set, refl, sym, subst, ap, ◌∙◌, arith, get_or-set_same, get_or-set_other}
+use Rattle.std.proofs.Common.{◌≡◌, ℕ, ◌+◌, ◌-◌, ◌*◌, ◌<◌, ◌≤◌, List, Bool, true, false, Some, length, slice_index, get_or, set, refl, sym, subst, ap, ◌∙◌, arith, get_or-set_same, get_or-set_other}
 use mathlib.Core.Logic.{dite}
 use native.Mathlib.Decide.{ℕ_discrete}
 use Rattle.lst_layout.specs.declared.TheConstants.{FRAME_WORDS}
 use Rattle.lst_layout.specs.declared.limits.Limits.{Limits}
-use Rattle.lst_layout.specs.declared.place.Place.TheVariants.{FrameWord}
-use Rattle.lst_layout.specs.Addresses.{address}
-use Rattle.lst_layout.specs.Areas.{frame_count, words_of}
+use Rattle.lst_layout.specs.declared.place.Place.TheVariants.{FrameWord, CellWord}
+use Rattle.lst_layout.specs.Addresses.{address, IsWithin}
+use Rattle.lst_layout.specs.Areas.{frame_count, cell_words, words_of, tail_cells_start}
 use Rattle.lst_layout.specs.Functions.{put}
 use Rattle.lst_layout.proofs.Apart.{below}
 use Rattle.lst_layout.proofs.Functions.{put_here, put_else}
@@ -46,6 +46,25 @@ module _ (store : Store) (seat : Sitting) (is : IsSeatOf store seat) (f n : ℕ)
 
   pub word_low : first + n < words_of store.layout.limits
   word_low = subst (λ (k : ℕ). k < words_of store.layout.limits) (sym word_here) (below store.layout.limits (FrameWord f n) (frame_there, short))
+
+-- ---- the address of a word of a tail
+
+from_first : (a n : ℕ) → a + n ≡ a + 0 + n
+from_first a n = omega arith
+
+pub cell_address : (l : Limits) (t n : ℕ) → address l (CellWord t n) ≡ address l (CellWord t 0) + n
+unfolding address
+cell_address l t n = from_first (tail_cells_start l + (t - 1) * cell_words l) n
+
+module _ (store : Store) (seat : Sitting) (is : IsSeatOf store seat) (t n : ℕ) (within : IsWithin seat.view.limits (CellWord t n)) (first : ℕ) (at : first ≡ address store.layout.limits (CellWord t 0)) where
+  cell_here : first + n ≡ address store.layout.limits (CellWord t n)
+  cell_here = ap (λ (k : ℕ). k + n) at ∙ sym (cell_address store.layout.limits t n)
+
+  pub cell_seen : (a : ℕ) → a ≡ first + n → a ≡ address seat.view.limits (CellWord t n)
+  cell_seen a e = e ∙ (cell_here ∙ ap (λ (l : Limits). address l (CellWord t n)) (sym is.limits))
+
+  pub cell_low : first + n < words_of store.layout.limits
+  cell_low = subst (λ (k : ℕ). k < words_of store.layout.limits) (sym cell_here) (below store.layout.limits (CellWord t n) (subst (λ (l : Limits). IsWithin l (CellWord t n)) is.limits within))
 
 -- ---- one load after another
 

@@ -22,9 +22,15 @@ use lst_pages::PageEvent;
 
 const WORDS: usize = FRAME_WORDS as usize;
 
-/// The address of a word of a frame, whose first word has this address.
+/// How many words are loaded a turn: all of them in 37 turns.
+const LOADED: u32 = 14;
+
+/// How many words are stored a turn: all but the first in 47 turns.
+const STORED: u32 = 11;
+
+/// The address of a word of a frame or a tail, whose first word has this address, in a store of so many words.
 #[inline(always)]
-fn later_word(words: u64, first: u64, place: u32) -> u64
+pub(crate) fn later_word(words: u64, first: u64, place: u32) -> u64
     requires { first + place < words }
     ensures { result ≡ first + place }
 {
@@ -47,7 +53,8 @@ fn load_next_word(store: &Store, seat: &mut Seat, s: u32, frame: u32, first: u64
     load_quietly(store, seat, s, Place::FrameWord { frame, place }, address)
 }
 
-/// Loads all words of a frame into an array. Does what as many calls of `load_frame` do, in order.
+/// Loads all words of a frame into an array. Does what as many calls of `load_frame` do, in order. Their address is made up once, and fourteen
+/// are loaded a turn: the compiler unrolls the inner loop.
 pub fn load_frame_words(store: &Store, seat: &mut Seat, s: u32, frame: u32, out: &mut [u64; WORDS])
     requires seat { IsSeatOf store.now seat.old }
     requires host { hosts seat.old.view s ≡ true }
@@ -57,11 +64,11 @@ pub fn load_frame_words(store: &Store, seat: &mut Seat, s: u32, frame: u32, out:
     ensures found { FrameFound seat.old.view seat.new.view s frame FRAME_WORDS (slice_index out.new) }
 {
     let first = store.layout.frames(frame, 0);
-    let mut place = 0;
-    while place < FRAME_WORDS {
-        out[place as usize] = load_next_word(store, seat, s, frame, first, place);
-        out[place as usize + 1] = load_next_word(store, seat, s, frame, first, place + 1);
-        place += 2;
+    for turn in 0..FRAME_WORDS / LOADED {
+        for place in 0..LOADED {
+            let word = LOADED * turn + place;
+            out[word as usize] = load_next_word(store, seat, s, frame, first, word);
+        }
     }
 }
 
@@ -94,7 +101,8 @@ fn store_next_word(store: &Store, seat: &mut Seat, frame: u32, first: u64, place
 }
 
 /// Stores all words of a frame. Allowed where a word of it may be stored: for the oldest retired frame, once every session's pin was found
-/// not to hold it. The frame is being built afterwards. Does what as many calls of `step_store_frame` do, in order.
+/// not to hold it. The frame is being built afterwards. Does what as many calls of `step_store_frame` do, in order: the first stores the
+/// first word, and eleven are stored a turn after it.
 pub fn store_frame_words(store: &Store, seat: &mut Seat, frame: u32, words: &[u64; WORDS])
     requires seat { IsSeatOf store.now seat.old }
     requires host { hosts seat.old.view seat.old.view.limits.sessions ≡ true }
@@ -105,18 +113,10 @@ pub fn store_frame_words(store: &Store, seat: &mut Seat, frame: u32, words: &[u6
 {
     let first = store.layout.frames(frame, 0);
     step_store_frame(store, seat, frame, 0, words[0]);
-    store_next_word(store, seat, frame, first, 1, words[1]);
-    let mut place = 2;
-    while place < FRAME_WORDS {
-        store_next_word(store, seat, frame, first, place, words[place as usize]);
-        store_next_word(
-            store,
-            seat,
-            frame,
-            first,
-            place + 1,
-            words[place as usize + 1],
-        );
-        place += 2;
+    for turn in 0..FRAME_WORDS / STORED {
+        for place in 0..STORED {
+            let word = 1 + STORED * turn + place;
+            store_next_word(store, seat, frame, first, word, words[word as usize]);
+        }
     }
 }

@@ -35,8 +35,8 @@ pub use any::load;
 pub use frames::{load_frame_words, store_frame_words};
 pub use joins::{hear_note, join_seat};
 pub use loads::{
-    load_cell, load_clock, load_head, load_index, load_key, load_record_counter, load_state,
-    load_tail_counter,
+    load_cell, load_cell_from, load_clock, load_head, load_index, load_key, load_record_counter,
+    load_state, load_tail_counter,
 };
 pub use moves::{
     SharedWords, TableSeat, add_one, compare_exchange, load_word, set_lowest_bit, store_word,

@@ -7,6 +7,7 @@ ghost use Rattle.lst_rule.specs.Operations.{IsQuiet};
 ghost use Rattle.lst_rule.specs.Stores.{IsSeatOf, Looked, Clocked};
 
 use crate::actions::Action;
+use crate::frames::later_word;
 use crate::load_word;
 use crate::seat::Seat;
 use crate::store::Store;
@@ -168,5 +169,26 @@ pub fn load_cell(store: &Store, seat: &mut Seat, s: u32, tail: u32, place: u32) 
     ensures looked { Looked seat.old.view seat.new.view s (CellWord tail place) result }
 {
     let address = store.layout.cell_address(tail, place);
+    load_quietly(store, seat, s, Place::CellWord { tail, place }, address)
+}
+
+/// Loads a word of a tail, whose first word has this address. Does what `load_cell` does, without making the address up anew.
+#[inline(always)]
+pub fn load_cell_from(
+    store: &Store,
+    seat: &mut Seat,
+    s: u32,
+    tail: u32,
+    first: u64,
+    place: u32,
+) -> u64
+    requires seat { IsSeatOf store.now seat.old }
+    requires host { hosts seat.old.view s ≡ true }
+    requires place { layout.IsWithin seat.old.view.limits (CellWord tail place) }
+    requires first { first ≡ layout.address store.now.layout.limits (CellWord tail 0) }
+    ensures seat { IsSeatOf store.now seat.new }
+    ensures looked { Looked seat.old.view seat.new.view s (CellWord tail place) result }
+{
+    let address = later_word(store.layout.words, first, place);
     load_quietly(store, seat, s, Place::CellWord { tail, place }, address)
 }

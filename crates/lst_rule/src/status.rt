@@ -26,6 +26,7 @@ pub enum Status {
 }
 
 /// The status of a transaction whose state word was found committed at a time.
+#[inline(always)]
 fn commit_status(
     store: &Store,
     seat: &mut Seat,
@@ -54,6 +55,7 @@ fn commit_status(
 /// The status of a transaction, by its state word: of the one with this number, from 1 on, of this session, as the start words of its
 /// versions name it. A commit at a time above what the session `s` has seen (the number of the sessions for the merger) is judged by a
 /// clock loaded then: the transaction is unfinished where its time is above that too. The answer is never `Empty`.
+#[inline(always)]
 pub fn transaction_status(
     store: &Store,
     seat: &mut Seat,
@@ -78,6 +80,7 @@ pub fn transaction_status(
 
 /// The status of the version that has a start word: empty, stamped with a commit time, or that of the transaction that the word names
 /// (`transaction_status`).
+#[inline(always)]
 pub fn status_of(store: &Store, seat: &mut Seat, s: u32, start: u64) -> Status
     requires seat { IsSeatOf store.now seat.old }
     requires host { hosts seat.old.view s ≡ true }

@@ -1,10 +1,9 @@
-use Rattle.std.proofs.Common.{◌≡◌, ◌-◌, ◌%◌}
-use Rattle.lst_layout.specs.declared.TheConstants.{FRAME_WORDS}
+use Rattle.std.proofs.Common.{◌+◌, ◌*◌}
 use Rattle.lst_rule.proofs.Wholes.{LoadsOn}
 use Rattle.lst_rule.proofs.frames.load_frame_words.Given as goal
 
-abbrev pub invariant-loop-place : goal.invariant-loop-place
-invariant-loop-place l = LoadsOn l.store l.fn.seat.view l.seat l.s l.frame l.place l.out × (l.place % 2 ≡ 0)
+abbrev pub invariant-loop-turn : goal.invariant-loop-turn
+invariant-loop-turn l = LoadsOn l.store l.fn.seat.view l.seat l.s l.frame (14 * l.turn) l.out
 
-abbrev pub decreases-loop-place : goal.decreases-loop-place
-decreases-loop-place l = FRAME_WORDS - l.place
+abbrev pub invariant-loop-place : goal.invariant-loop-place
+invariant-loop-place l = LoadsOn l.store l.fn.seat.view l.seat l.s l.frame (14 * l.turn + l.place) l.out
