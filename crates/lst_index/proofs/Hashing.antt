@@ -1,5 +1,6 @@
 -- The positions of a key's run, as the program computes them.
-use Rattle.std.proofs.Common.{◌≡◌, ℕ, ◌+◌, ◌%◌, ◌^◌, ◌<◌, ◌≤◌, sym, subst, ap, refl, arith}
+use Rattle.std.proofs.Common.{◌≡◌, ℕ, ◌+◌, ◌%◌, ◌^◌, ◌<◌, ◌≤◌, sym, subst, ap, ◌∙◌, refl, arith}
+use Rattle.std.proofs.Math.Nat.{mod-eq_of_lt}
 use mathlib.Core.Logic.{dite}
 use native.Mathlib.Decide.{ℕ_discrete}
 use Rattle.lst_layout.specs.declared.limits.Limits.{Limits}
@@ -26,3 +27,9 @@ module _ (l : Limits) (sized : IsValid l) where
 
   pub position_below : (key offset first : ℕ) → first ≡ start_of key (index_bits l) → (positions : ℕ) → positions ≡ index_positions l → (first + offset) % positions < size l
   position_below key offset first e positions f = subst (λ (q : ℕ). q < size l) (sym (position_is key offset first e positions f)) (position_low l sized key offset)
+
+  -- the first one is where the run starts
+  pub start_is : (key offset first bits : ℕ) → offset ≡ 0 → bits ≡ index_bits l → first ≡ start_of key bits → first < 2 ^ bits → first ≡ position_of l key offset
+  unfolding size
+  start_is key offset first bits none b e low = let short : first + offset < index_positions l = subst (λ (k : ℕ). first + offset < 2 ^ k) b (omega arith) in let same : first ≡ first + offset = omega arith in
+      same ∙ sym (mod-eq_of_lt short) ∙ position_is key offset first (e ∙ ap (start_of key) b) (index_positions l) refl

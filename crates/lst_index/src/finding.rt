@@ -15,6 +15,7 @@ use lst_rule::{RecordId, Seat, Store};
 /// seen wrote the key, and its open transaction sees nothing of it.
 ///
 /// A record that the session has in hand is given up where its key shows on the record that is found.
+#[inline(always)]
 pub fn find(store: &Store, seat: &mut Seat, s: u32, key: Key) -> Option<RecordId>
     requires seat { IsSeatOf store.now seat.old }
     requires host { hosts seat.old.view s ≡ true }

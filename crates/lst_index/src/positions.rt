@@ -12,6 +12,9 @@ pub(crate) fn position(layout: &Layout, key: u64, offset: u32) -> u32
     ensures position { result ≡ position_of layout.now.limits key offset }
     ensures below { result < size layout.now.limits }
 {
-    let first = start(key, layout.index_bits()) as u64;
-    ((first + offset as u64) % layout.index_positions()) as u32
+    let first = start(key, layout.index_bits());
+    if offset == 0 {
+        return first;
+    }
+    ((first as u64 + offset as u64) % layout.index_positions()) as u32
 }

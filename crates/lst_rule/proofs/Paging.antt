@@ -1,14 +1,15 @@
 -- Steps on pages: what a store leaves, what a load tells, and what fits a word.
-use Rattle.std.proofs.Common.{◌≡◌, ℕ, ◌<◌, ◌≤◌, List, [], ◌∷◌, ◌++◌, Some, None, Bool, true, false, get_or, set, length, refl, sym, subst, ap, ◌∙◌, arith, get_or-set_same}
+use Rattle.std.proofs.Common.{◌≡◌, ℕ, ◌+◌, ◌<◌, ◌≤◌, List, [], ◌∷◌, ◌++◌, Some, None, Bool, true, false, get_or, set, length, refl, sym, subst, ap, ◌∙◌, arith, get_or-set_same}
 use Rattle.std.specs.List.{Contains}
 use Rattle.std.proofs.lemmas.List.{set-get_or}
 use Rattle.lst_layout.specs.declared.TheConstants.{FRAME_WORDS}
 use Rattle.lst_layout.specs.declared.limits.Limits.{Limits}
 use Rattle.lst_layout.specs.declared.place.Place.TheVariants.{EpochWord, DirectoryWord, FrameWord, PinWord}
 use Rattle.lst_layout.specs.Addresses.{address}
-use Rattle.lst_layout.specs.Areas.{frame_count}
+use Rattle.lst_layout.specs.Areas.{frame_count, words_of}
 use Rattle.lst_layout.specs.Addresses as layout
 use Rattle.lst_layout.specs.Words.{Words, shown}
+use Rattle.lst_layout.proofs.Apart.{below}
 use Rattle.lst_layout.proofs.Shown as shows
 use Rattle.lst_core_state.specs.declared.events.Event.TheVariants.{Look}
 use Rattle.lst_core_state.specs.declared.known.Known.{Known}
@@ -221,6 +222,15 @@ swap_made v w r d hosted made = record {
   view = let m : MergerFrames = stock_of v in subst (λ (f : ℕ). StockIs v w (record m { directory = with_word_in m.directory r d (frame_in m.built); retired = rest m.retired; clear = nobody_clear v.limits; waiting = Some f; built = None }))
       (sym (directory_is v made.told.words made.told.known made.told.merger made.told.allowed hosted r d made.told.within)) made.view;
 }
+
+-- ---- the directory words of a range stand side by side
+
+pub next_page : (l : Limits) (r c first : ℕ) → first ≡ address l (DirectoryWord r 0) → first + c ≡ address l (DirectoryWord r c)
+unfolding address
+next_page l r c first e = omega arith
+
+pub next_page_low : (l : Limits) (r c first : ℕ) → first ≡ address l (DirectoryWord r 0) → layout.IsWithin l (DirectoryWord r c) → first + c < words_of l
+next_page_low l r c first e within = subst (λ (n : ℕ). n < words_of l) (sym (next_page l r c first e)) (below l (DirectoryWord r c) within)
 
 -- ---- a word of a frame is loaded
 

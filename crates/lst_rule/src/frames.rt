@@ -38,9 +38,16 @@ pub(crate) fn later_word(words: u64, first: u64, place: u32) -> u64
     first + place as u64
 }
 
-/// Loads a word of a frame, whose first word has this address.
+/// Loads a word of a frame, whose first word has this address, as `load_frame` does.
 #[inline(always)]
-fn load_next_word(store: &Store, seat: &mut Seat, s: u32, frame: u32, first: u64, place: u32) -> u64
+pub fn load_next_word(
+    store: &Store,
+    seat: &mut Seat,
+    s: u32,
+    frame: u32,
+    first: u64,
+    place: u32,
+) -> u64
     requires seat { IsSeatOf store.now seat.old }
     requires host { hosts seat.old.view s ≡ true }
     requires frame { frame < frame_count seat.old.view.limits }

@@ -1,5 +1,7 @@
 //! One atomic step of a seat on pages: a store, or a load.
-ghost use Rattle.std.specs.Prelude.{◌≡◌, true};
+ghost use Rattle.std.specs.Prelude.{◌≡◌, ◌<◌, true};
+ghost use Rattle.lst_layout.specs.Addresses as addresses;
+ghost use Rattle.lst_layout.specs.Areas.{words_of};
 ghost use Rattle.lst_pages.specs.Known.{stepper, PageEnabled};
 ghost use Rattle.lst_pages.specs.Numbers as numbers;
 ghost use Rattle.lst_pages.specs.Step.{IsWithin, place_of};
@@ -71,12 +73,35 @@ pub(crate) fn load_page(store: &Store, seat: &mut Seat, s: u32, event: PageEvent
     ensures seat { IsSeatOf store.now seat.new }
     ensures met { PageMet seat.old.view seat.new.view event (place_of event) result result }
 {
+    let word = target(&store.layout, event);
+    load_page_at(store, seat, s, event, word)
+}
+
+/// What `load_page` does, where the word of the step has this address.
+#[inline(always)]
+pub(crate) fn load_page_at(
+    store: &Store,
+    seat: &mut Seat,
+    s: u32,
+    event: PageEvent,
+    word: u64,
+) -> u64
+    requires seat { IsSeatOf store.now seat.old }
+    requires actor { stepper seat.old.view.limits event ≡ s }
+    requires host { hosts seat.old.view (stepper seat.old.view.limits event) ≡ true }
+    requires kind { IsPageLoad event }
+    requires within { IsWithin seat.old.view.limits event }
+    requires enabled { PageEnabled seat.old.view.limits (knows seat.old.view (stepper seat.old.view.limits event)).pages event }
+    requires word { word ≡ addresses.address store.now.layout.limits (place_of event) }
+    requires below { word < words_of store.now.layout.limits }
+    ensures seat { IsSeatOf store.now seat.new }
+    ensures met { PageMet seat.old.view seat.new.view event (place_of event) result result }
+{
     let _ = s;
-    let word = target(&store.layout, event) as usize;
     load_word(
         &store.table.shared,
         &mut seat.place,
         Action::Page(event),
-        word,
+        word as usize,
     )
 }

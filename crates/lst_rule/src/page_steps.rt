@@ -1,5 +1,6 @@
 //! The steps on pins, pages and frames, one call for each kind.
 ghost use Rattle.std.specs.Prelude.{◌≡◌, ◌+◌, ◌<◌, true};
+ghost use Rattle.lst_layout.specs.Addresses as addresses;
 ghost use Rattle.lst_layout.specs.declared.place.Place.TheVariants.{EpochWord, DirectoryWord, FrameWord, PinWord};
 ghost use Rattle.lst_pages.specs.declared.events.PageEvent.TheVariants.{Pin, Unpin, LookPage, LookPin, StoreFrame, Swap, Raise};
 ghost use Rattle.lst_pages.specs.Known.{PageEnabled};
@@ -9,7 +10,8 @@ ghost use Rattle.lst_rule.specs.Learned.{Learns, PageCanStand, PageMade};
 ghost use Rattle.lst_rule.specs.PageSteps.{pinned_at, unpinned, PageLooked, PinLooked, frame_stored, stock_of, StockIs, Swapped, raised};
 ghost use Rattle.lst_rule.specs.Stores.{IsSeatOf};
 
-use crate::page_acts::{load_page, store_page};
+use crate::page_acts::{load_page, load_page_at, store_page};
+use crate::runs::later;
 use crate::seat::Seat;
 use crate::store::Store;
 use lst_pages::PageEvent;
@@ -53,16 +55,36 @@ pub fn step_look_page(store: &Store, seat: &mut Seat, s: u32, range: u32, column
     ensures seat { IsSeatOf store.now seat.new }
     ensures looked { PageLooked seat.old.view seat.new.view s range column result }
 {
-    load_page(
-        store,
-        seat,
-        s,
-        PageEvent::LookPage {
-            session: s,
-            range,
-            column,
-        },
-    )
+    let first = store.layout.directory(range, 0);
+    step_look_next_page(store, seat, s, range, column, first)
+}
+
+/// What `step_look_page` does, where the directory word of the range's first page has this address.
+#[inline(always)]
+pub fn step_look_next_page(
+    store: &Store,
+    seat: &mut Seat,
+    s: u32,
+    range: u32,
+    column: u32,
+    first: u64,
+) -> u64
+    requires seat { IsSeatOf store.now seat.old }
+    requires host { hosts seat.old.view s ≡ true }
+    requires own { s < seat.old.view.limits.sessions }
+    requires within { IsWithin seat.old.view.limits (LookPage s range column) }
+    requires enabled { PageEnabled seat.old.view.limits (knows seat.old.view s).pages (LookPage s range column) }
+    requires first { first ≡ addresses.address store.now.layout.limits (DirectoryWord range 0) }
+    ensures seat { IsSeatOf store.now seat.new }
+    ensures looked { PageLooked seat.old.view seat.new.view s range column result }
+{
+    let event = PageEvent::LookPage {
+        session: s,
+        range,
+        column,
+    };
+    let address = later(store.layout.words, first, column);
+    load_page_at(store, seat, s, event, address)
 }
 
 /// Loads a session's pin word as the merger, and answers it. Allowed while no frame waits to be retired. Afterwards the merger knows

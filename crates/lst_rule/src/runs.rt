@@ -58,9 +58,9 @@ fn first_of_run(layout: &Layout, run: Run) -> u64
     }
 }
 
-/// The address of a later word of a run, in a store of so many words.
+/// The address of a later word of some side by side, in a store of so many words.
 #[inline(always)]
-fn later(words: u64, first: u64, i: u32) -> u64
+pub(crate) fn later(words: u64, first: u64, i: u32) -> u64
     requires { first + i < words }
     ensures { result ≡ first + i }
 {

@@ -1,5 +1,5 @@
 -- A page that a session takes in hand: its frame is named, and its TPS is loaded.
-use Rattle.std.proofs.Common.{◌≡◌, ℕ, ◌+◌, ◌<◌, List, Bool, true, false, refl, sym, subst, ap, ◌∙◌, arith, slice_index, slice_index_or}
+use Rattle.std.proofs.Common.{◌≡◌, ℕ, ◌<◌, List, Bool, true, false, refl, sym, subst, ap, ◌∙◌, arith, slice_index, slice_index_or}
 use Rattle.lst_layout.specs.declared.limits.Limits.{Limits}
 use Rattle.lst_core_state.specs.declared.known.Known.{Known}
 use Rattle.lst_core_state.specs.State.{state_over}

@@ -1,6 +1,8 @@
 -- The packed words of a frame in hand.
 use Rattle.std.specs.Prelude.{◌≡◌, ℕ, ◌<◌, List, [], Option, Some, None, slice_index, refl}
 use Rattle.std.proofs.Common.{◌∙◌}
+use Rattle.lst_layout.specs.declared.place.Place.TheVariants.{FrameWord}
+use Rattle.lst_layout.specs.Addresses.{address}
 use Rattle.lst_layout.specs.Areas.{frame_count}
 use Rattle.lst_core_state.specs.declared.pages.PageInHand.{PageInHand}
 use Rattle.lst_pages.specs.State.{hand_of}
@@ -21,10 +23,11 @@ packed_of (Some page) = packed_in (slice_index page.words)
 abbrev pub packed_words : View → ℕ → ℕ → List ℕ
 packed_words v s frame = packed_of (hand_of (knows v s).pages.session frame)
 
--- the session reads, and the frame is one of the store's
-pub record MayLoad (store : Store) (seat : Sitting) (s frame : ℕ) : Type 0 where
+-- the session reads, and the frame is one of the store's, whose first word has this address
+pub record MayLoad (store : Store) (seat : Sitting) (s frame first : ℕ) : Type 0 where
   pub reader : IsReader store seat s
   pub low : frame < frame_count seat.view.limits
+  pub is : first ≡ address store.layout.limits (FrameWord frame 0)
 
 -- the session s has only looked at pages: it found nothing
 pub record Skims (v w : View) (s : ℕ) : Type 0 where

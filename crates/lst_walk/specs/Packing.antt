@@ -14,12 +14,13 @@ pub record Loads (one other : Packed) : Type 0 where
   pub same_reference : other.seat.ghost_name ≡ one.seat.ghost_name
   pub s : other.s ≡ one.s
   pub frame : other.frame ≡ one.frame
+  pub first : other.first ≡ one.first
   pub skims : Skims one.seat.now.view other.seat.now.view one.s
   pub same : knows other.seat.now.view one.s ≡ knows one.seat.now.view one.s
 
 -- of no load, and of loads one after another
 pub loads_none : (one : Packed) → Loads one one
-loads_none one = record { store = refl; same_reference = refl; s = refl; frame = refl; skims = skims_same one.seat.now.view one.s; same = refl }
+loads_none one = record { store = refl; same_reference = refl; s = refl; frame = refl; first = refl; skims = skims_same one.seat.now.view one.s; same = refl }
 
 pub loads_on : (one other third : Packed) → Loads one other → Loads other third → Loads one third
 loads_on one other third a b = record {
@@ -27,6 +28,7 @@ loads_on one other third a b = record {
   same_reference = b.same_reference ∙ a.same_reference;
   s = b.s ∙ a.s;
   frame = b.frame ∙ a.frame;
+  first = b.first ∙ a.first;
   skims = skims_on one.seat.now.view other.seat.now.view third.seat.now.view one.s a.skims (subst (λ (n : ℕ). Skims other.seat.now.view third.seat.now.view n) a.s b.skims);
   same = subst (λ (n : ℕ). knows third.seat.now.view n ≡ knows other.seat.now.view n) a.s b.same ∙ a.same;
 }

@@ -1,5 +1,6 @@
 -- Base pages that a walk reads from.
 use Rattle.std.specs.Prelude.{◌≡◌, ◌⊎◌, ℕ, ◌+◌, ◌*◌, ◌/◌, ◌%◌, ◌<◌, ◌≤◌, List, [], ◌∷◌, ◌++◌, Bool, false, ◌&&◌}
+use Rattle.lst_layout.specs.declared.TheConstants.{FRAME_TIMES}
 use Rattle.lst_layout.specs.declared.place.Place.TheVariants.{HeadWord}
 use Rattle.lst_layout.specs.Areas.{frame_count}
 use Rattle.lst_layout.specs.Frames.{lineage_place, time_place}
@@ -68,6 +69,14 @@ pub record UsesPage (v w : View) (s rec column : ℕ) (passed rest : List Versio
   pub may : MayUse (knows v s) between s rec column number passed rest words
 
 -- ---- a page taken in hand
+
+-- between v and w the session s took the page of the column in hand, in this frame, and then loaded its TPS and the time word of the record's entry
+pub record LooksAt (v w : View) (s rec column frame tps stamp : ℕ) : Type 0 where
+  pub taken : View
+  pub told : View
+  pub page : PageLooked v taken s (rec / 256) column frame
+  pub lineage : FrameLoaded taken told s frame 0 tps
+  pub time : FrameLoaded told w s frame (FRAME_TIMES + rec % 256) stamp
 
 -- between v and w the session s took the page of the column in hand, and then loaded its TPS and the time word of the record's entry
 pub record ReadsPage (v w : View) (s rec column : ℕ) : Type 0 where

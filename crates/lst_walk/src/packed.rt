@@ -3,7 +3,7 @@ ghost use Rattle.lst_walk.specs.Packed.{MayLoad};
 
 use lst_layout::FRAME_VALUES;
 use lst_pack::Words;
-use lst_rule::{Seat, Store, load_frame};
+use lst_rule::{Seat, Store, load_next_word};
 
 // The packed words of a frame that a session has in hand.
 #[derive(Drop)]
@@ -12,7 +12,9 @@ pub(crate) struct Packed<'a> {
     pub seat: &'a mut Seat,
     pub s: u32,
     pub frame: u32,
-    ghost ready: { MayLoad store.now seat.now s frame },
+    /// The address of the frame's first word.
+    pub first: u64,
+    ghost ready: { MayLoad store.now seat.now s frame first },
 }
 
 impl Words for Packed<'_> {
@@ -23,11 +25,12 @@ impl Words for Packed<'_> {
     ghost later = { λ one other. Loads one other };
 
     fn word(&mut self, place: u32) -> u64 {
-        load_frame(
+        load_next_word(
             self.store,
             self.seat,
             self.s,
             self.frame,
+            self.first,
             FRAME_VALUES + place,
         )
     }

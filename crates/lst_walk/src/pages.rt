@@ -1,12 +1,14 @@
 //! Base pages: the entry of a record in a page that is in hand.
-ghost use Rattle.std.specs.Prelude.{◌≡◌, ℕ, ◌%◌, ◌<◌, ◌≤◌, List, Some, None, cond, nat_le, slice_index};
+ghost use Rattle.std.specs.Prelude.{◌≡◌, ℕ, ◌/◌, ◌%◌, ◌<◌, ◌≤◌, List, Some, None, cond, nat_le, slice_index};
+ghost use Rattle.lst_layout.specs.declared.place.Place.TheVariants.{DirectoryWord, FrameWord};
+ghost use Rattle.lst_layout.specs.Addresses.{address};
 ghost use Rattle.lst_layout.specs.Areas.{frame_count};
 ghost use Rattle.lst_pack.specs.Forms.{Packs, IsPacked};
 ghost use Rattle.lst_core_state.specs.Cells.{record_count};
 ghost use Rattle.lst_rule.specs.Rule.{knows};
 ghost use Rattle.lst_walk.specs.Readers.{IsReader};
 ghost use Rattle.lst_walk.specs.Packed.{packed_words, Skims};
-ghost use Rattle.lst_walk.specs.Pages.{Takes};
+ghost use Rattle.lst_walk.specs.Pages.{Takes, LooksAt};
 ghost use Rattle.lst_walk.specs.Taking.{TakesAll, entry_at};
 ghost use Rattle.lst_sights.specs.Watching.{HasInHand};
 ghost use Rattle.lst_model.specs.Cells.{has_bit, number_of};
@@ -17,7 +19,7 @@ use crate::packed::Packed;
 use lst_bits::unpack_time;
 use lst_layout::{FRAME_NULLS, FRAME_TIMES};
 use lst_pack::get_from;
-use lst_rule::{RecordId, Seat, Store, load_frame, step_look_page};
+use lst_rule::{RecordId, Seat, Store, load_frame, load_next_word, step_look_next_page};
 
 /// What a page says of a record in a column.
 #[derive(Clone, Copy)]
@@ -29,6 +31,19 @@ pub(crate) struct Entry {
     pub until: u64,
     /// Whether there is a row.
     pub is_present: bool,
+}
+
+/// What was loaded of a page that was taken in hand.
+#[derive(Clone, Copy)]
+pub(crate) struct Looks {
+    /// The page's frame.
+    pub frame: u32,
+    /// The address of the frame's first word.
+    pub first: u64,
+    /// The page's TPS.
+    pub tps: u64,
+    /// The time word of a record's entry.
+    pub stamp: u64,
 }
 
 /// The entry of a record in the page of a column, which is taken in hand where the session has a pin.
@@ -43,7 +58,8 @@ pub(crate) fn entry_of(store: &Store, seat: &mut Seat, s: u32, rec: RecordId, co
 {
     if seat.pinned(s).is_some() {
         let begin = seat.begin(s);
-        taken(store, seat, s, rec, column, begin)
+        let pages = store.layout().directory(rec.number / 256, 0);
+        taken(store, seat, s, rec, column, pages, begin)
     } else {
         Entry {
             frame: 0,
@@ -53,7 +69,8 @@ pub(crate) fn entry_of(store: &Store, seat: &mut Seat, s: u32, rec: RecordId, co
     }
 }
 
-/// The same of a session with a pin, whose open transaction has this begin.
+/// The same of a session with a pin, whose open transaction has this begin, where the directory word of the range's first page has the address
+/// `pages`.
 #[inline(always)]
 pub(crate) fn taken(
     store: &Store,
@@ -61,25 +78,59 @@ pub(crate) fn taken(
     s: u32,
     rec: RecordId,
     column: u32,
+    pages: u64,
     begin: u64,
 ) -> Entry
     requires reader { IsReader store.now seat.old s }
     requires pinned { 0 < (knows seat.old.view s).pages.session.pin }
     requires rec { rec.number < record_count store.now.layout.limits }
     requires column { column < store.now.layout.limits.columns }
+    requires pages { pages ≡ address store.now.layout.limits (DirectoryWord (rec.number / 256) 0) }
     requires begin { begin ≡ (knows seat.old.view s).begin }
     ensures reader { IsReader store.now seat.new s }
     ensures skims { Skims seat.old.view seat.new.view s }
     ensures takes { Takes seat.old.view seat.new.view s rec.number column result }
 {
-    let frame = step_look_page(store, seat, s, rec.number / 256, column) as u32;
-    let tps = load_frame(store, seat, s, frame, 0);
-    let stamp = load_frame(store, seat, s, frame, FRAME_TIMES + rec.number % 256);
-    let (time, is_present) = unpack_time(stamp);
+    let found = look(store, seat, s, rec, column, pages);
+    let (time, is_present) = unpack_time(found.stamp);
     Entry {
-        frame,
-        until: until(tps, time, begin),
+        frame: found.frame,
+        until: until(found.tps, time, begin),
         is_present,
+    }
+}
+
+/// Takes the page of a column in hand, of a session with a pin, and loads its TPS and the time word of a record's entry. The directory word of the
+/// range's first page has the address `pages`.
+#[inline(always)]
+pub(crate) fn look(
+    store: &Store,
+    seat: &mut Seat,
+    s: u32,
+    rec: RecordId,
+    column: u32,
+    pages: u64,
+) -> Looks
+    requires reader { IsReader store.now seat.old s }
+    requires pinned { 0 < (knows seat.old.view s).pages.session.pin }
+    requires rec { rec.number < record_count store.now.layout.limits }
+    requires column { column < store.now.layout.limits.columns }
+    requires pages { pages ≡ address store.now.layout.limits (DirectoryWord (rec.number / 256) 0) }
+    ensures reader { IsReader store.now seat.new s }
+    ensures skims { Skims seat.old.view seat.new.view s }
+    ensures looks { LooksAt seat.old.view seat.new.view s rec.number column result.frame result.tps result.stamp }
+    ensures first { result.first ≡ address store.now.layout.limits (FrameWord result.frame 0) }
+{
+    let frame = step_look_next_page(store, seat, s, rec.number / 256, column, pages) as u32;
+    let first = store.layout().frames(frame, 0);
+    let tps = load_next_word(store, seat, s, frame, first, 0);
+    let place = FRAME_TIMES + rec.number % 256;
+    let stamp = load_next_word(store, seat, s, frame, first, place);
+    Looks {
+        frame,
+        first,
+        tps,
+        stamp,
     }
 }
 
@@ -128,8 +179,9 @@ pub(crate) fn entries_of(store: &Store, seat: &mut Seat, s: u32, rec: RecordId) 
         return entries;
     }
     let begin = seat.begin(s);
+    let pages = store.layout().directory(rec.number / 256, 0);
     for column in 0..store.layout().limits.columns {
-        entries[column as usize] = taken(store, seat, s, rec, column, begin);
+        entries[column as usize] = taken(store, seat, s, rec, column, pages, begin);
     }
     entries
 }
@@ -191,24 +243,27 @@ pub(crate) fn present_cell(
     }
 }
 
-/// The same where the page has the number 0 for null: the null word is loaded only where the number is 0.
+/// The same where the page has the number 0 for null: the null word is loaded only where the number is 0. The frame's first word has the address
+/// `first`.
 #[inline(always)]
 pub(crate) fn numbered_cell(
     store: &Store,
     seat: &mut Seat,
     s: u32,
     frame: u32,
+    first: u64,
     slot: u32,
 ) -> Option<u64>
     requires reader { IsReader store.now seat.old s }
     requires frame { frame < frame_count seat.old.view.limits }
     requires packed { IsPacked (packed_words seat.old.view s frame) }
+    requires first { first ≡ address store.now.layout.limits (FrameWord frame 0) }
     requires slot { slot < 256 }
     ensures reader { IsReader store.now seat.new s }
     ensures skims { Skims seat.old.view seat.new.view s }
     ensures cell { (words : ℕ → ℕ) → HasInHand (knows seat.old.view s).pages.session frame words → (values : List ℕ) → Packs (packed_words seat.old.view s frame) values → slice_index values slot ≡ number_of (cell_in words (slice_index values slot) slot) → result ≡ cell_in words (slice_index values slot) slot }
 {
-    let number = value(store, seat, s, frame, slot);
+    let number = value_from(store, seat, s, frame, first, slot);
     if number > 0 {
         return Some(number);
     }
@@ -220,6 +275,7 @@ pub(crate) fn numbered_cell(
 }
 
 /// Whether the null bit of a slot is set, of the page in a frame that is in hand.
+#[inline(never)]
 fn is_null(store: &Store, seat: &mut Seat, s: u32, frame: u32, slot: u32) -> bool
     requires reader { IsReader store.now seat.old s }
     requires frame { frame < frame_count seat.old.view.limits }
@@ -253,11 +309,29 @@ pub(crate) fn value(store: &Store, seat: &mut Seat, s: u32, frame: u32, slot: u3
     ensures same { knows seat.new.view s ≡ knows seat.old.view s }
     ensures value { (values : List ℕ) → Packs (packed_words seat.old.view s frame) values → result ≡ slice_index values slot }
 {
+    let first = store.layout().frames(frame, 0);
+    value_from(store, seat, s, frame, first, slot)
+}
+
+/// The same of a frame whose first word has this address.
+#[inline(always)]
+fn value_from(store: &Store, seat: &mut Seat, s: u32, frame: u32, first: u64, slot: u32) -> u64
+    requires reader { IsReader store.now seat.old s }
+    requires frame { frame < frame_count seat.old.view.limits }
+    requires packed { IsPacked (packed_words seat.old.view s frame) }
+    requires first { first ≡ address store.now.layout.limits (FrameWord frame 0) }
+    requires slot { slot < 256 }
+    ensures reader { IsReader store.now seat.new s }
+    ensures skims { Skims seat.old.view seat.new.view s }
+    ensures same { knows seat.new.view s ≡ knows seat.old.view s }
+    ensures value { (values : List ℕ) → Packs (packed_words seat.old.view s frame) values → result ≡ slice_index values slot }
+{
     let mut words = Packed {
         store,
         seat,
         s,
         frame,
+        first,
     };
     get_from(&mut words, slot)
 }

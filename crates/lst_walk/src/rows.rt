@@ -95,6 +95,25 @@ pub fn put_row(store: &Store, seat: &mut Seat, s: u32, rec: RecordId, row: &mut 
     if paged(store, seat, s, rec, number, row) {
         return true;
     }
+    put_walked(store, seat, s, rec, number, row)
+}
+
+/// What `walked` answers, put into a row. Whether there is a row is answered.
+#[inline(never)]
+fn put_walked(
+    store: &Store,
+    seat: &mut Seat,
+    s: u32,
+    rec: RecordId,
+    number: u32,
+    row: &mut Row,
+) -> bool
+    requires reader { IsReader store.now seat.old s }
+    requires rec { rec.number < record_count store.now.layout.limits }
+    requires walk { (v : View) × PagedRow store.now v seat.old s rec.number number 0 [] }
+    ensures reader { IsReader store.now seat.new s }
+    ensures told { (v : View) → PagedRow store.now v seat.old s rec.number number 0 [] → RowBy v seat.new.view s rec.number (row_where result row.new) }
+{
     match walked(store, seat, s, rec, number) {
         Some(found) => {
             *row = found;

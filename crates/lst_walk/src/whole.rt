@@ -1,5 +1,7 @@
 //! A row of which the pages tell every column at the record's newest version.
-ghost use Rattle.std.specs.Prelude.{◌≡◌, ◌<◌, [], IfSome, true};
+ghost use Rattle.std.specs.Prelude.{◌≡◌, ◌/◌, ◌<◌, [], IfSome, true};
+ghost use Rattle.lst_layout.specs.declared.place.Place.TheVariants.{DirectoryWord};
+ghost use Rattle.lst_layout.specs.Addresses.{address};
 ghost use Rattle.lst_core_state.specs.Cells.{record_count};
 ghost use Rattle.lst_rule.specs.declared.view.View.{View};
 ghost use Rattle.lst_rule.specs.Rule.{knows};
@@ -7,12 +9,13 @@ ghost use Rattle.lst_walk.specs.Readers.{IsReader};
 ghost use Rattle.lst_walk.specs.Packed.{Skims};
 ghost use Rattle.lst_walk.specs.Whole.{TellsCell, PagedRow, PagedBy};
 
-use crate::pages::{numbered_cell, taken};
+use crate::pages::{look, numbered_cell};
+use lst_bits::unpack_time;
 use lst_model::Row;
 use lst_rule::{RecordId, Seat, Store};
 
-/// The cell that the page of a column tells of a record at this number, where there is a row. None comes where the page doesn't tell it to the open
-/// transaction, which has this begin.
+/// The cell that the page of a column tells of a record at this number, where there is a row. None comes where there is no version (the number is 0),
+/// and where the page doesn't tell it to the open transaction, which has this begin. The directory word of the range's first page has the address `pages`.
 #[inline(always)]
 fn page_cell(
     store: &Store,
@@ -21,21 +24,26 @@ fn page_cell(
     rec: RecordId,
     number: u32,
     column: u32,
+    pages: u64,
     begin: u64,
 ) -> Option<Option<u64>>
     requires reader { IsReader store.now seat.old s }
     requires pinned { 0 < (knows seat.old.view s).pages.session.pin }
     requires rec { rec.number < record_count store.now.layout.limits }
-    requires number { 0 < number }
     requires column { column < store.now.layout.limits.columns }
+    requires pages { pages ≡ address store.now.layout.limits (DirectoryWord (rec.number / 256) 0) }
     requires begin { begin ≡ (knows seat.old.view s).begin }
     ensures reader { IsReader store.now seat.new s }
     ensures skims { Skims seat.old.view seat.new.view s }
+    ensures some { IfSome result (λ cell. 0 < number) }
     ensures told { IfSome result (λ cell. TellsCell seat.old.view seat.new.view s rec.number number column cell) }
 {
-    let entry = taken(store, seat, s, rec, column, begin);
-    if number as u64 <= entry.until && entry.is_present {
-        Some(numbered_cell(store, seat, s, entry.frame, rec.number % 256))
+    let found = look(store, seat, s, rec, column, pages);
+    let (time, is_present) = unpack_time(found.stamp);
+    // A number of 0 becomes one above each TPS.
+    if (number as u64).wrapping_sub(1) < found.tps && time <= begin && is_present {
+        let slot = rec.number % 256;
+        Some(numbered_cell(store, seat, s, found.frame, found.first, slot))
     } else {
         None
     }
@@ -60,15 +68,13 @@ pub(crate) fn paged(
     ensures skims { Skims seat.old.view seat.new.view s }
     ensures told { result ≡ true → (v : View) → PagedRow store.now v seat.old s rec.number number 0 [] → PagedBy v seat.new.view s rec.number row.new }
 {
-    if number == 0 {
-        return false;
-    }
     if seat.pinned(s).is_none() {
         return false;
     }
     let begin = seat.begin(s);
+    let pages = store.layout().directory(rec.number / 256, 0);
     for column in 0..store.layout().limits.columns {
-        match page_cell(store, seat, s, rec, number, column, begin) {
+        match page_cell(store, seat, s, rec, number, column, pages, begin) {
             Some(cell) => row.push(cell),
             None => return false,
         }

@@ -1,4 +1,4 @@
-use Rattle.std.proofs.Common.{◌≡◌, ℕ, ◌/◌}
+use Rattle.std.proofs.Common.{◌≡◌, ◌/◌}
 use Rattle.lst_walk.specs.Chains.{SavesChain}
 use Rattle.lst_walk.specs.Walks.{CellWalk}
 use Rattle.lst_walk.proofs.columns.column_by_chain.Given as goal

@@ -15,8 +15,8 @@ paged-requires-clause-walk c = (
       c.head-number.ensures.looked.1 c.head-number.ensures.looked.2,
 )
 
-pub walked-requires-clause-walk : goal.walked-requires-clause-walk
-walked-requires-clause-walk c = (
+pub put_walked-requires-clause-walk : goal.put_walked-requires-clause-walk
+put_walked-requires-clause-walk c = (
   c.args.seat.now.view,
   paged_stays c.args.store.now c.args.seat.now.view c.head-number.new.seat c.paged.new.seat c.args.s c.args.rec.number c.head-number.result (paged_start c.args.store.now c.args.seat.now.view c.head-number.new.seat c.args.s c.args.rec.number c.head-number.result c.head-number.ensures.looked.0 c.requires.host c.requires.opened
       (row_start c.args.store.now c.args.seat.now.view c.head-number.new.seat c.args.s c.args.rec.number c.head-number.result c.consider.ensures c.requires.host c.requires.opened c.head-number.ensures.reader c.head-number.ensures.watched c.head-number.ensures.possible c.head-number.ensures.chain _ refl)
@@ -41,42 +41,22 @@ returns-then-paged-clause-saves c = λ pinned. (c.paged.ensures.told c.if-paged.
     (row_start c.args.store.now c.args.seat.now.view c.head-number.new.seat c.args.s c.args.rec.number c.head-number.result c.consider.ensures c.requires.host c.requires.opened c.head-number.ensures.reader c.head-number.ensures.watched c.head-number.ensures.possible c.head-number.ensures.chain _ refl)
     c.head-number.ensures.looked.1 c.head-number.ensures.looked.2)).saves
 
-pub returns-in-Some-clause-watched : goal.returns-in-Some-clause-watched
-returns-in-Some-clause-watched c = (c.in-Some.ensures.told c.args.seat.now.view (paged_stays c.args.store.now c.args.seat.now.view c.head-number.new.seat c.paged.new.seat c.args.s c.args.rec.number c.head-number.result (paged_start c.args.store.now c.args.seat.now.view c.head-number.new.seat c.args.s c.args.rec.number c.head-number.result c.head-number.ensures.looked.0 c.requires.host c.requires.opened
+pub returns-clause-watched : goal.returns-clause-watched
+returns-clause-watched c = (c.put_walked.ensures.told c.args.seat.now.view (paged_stays c.args.store.now c.args.seat.now.view c.head-number.new.seat c.paged.new.seat c.args.s c.args.rec.number c.head-number.result (paged_start c.args.store.now c.args.seat.now.view c.head-number.new.seat c.args.s c.args.rec.number c.head-number.result c.head-number.ensures.looked.0 c.requires.host c.requires.opened
     (row_start c.args.store.now c.args.seat.now.view c.head-number.new.seat c.args.s c.args.rec.number c.head-number.result c.consider.ensures c.requires.host c.requires.opened c.head-number.ensures.reader c.head-number.ensures.watched c.head-number.ensures.possible c.head-number.ensures.chain _ refl)
     c.head-number.ensures.looked.1 c.head-number.ensures.looked.2) c.paged.ensures.skims c.paged.ensures.reader)).watched
 
-pub returns-in-Some-clause-row : goal.returns-in-Some-clause-row
-returns-in-Some-clause-row c = (c.in-Some.ensures.told c.args.seat.now.view (paged_stays c.args.store.now c.args.seat.now.view c.head-number.new.seat c.paged.new.seat c.args.s c.args.rec.number c.head-number.result (paged_start c.args.store.now c.args.seat.now.view c.head-number.new.seat c.args.s c.args.rec.number c.head-number.result c.head-number.ensures.looked.0 c.requires.host c.requires.opened
+pub returns-clause-row : goal.returns-clause-row
+returns-clause-row c = (c.put_walked.ensures.told c.args.seat.now.view (paged_stays c.args.store.now c.args.seat.now.view c.head-number.new.seat c.paged.new.seat c.args.s c.args.rec.number c.head-number.result (paged_start c.args.store.now c.args.seat.now.view c.head-number.new.seat c.args.s c.args.rec.number c.head-number.result c.head-number.ensures.looked.0 c.requires.host c.requires.opened
     (row_start c.args.store.now c.args.seat.now.view c.head-number.new.seat c.args.s c.args.rec.number c.head-number.result c.consider.ensures c.requires.host c.requires.opened c.head-number.ensures.reader c.head-number.ensures.watched c.head-number.ensures.possible c.head-number.ensures.chain _ refl)
     c.head-number.ensures.looked.1 c.head-number.ensures.looked.2) c.paged.ensures.skims c.paged.ensures.reader)).row
 
-pub returns-in-Some-clause-walk : goal.returns-in-Some-clause-walk
-returns-in-Some-clause-walk c = (c.in-Some.ensures.told c.args.seat.now.view (paged_stays c.args.store.now c.args.seat.now.view c.head-number.new.seat c.paged.new.seat c.args.s c.args.rec.number c.head-number.result (paged_start c.args.store.now c.args.seat.now.view c.head-number.new.seat c.args.s c.args.rec.number c.head-number.result c.head-number.ensures.looked.0 c.requires.host c.requires.opened
+pub returns-clause-walk : goal.returns-clause-walk
+returns-clause-walk c = (c.put_walked.ensures.told c.args.seat.now.view (paged_stays c.args.store.now c.args.seat.now.view c.head-number.new.seat c.paged.new.seat c.args.s c.args.rec.number c.head-number.result (paged_start c.args.store.now c.args.seat.now.view c.head-number.new.seat c.args.s c.args.rec.number c.head-number.result c.head-number.ensures.looked.0 c.requires.host c.requires.opened
     (row_start c.args.store.now c.args.seat.now.view c.head-number.new.seat c.args.s c.args.rec.number c.head-number.result c.consider.ensures c.requires.host c.requires.opened c.head-number.ensures.reader c.head-number.ensures.watched c.head-number.ensures.possible c.head-number.ensures.chain _ refl)
     c.head-number.ensures.looked.1 c.head-number.ensures.looked.2) c.paged.ensures.skims c.paged.ensures.reader)).walk
 
-pub returns-in-Some-clause-saves : goal.returns-in-Some-clause-saves
-returns-in-Some-clause-saves c = (c.in-Some.ensures.told c.args.seat.now.view (paged_stays c.args.store.now c.args.seat.now.view c.head-number.new.seat c.paged.new.seat c.args.s c.args.rec.number c.head-number.result (paged_start c.args.store.now c.args.seat.now.view c.head-number.new.seat c.args.s c.args.rec.number c.head-number.result c.head-number.ensures.looked.0 c.requires.host c.requires.opened
-    (row_start c.args.store.now c.args.seat.now.view c.head-number.new.seat c.args.s c.args.rec.number c.head-number.result c.consider.ensures c.requires.host c.requires.opened c.head-number.ensures.reader c.head-number.ensures.watched c.head-number.ensures.possible c.head-number.ensures.chain _ refl)
-    c.head-number.ensures.looked.1 c.head-number.ensures.looked.2) c.paged.ensures.skims c.paged.ensures.reader)).saves
-
-pub returns-in-None-clause-watched : goal.returns-in-None-clause-watched
-returns-in-None-clause-watched c = (c.in-None.ensures.told c.args.seat.now.view (paged_stays c.args.store.now c.args.seat.now.view c.head-number.new.seat c.paged.new.seat c.args.s c.args.rec.number c.head-number.result (paged_start c.args.store.now c.args.seat.now.view c.head-number.new.seat c.args.s c.args.rec.number c.head-number.result c.head-number.ensures.looked.0 c.requires.host c.requires.opened
-    (row_start c.args.store.now c.args.seat.now.view c.head-number.new.seat c.args.s c.args.rec.number c.head-number.result c.consider.ensures c.requires.host c.requires.opened c.head-number.ensures.reader c.head-number.ensures.watched c.head-number.ensures.possible c.head-number.ensures.chain _ refl)
-    c.head-number.ensures.looked.1 c.head-number.ensures.looked.2) c.paged.ensures.skims c.paged.ensures.reader)).watched
-
-pub returns-in-None-clause-row : goal.returns-in-None-clause-row
-returns-in-None-clause-row c = (c.in-None.ensures.told c.args.seat.now.view (paged_stays c.args.store.now c.args.seat.now.view c.head-number.new.seat c.paged.new.seat c.args.s c.args.rec.number c.head-number.result (paged_start c.args.store.now c.args.seat.now.view c.head-number.new.seat c.args.s c.args.rec.number c.head-number.result c.head-number.ensures.looked.0 c.requires.host c.requires.opened
-    (row_start c.args.store.now c.args.seat.now.view c.head-number.new.seat c.args.s c.args.rec.number c.head-number.result c.consider.ensures c.requires.host c.requires.opened c.head-number.ensures.reader c.head-number.ensures.watched c.head-number.ensures.possible c.head-number.ensures.chain _ refl)
-    c.head-number.ensures.looked.1 c.head-number.ensures.looked.2) c.paged.ensures.skims c.paged.ensures.reader)).row
-
-pub returns-in-None-clause-walk : goal.returns-in-None-clause-walk
-returns-in-None-clause-walk c = (c.in-None.ensures.told c.args.seat.now.view (paged_stays c.args.store.now c.args.seat.now.view c.head-number.new.seat c.paged.new.seat c.args.s c.args.rec.number c.head-number.result (paged_start c.args.store.now c.args.seat.now.view c.head-number.new.seat c.args.s c.args.rec.number c.head-number.result c.head-number.ensures.looked.0 c.requires.host c.requires.opened
-    (row_start c.args.store.now c.args.seat.now.view c.head-number.new.seat c.args.s c.args.rec.number c.head-number.result c.consider.ensures c.requires.host c.requires.opened c.head-number.ensures.reader c.head-number.ensures.watched c.head-number.ensures.possible c.head-number.ensures.chain _ refl)
-    c.head-number.ensures.looked.1 c.head-number.ensures.looked.2) c.paged.ensures.skims c.paged.ensures.reader)).walk
-
-pub returns-in-None-clause-saves : goal.returns-in-None-clause-saves
-returns-in-None-clause-saves c = (c.in-None.ensures.told c.args.seat.now.view (paged_stays c.args.store.now c.args.seat.now.view c.head-number.new.seat c.paged.new.seat c.args.s c.args.rec.number c.head-number.result (paged_start c.args.store.now c.args.seat.now.view c.head-number.new.seat c.args.s c.args.rec.number c.head-number.result c.head-number.ensures.looked.0 c.requires.host c.requires.opened
+pub returns-clause-saves : goal.returns-clause-saves
+returns-clause-saves c = (c.put_walked.ensures.told c.args.seat.now.view (paged_stays c.args.store.now c.args.seat.now.view c.head-number.new.seat c.paged.new.seat c.args.s c.args.rec.number c.head-number.result (paged_start c.args.store.now c.args.seat.now.view c.head-number.new.seat c.args.s c.args.rec.number c.head-number.result c.head-number.ensures.looked.0 c.requires.host c.requires.opened
     (row_start c.args.store.now c.args.seat.now.view c.head-number.new.seat c.args.s c.args.rec.number c.head-number.result c.consider.ensures c.requires.host c.requires.opened c.head-number.ensures.reader c.head-number.ensures.watched c.head-number.ensures.possible c.head-number.ensures.chain _ refl)
     c.head-number.ensures.looked.1 c.head-number.ensures.looked.2) c.paged.ensures.skims c.paged.ensures.reader)).saves

@@ -15,25 +15,19 @@ pub page_cell-requires-clause-pinned : goal.page_cell-requires-clause-pinned
 page_cell-requires-clause-pinned c = let some = pin_some c.pinned.result (knows c.args.seat.now.view c.args.s).pages.session.pin c.pinned.ensures (c.is_none.ensures ∙ ap (λ b. not b) c.if-is_none.false) in let same = (same_pins (knows c.args.seat.now.view c.args.s) (knows c.loop-column.seat.view c.args.s) c.loop-column.invariant.skims.watched.watches).pin in omega arith
 
 pub loop-column-preserved : goal.loop-column-preserved
-loop-column-preserved c = paged_walk_next c.args.store.now c.args.seat.now c.loop-column.seat c.page_cell.new.seat c.args.s c.args.rec.number c.args.number c.loop-column.column c.loop-column.row c.push.new.self c.in-Some.cell (let n = c.if-number-eq0.false in omega arith) (let l = ap (λ (y : Layout). y.limits.columns) c.layout.ensures in let t = c.loop-column-test.true in omega arith) c.loop-column.invariant c.page_cell.ensures.reader c.page_cell.ensures.skims c.in-Some.ensures.told c.push.ensures
+loop-column-preserved c = paged_walk_next c.args.store.now c.args.seat.now c.loop-column.seat c.page_cell.new.seat c.args.s c.args.rec.number c.args.number c.loop-column.column c.loop-column.row c.push.new.self c.in-Some.cell c.in-Some.ensures.some (let l = ap (λ (y : Layout). y.limits.columns) c.layout-2.ensures in let t = c.loop-column-test.true in omega arith) c.loop-column.invariant c.page_cell.ensures.reader c.page_cell.ensures.skims c.in-Some.ensures.told c.push.ensures
 
 pub push-requires : goal.push-requires
-push-requires c = let e = c.loop-column.invariant.count in let l = ap (λ (y : Layout). y.limits.columns) c.layout.ensures in let t = c.loop-column-test.true in let few = c.args.store.now.layout.valid.columns.1 in omega arith
+push-requires c = let e = c.loop-column.invariant.count in let l = ap (λ (y : Layout). y.limits.columns) c.layout-2.ensures in let t = c.loop-column-test.true in let few = c.args.store.now.layout.valid.columns.1 in omega arith
 
 pub returns-in-None-clause-skims : goal.returns-in-None-clause-skims
 returns-in-None-clause-skims c = skims_on c.args.seat.now.view c.loop-column.seat.view c.page_cell.new.seat.view c.args.s c.loop-column.invariant.skims c.page_cell.ensures.skims
 
 pub returns-clause-told : goal.returns-clause-told
-returns-clause-told c = λ yes v p. let l = ap (λ (y : Layout). y.limits.columns) c.layout.ensures in let t = c.loop-column-test.false in let some = c.args.store.now.layout.valid.columns.0 in paged_whole c.args.store.now v c.loop-column.seat c.args.s c.args.rec.number c.args.number c.loop-column.column c.loop-column.row (omega arith) (omega arith) (c.loop-column.invariant.goes v p)
-
-pub returns-then-number-eq0-clause-skims : goal.returns-then-number-eq0-clause-skims
-returns-then-number-eq0-clause-skims c = skims_same c.args.seat.now.view c.args.s
+returns-clause-told c = λ yes v p. let l = ap (λ (y : Layout). y.limits.columns) c.layout-2.ensures in let t = c.loop-column-test.false in let some = c.args.store.now.layout.valid.columns.0 in paged_whole c.args.store.now v c.loop-column.seat c.args.s c.args.rec.number c.args.number c.loop-column.column c.loop-column.row (omega arith) (omega arith) (c.loop-column.invariant.goes v p)
 
 pub returns-then-is_none-clause-skims : goal.returns-then-is_none-clause-skims
 returns-then-is_none-clause-skims c = skims_same c.args.seat.now.view c.args.s
-
-pub page_cell-requires-clause-number : goal.page_cell-requires-clause-number
-page_cell-requires-clause-number c = let n = c.if-number-eq0.false in omega arith
 
 pub page_cell-requires-clause-begin : goal.page_cell-requires-clause-begin
 page_cell-requires-clause-begin c = c.begin-begin.ensures ∙ sym (ap (λ (k : Known). k.begin) c.loop-column.invariant.skims.watched.watches.is)

@@ -1,4 +1,4 @@
-use Rattle.std.proofs.Common.{◌≡◌, ℕ, true, refl, ap, subst, ◌∙◌}
+use Rattle.std.proofs.Common.{◌≡◌, ℕ, true, refl, ap, subst, ◌∙◌, arith}
 use Rattle.lst_pages.specs.Known.{PageEnabled}
 use Rattle.lst_rule.specs.declared.actions.Action.TheVariants.{Page}
 use Rattle.lst_rule.specs.declared.view.View.{View}
@@ -7,10 +7,10 @@ use Rattle.lst_rule.specs.Rule.{knows, hosts}
 use Rattle.lst_rule.specs.Seats.{told}
 use Rattle.lst_rule.proofs.Paging.{page_loaded, page_still, load_stands}
 use Rattle.lst_rule.proofs.Acting.{Asks, acts_ready, acts_told, acts_page_met, acts_still, still_seat}
-use Rattle.lst_rule.proofs.page_acts.load_page.Goals as goal
-use Rattle.lst_rule.proofs.page_acts.load_page.Goals.{After-target-word}
+use Rattle.lst_rule.proofs.page_acts.load_page_at.Goals as goal
+use Rattle.lst_rule.proofs.page_acts.load_page_at.Goals.{Start}
 
-asked : (c : After-target-word) (u : View) → u ≡ c.args.seat.now.view → Asks c.args.store.now.layout.limits (told c.args.seat.now.view c.args.s) (Page c.args.event) c.args.s c.target-word.result u c.args.seat.now.view
+asked : (c : Start) (u : View) → u ≡ c.args.seat.now.view → Asks c.args.store.now.layout.limits (told c.args.seat.now.view c.args.s) (Page c.args.event) c.args.s c.args.word u c.args.seat.now.view
 asked c u same = record {
   same = same;
   limits = c.requires.seat.limits;
@@ -20,20 +20,23 @@ asked c u same = record {
   within = c.requires.within;
   ok = subst (λ (k : ℕ). PageEnabled c.args.seat.now.view.limits (knows c.args.seat.now.view k).pages c.args.event) c.requires.actor c.requires.enabled;
   stands = load_stands c.args.seat.now.view c.args.event c.requires.kind;
-  at = c.target-word.ensures.address;
+  at = c.requires.word;
 }
 
+pub load_word-requires-clause-table : goal.load_word-requires-clause-table
+load_word-requires-clause-table c = (ap (λ z. z.table) c.seat.view_is ∙ c.requires.seat.table, (let a = c.requires.below in let b = c.args.store.now.wide in omega arith))
+
 pub load_word-requires-clause-ready : goal.load_word-requires-clause-ready
-load_word-requires-clause-ready c = acts_ready _ _ _ _ _ _ _ (asked (goal.at.load_word-requires-clause-ready c).After-target-word c.seat.inside.place.me.0 (ap (λ z. z.view) c.seat.view_is))
+load_word-requires-clause-ready c = acts_ready _ _ _ _ _ _ _ (asked (goal.at.load_word-requires-clause-ready c).Start c.seat.inside.place.me.0 (ap (λ z. z.view) c.seat.view_is))
     (λ x. x) (λ words known merger may x. page_loaded (stock_numbers (told c.args.seat.now.view c.args.s)) c.args.event c.requires.kind x)
 
 pub invariant_of-seat : goal.invariant_of-seat
-invariant_of-seat c = acts_still _ _ _ _ _ _ _ (asked (goal.at.invariant_of-seat c).After-target-word c.seat.inside.place.me.0 (ap (λ z. z.view) c.seat.view_is)) c.seat.inside.numbers.items c.seat.invariant.3 _ _ c.seat.invariant.1 c.seat.invariant.2 (c.load_word.ensures.table.2 ∙ c.seat.invariant.0)
+invariant_of-seat c = acts_still _ _ _ _ _ _ _ (asked (goal.at.invariant_of-seat c).Start c.seat.inside.place.me.0 (ap (λ z. z.view) c.seat.view_is)) c.seat.inside.numbers.items c.seat.invariant.3 _ _ c.seat.invariant.1 c.seat.invariant.2 (c.load_word.ensures.table.2 ∙ c.seat.invariant.0)
     c.load_word.result c.load_word.result c.load_word.new.seat.me.0 c.load_word.ensures.told (page_still c.args.event c.requires.kind (told c.args.seat.now.view c.args.s))
 
 pub returns-clause-seat : goal.returns-clause-seat
 returns-clause-seat c = still_seat _ _ _ (Page c.args.event) _ c.load_word.result c.requires.seat (c.load_word.ensures.table.0 ∙ ap (λ z. z.table) c.seat.view_is)
-    (acts_told _ _ _ _ _ _ _ (asked (goal.at.returns-clause-seat c).After-target-word c.seat.inside.place.me.0 (ap (λ z. z.view) c.seat.view_is)) c.load_word.result c.load_word.new.seat.me.0 c.load_word.ensures.told.0)
+    (acts_told _ _ _ _ _ _ _ (asked (goal.at.returns-clause-seat c).Start c.seat.inside.place.me.0 (ap (λ z. z.view) c.seat.view_is)) c.load_word.result c.load_word.new.seat.me.0 c.load_word.ensures.told.0)
 
 pub returns-clause-met : goal.returns-clause-met
-returns-clause-met c = acts_page_met _ _ _ _ _ _ _ (asked (goal.at.returns-clause-met c).After-target-word c.seat.inside.place.me.0 (ap (λ z. z.view) c.seat.view_is)) c.load_word.result c.load_word.new.seat.me.0 c.load_word.ensures.told
+returns-clause-met c = acts_page_met _ _ _ _ _ _ _ (asked (goal.at.returns-clause-met c).Start c.seat.inside.place.me.0 (ap (λ z. z.view) c.seat.view_is)) c.load_word.result c.load_word.new.seat.me.0 c.load_word.ensures.told
