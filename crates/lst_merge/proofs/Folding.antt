@@ -1,8 +1,14 @@
 -- Tails folded into entries, one after another.
-use Rattle.std.proofs.Common.{◌≡◌, ℕ, zero, suc, ◌+◌, ◌*◌, ◌<◌, ◌≤◌, List, [], ◌∷◌, ◌++◌, Bool, true, false, cond, refl, sym, subst, ap, ◌∙◌, arith, length, take, drop, Contains, nat_lt, ◌&&◌, lt-ltb, eqb, slice_index, length-append}
+use Rattle.std.proofs.Common.{◌≡◌, ℕ, zero, suc, ◌+◌, ◌*◌, ◌<◌, ◌≤◌, List, [], ◌∷◌, ◌++◌, Bool, true, false, true≢false, cond, eq-eqb, ne_eqb, Some, None, ◌⊎◌, inl, inr, ◌-◌, ◌^◌, refl, sym, subst, ap, ◌∙◌, arith, length, take, drop, Contains, nat_lt, ◌&&◌, lt-ltb, eqb, slice_index, length-append}
+use Rattle.std.specs.Int.{bit_at}
+use Rattle.std.proofs.lemmas.Nat.Bits.{bit_at-zero, bit_at_ones}
 use Rattle.lst_layout.specs.declared.limits.Limits.{Limits}
 use Rattle.lst_bits.specs.declared.encodings.Encoding.{Encoding}
-use Rattle.lst_bits.specs.Encodings.{encoding_of}
+use Rattle.lst_bits.specs.declared.encodings.Kind.{Kind}
+use Rattle.lst_bits.specs.declared.encodings.Kind.TheVariants.{Put, Set, Del}
+use Rattle.lst_bits.specs.Encodings.{encoding_of, IsMaskOf}
+use Rattle.lst_model.specs.Cells.{Cell, has_bit}
+use Rattle.lst_pages.specs.Rows.{cell_at}
 use Rattle.lst_core_state.specs.declared.facts.Fact.{Fact}
 use Rattle.lst_core_state.specs.declared.known.Known.{Known}
 use Rattle.lst_pages.specs.declared.entries.Entry.{Entry}
@@ -56,6 +62,32 @@ folds_put c t es fs takes put i low = put i low ∙ ap (λ (b : Bool). cond b (e
 pub folds_closed : (c : ℕ) (t : PageTail) (es : ℕ → Entry) → t.time ≡ 0 → Folds c t es es
 folds_closed c t es none = folds_skip c t es (ap (λ (n : ℕ). nat_lt 0 n && touches_column c t.kind t.mask) none)
 
+-- ---- by the bit of the column in the mask
+
+no_bit : (c : ℕ) → has_bit 0 c ≡ false
+no_bit c = ne_eqb (bit_at 0 c) 1 (λ e. let none = bit_at-zero c in omega arith)
+
+-- a tail whose mask has the column touches it, and leaves the cell that it holds
+pub mask_touches : (columns c mask : ℕ) (kind : Kind) → IsMaskOf columns kind mask → has_bit mask c ≡ true → touches_column c kind mask ≡ true
+mask_touches columns c mask Put fits bit = refl
+mask_touches columns c mask Set fits bit = bit
+mask_touches columns c mask Del fits bit = refl
+
+pub mask_holds : (columns c mask : ℕ) (kind : Kind) (cells : List Cell) → IsMaskOf columns kind mask → has_bit mask c ≡ true → Some (cell_at c cells) ≡ cell_by c kind cells
+mask_holds columns c mask Put cells fits bit = refl
+mask_holds columns c mask Set cells fits bit = refl
+mask_holds columns c mask Del cells fits bit = absurd (true≢false (sym bit ∙ (ap (λ (m : ℕ). has_bit m c) fits ∙ no_bit c)))
+
+-- one whose mask hasn't leaves it, but a delete
+pub mask_skips : (columns c mask : ℕ) (kind : Kind) → IsMaskOf columns kind mask → c < columns → has_bit mask c ≡ false → (kind ≡ Put) ⊎ (kind ≡ Set) → touches_column c kind mask ≡ false
+mask_skips columns c mask Put fits low bit is = absurd (true≢false (sym (eq-eqb (bit_at (2 ^ columns - 1) c) 1 (bit_at_ones columns c low)) ∙ (ap (λ (m : ℕ). has_bit m c) (sym fits) ∙ bit)))
+mask_skips columns c mask Set fits low bit is = bit
+mask_skips columns c mask Del fits low bit (inl is) = absurd (let e : Del ≡ Put = is in cc)
+mask_skips columns c mask Del fits low bit (inr is) = absurd (let e : Del ≡ Set = is in cc)
+
+pub delete_touches : (c mask : ℕ) (kind : Kind) → kind ≡ Del → touches_column c kind mask ≡ true
+delete_touches c mask kind is = ap (λ (k : Kind). touches_column c k mask) is
+
 -- by the encoding that was found, and the cell
 module _ (k : Known) (t c time : ℕ) (e : Encoding) (tail : PageTail) (knows : KnowsSettled k t tail) (encoded : IsEncodedAs k.facts t e) (at : tail.time ≡ time) (some : 0 < time) (es : ℕ → Entry) where
   encoding : e ≡ encoding_of knows.encoding
@@ -76,6 +108,20 @@ module _ (k : Known) (t c time : ℕ) (e : Encoding) (tail : PageTail) (knows : 
 
   pub folds_there : (entry : Entry) (fs : ℕ → Entry) → touches_column c e.kind e.mask ≡ true → entry.cell ≡ cell_by c tail.kind tail.values → entry.time ≡ time → IsWith e.slot entry es fs → Folds c tail es fs
   folds_there entry fs takes cell when put = folds_put c tail es fs (taken ∙ takes) (subst (λ (z : ℕ × Entry). IsWith z.0 z.1 es fs) (λ i. (sym slot i, record { cell = cell i; time = (when ∙ sym at) i })) put)
+
+  kind : tail.kind ≡ e.kind
+  kind = ap (λ (u : PageTail). u.kind) is ∙ ap (λ (f : Encoding). f.kind) (sym encoding)
+
+  module _ (columns : ℕ) (fits : IsMaskOf columns e.kind e.mask) where
+    pub folds_left : has_bit e.mask c ≡ false → c < columns → (e.kind ≡ Put) ⊎ (e.kind ≡ Set) → Folds c tail es es
+    folds_left bit low kinds = folds_else (mask_skips columns c e.mask e.kind fits low bit kinds)
+
+    pub folds_deleted : (fs : ℕ → Entry) → e.kind ≡ Del → IsWith e.slot (record { cell = None; time = time }) es fs → Folds c tail es fs
+    folds_deleted fs deletes put = folds_there (record { cell = None; time = time }) fs (delete_touches c e.mask e.kind deletes) (ap (λ (f : Kind). cell_by c f tail.values) (sym (kind ∙ deletes))) refl put
+
+    pub folds_held : (cell : Cell) (fs : ℕ → Entry) → has_bit e.mask c ≡ true → cell ≡ cell_at c tail.values → IsWith e.slot (record { cell = Some cell; time = time }) es fs → Folds c tail es fs
+    folds_held cell fs bit same put = folds_there (record { cell = Some cell; time = time }) fs (mask_touches columns c e.mask e.kind fits bit)
+        (ap Some same ∙ (mask_holds columns c e.mask e.kind tail.values fits bit ∙ ap (λ (f : Kind). cell_by c f tail.values) (sym kind))) refl put
 
 -- ---- many tails
 

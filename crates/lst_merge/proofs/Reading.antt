@@ -1,5 +1,5 @@
 -- What loads of the words of a settled tail find.
-use Rattle.std.proofs.Common.{◌≡◌, ℕ, zero, suc, slice_set, ◌+◌, ◌/◌, ◌%◌, ◌^◌, ◌<◌, ◌≤◌, List, [], ◌∷◌, Bool, true, false, cond, Some, None, length, Contains, sym, subst, ap, ◌∙◌, arith, slice_index, slice_index_or, get_or, eq-eqb, ne_eqb, true≢false}
+use Rattle.std.proofs.Common.{◌≡◌, ◌⊎◌, inl, inr, ℕ, zero, suc, slice_set, ◌+◌, ◌-◌, ◌/◌, ◌%◌, ◌^◌, ◌<◌, ◌≤◌, List, [], ◌∷◌, Bool, true, false, cond, Some, None, length, Contains, sym, subst, ap, ◌∙◌, arith, slice_index, slice_index_or, get_or, eq-eqb, ne_eqb, true≢false}
 use Rattle.std.specs.Prelude.{IsTrue, ◌↔◌}
 use Rattle.std.specs.Int.{bit_at}
 use Rattle.lst_layout.specs.Addresses.{address}
@@ -7,16 +7,15 @@ use Rattle.lst_layout.specs.Words.{Words, shown}
 use Rattle.lst_layout.specs.declared.limits.Limits.{Limits}
 use Rattle.lst_layout.specs.declared.place.Place.TheVariants.{CellWord}
 use Rattle.lst_bits.specs.declared.encodings.Encoding.{Encoding}
-use Rattle.lst_bits.specs.declared.encodings.Kind.{Kind}
-use Rattle.lst_bits.specs.declared.encodings.Kind.TheVariants.{Put, Set, Del}
-use Rattle.lst_bits.specs.Encodings.{encoding_of, IsEncodingWord}
-use Rattle.lst_model.specs.Cells.{Cell, cell_of, cells_of, has_bit}
+use Rattle.lst_bits.specs.Encodings as bits
+use Rattle.lst_bits.specs.Encodings.{encoding_of, IsEncodingWord, IsMaskOf}
+use Rattle.lst_model.specs.Cells.{cell_of, cells_of, has_bit}
 use Rattle.lst_core_state.specs.declared.facts.Fact.{Fact}
 use Rattle.lst_core_state.specs.declared.facts.Fact.TheVariants.{CellIs}
 use Rattle.lst_core_state.specs.declared.known.Known.{Known}
+use Rattle.lst_core_state.specs.Cells.{kind_of, mask_of, IsCell}
 use Rattle.lst_core_state.specs.Facts.{IsFact}
 use Rattle.lst_pages.specs.declared.tails.PageTail.{PageTail}
-use Rattle.lst_pages.specs.Entries.{cell_by}
 use Rattle.lst_pages.specs.Rows.{cell_at}
 use Rattle.lst_rule.specs.declared.view.View.{View}
 use Rattle.lst_rule.specs.Rule.{knows, hosts, Allowed}
@@ -28,6 +27,15 @@ use Rattle.lst_sights.proofs.Encoded.{cell_encoded}
 use Rattle.lst_merge.specs.Inspections.{merger_of, Inspects}
 use Rattle.lst_merge.specs.Runs.{KnowsSettled, HasSettled, IsEncodedAs}
 use Rattle.lst_merge.proofs.Inspecting.{inspects_cell, facts_stay}
+
+-- the mask of a stored encoding word fits its kind
+mask_fits : (columns k mask : ℕ) → ((k ≡ 1) × (mask ≡ 2 ^ columns - 1)) ⊎ (((k ≡ 2) × (0 < mask) × (mask < 2 ^ columns)) ⊎ ((k ≡ 3) × (mask ≡ 0))) → IsMaskOf columns (bits.kind_of k) mask
+mask_fits columns k mask (inl h) = subst (λ (n : ℕ). IsMaskOf columns (bits.kind_of n) mask) (sym h.0) h.1
+mask_fits columns k mask (inr (inl h)) = subst (λ (n : ℕ). IsMaskOf columns (bits.kind_of n) mask) (sym h.0) (h.1, h.2)
+mask_fits columns k mask (inr (inr h)) = subst (λ (n : ℕ). IsMaskOf columns (bits.kind_of n) mask) (sym h.0) h.1
+
+cell_masked : (columns e : ℕ) (values : ℕ → ℕ) → IsCell columns e values → IsMaskOf columns (encoding_of e).kind (encoding_of e).mask
+cell_masked columns e values cell = mask_fits columns (kind_of e) (mask_of e) cell.kind
 
 module _ (v w : View) (s t p x : ℕ) (hosted : hosts v s ≡ true) (looked : Looked v w s (CellWord t p) x) where
   abbrev W : Words
@@ -57,6 +65,11 @@ module _ (v w : View) (s t p x : ℕ) (hosted : hosts v s ≡ true) (looked : Lo
     word_encoded few e = subst IsEncodingWord (sym (ap ((shown v.limits looked.met.made.told.words).cells t) e) ∙ looked.met.found)
         (cell_encoded v.limits.columns (W.cells t 1) (λ k. W.cells t (3 + k)) few (looked.met.made.told.allowed.sound.tail_words.images t cell.0))
 
+    -- and its mask fits its kind
+    pub word_masked : p ≡ 1 → IsMaskOf v.limits.columns (encoding_of x).kind (encoding_of x).mask
+    word_masked e = subst (λ (y : ℕ). IsMaskOf v.limits.columns (encoding_of y).kind (encoding_of y).mask) (sym (ap (W.cells t) e) ∙ looked.met.found)
+        (cell_masked v.limits.columns (W.cells t 1) (λ k. W.cells t (3 + k)) (looked.met.made.told.allowed.sound.tail_words.images t cell.0))
+
 -- ---- of the merger
 
 cell_here : (nulls c : ℕ) (values : List ℕ) (k : ℕ) → k < length values → cell_at k (cells_of nulls c values) ≡ cell_of nulls (c + k) (slice_index values k)
@@ -69,23 +82,11 @@ module _ (k : Known) (t : ℕ) (e : Encoding) (tail : PageTail) (encoded : IsEnc
   code : encoding_of knows_it.encoding ≡ e
   code = sym (encoded knows_it.writer knows_it.encoding knows_it.back knows_it.values knows_it.cell)
 
-  pub kind_is : tail.kind ≡ e.kind
-  kind_is = ap (λ (u : PageTail). u.kind) knows_it.is ∙ ap (λ (f : Encoding). f.kind) code
-
   cells_are : tail.values ≡ cells_of e.nulls 0 knows_it.values
   cells_are = ap (λ (u : PageTail). u.values) knows_it.is ∙ ap (λ (f : Encoding). cells_of f.nulls 0 knows_it.values) code
 
   pub held_at : (c : ℕ) → c < length knows_it.values → cell_at c tail.values ≡ cond (has_bit e.nulls c) None (Some (slice_index knows_it.values c))
   held_at c low = ap (cell_at c) cells_are ∙ (cell_here e.nulls 0 knows_it.values c low ∙ (let f : 0 + c ≡ c = omega arith in ap (λ (n : ℕ). cell_of e.nulls n (slice_index knows_it.values c)) f))
-
-  pub cell_put : (c : ℕ) (cell : Cell) → e.kind ≡ Put → cell ≡ cell_at c tail.values → Some cell ≡ cell_by c tail.kind tail.values
-  cell_put c one kind is = ap Some is ∙ ap (λ (f : Kind). cell_by c f tail.values) (sym (kind_is ∙ kind))
-
-  pub cell_set : (c : ℕ) (cell : Cell) → e.kind ≡ Set → cell ≡ cell_at c tail.values → Some cell ≡ cell_by c tail.kind tail.values
-  cell_set c one kind is = ap Some is ∙ ap (λ (f : Kind). cell_by c f tail.values) (sym (kind_is ∙ kind))
-
-  pub cell_none : (c : ℕ) → e.kind ≡ Del → None ≡ cell_by c tail.kind tail.values
-  cell_none c kind = ap (λ (f : Kind). cell_by c f tail.values) (sym (kind_is ∙ kind))
 
 -- as many values as columns, in each state
 pub wide_known : (v : View) (words : List ℕ) (known : ℕ → Known) (merger : Known) → Allowed v words known merger → hosts v v.limits.sessions ≡ true → (t : ℕ) (tail : PageTail) → (k : KnowsSettled (merger_of v) t tail) → length k.values ≡ v.limits.columns
@@ -110,6 +111,9 @@ module _ (v w : View) (s t p x : ℕ) (e : s ≡ v.limits.sessions) (hosted : ho
 
     pub has_word : v.limits.columns ≤ 8 → p ≡ 1 → IsEncodingWord x
     has_word few at = word_encoded v w s t p x host_s looked settled.1.writer settled.1.encoding settled.1.back settled.1.values here few at
+
+    pub has_mask : p ≡ 1 → IsMaskOf v.limits.columns (encoding_of x).kind (encoding_of x).mask
+    has_mask at = word_masked v w s t p x host_s looked settled.1.writer settled.1.encoding settled.1.back settled.1.values here at
 
   pub held_value : (code : Encoding) (c : ℕ) → c < v.limits.columns → p ≡ 3 + c → IsEncodedAs (merger_of v).facts t code → has_bit code.nulls c ≡ false → (tail : PageTail) → KnowsSettled (merger_of v) t tail → Some x ≡ cell_at c tail.values
   held_value code c low at encoded bit tail k = let m = looked.met.made.told in

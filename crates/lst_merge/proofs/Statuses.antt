@@ -37,6 +37,8 @@ use Rattle.lst_sights.specs.Copies.{Version, fact_of}
 use Rattle.lst_sights.specs.Laws.{TailFound}
 use Rattle.lst_sights.proofs.Finding.{tails_are_found}
 use Rattle.lst_merge.specs.Inspections.{merger_of, Inspects}
+use Rattle.lst_merge.specs.declared.tails.Tail.{Tail}
+use Rattle.lst_merge.specs.Tails.{IsTail}
 use Rattle.lst_merge.specs.Runs.{IsEnded, HasSettled, SettledAt, FoundUnsettled, IsUnsettledIn, Unsettled}
 use Rattle.lst_merge.proofs.Inspecting.{inspects_on, inspects_asked, inspects_cell, facts_stay}
 use Rattle.lst_merge.proofs.Settling.{settles_as, settled_stays}
@@ -219,6 +221,9 @@ module _ (v u : View) (s t x : ℕ) (hosted : hosts v s ≡ true) (some : 0 < t)
 
 pub merger_is : (store : Store) (seat : Sitting) (layout : Layout) → IsSeatOf store seat → layout ≡ store.layout → layout.limits.sessions ≡ seat.view.limits.sessions
 merger_is store seat layout is same = ap (λ (y : Layout). y.limits.sessions) same ∙ ap (λ (l : Limits). l.sessions) (sym is.limits)
+
+pub tail_merger : (store : Store) (seat : Sitting) (t : Tail) → IsSeatOf store seat → IsTail store.layout.limits t → t.merger ≡ seat.view.limits.sessions
+tail_merger store seat t is tail = tail.merger ∙ ap (λ (l : Limits). l.sessions) (sym is.limits)
 
 module _ (v u w : View) (s t x : ℕ) (e : s ≡ v.limits.sessions) (hosted : hosts v v.limits.sessions ≡ true) (some : 0 < t) (few : t ≤ tail_count v.limits) (looked : Looked v u s (CellWord t 0) x) (asked : Asked u w s) where
   host_s : hosts v s ≡ true

@@ -3,5 +3,6 @@ pub mod Runs
 pub mod Pages
 pub mod Builds
 pub mod Swaps
+pub mod Tails
 pub mod Merges
 pub mod Pairs

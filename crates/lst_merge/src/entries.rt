@@ -45,6 +45,7 @@ fn present_value(stamp: u64, value: u64) -> u64
 }
 
 /// Writes an entry into a page in hand. The value of one that is absent or null is 0.
+#[inline(always)]
 pub(crate) fn put_entry(
     words: &mut [u64; WORDS],
     values: &mut [u64; 256],
@@ -64,6 +65,7 @@ pub(crate) fn put_entry(
 }
 
 /// The word with this bit set or cleared.
+#[inline(always)]
 fn with_bit(word: u64, bit: usize, is_set: bool) -> u64
     requires { bit < 64 }
     ensures { (other : ℕ) → other < 64 → has_bit result other ≡ cond (eqb bit other) is_set (has_bit word other) }
@@ -77,6 +79,7 @@ fn with_bit(word: u64, bit: usize, is_set: bool) -> u64
 }
 
 /// Whether an entry is present, and null.
+#[inline(always)]
 fn is_null(entry: &Entry) -> bool
     ensures { result ≡ is_to_null entry.now.cell }
 {

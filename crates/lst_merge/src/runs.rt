@@ -7,11 +7,11 @@ ghost use Rattle.lst_rule.specs.PageSteps.{stock_of};
 ghost use Rattle.lst_rule.specs.Stores.{IsSeatOf};
 ghost use Rattle.lst_merge.specs.Inspections.{merger_of, Inspects};
 ghost use Rattle.lst_merge.specs.Runs.{HasSettled, Unsettled, IsRun};
+ghost use Rattle.lst_merge.specs.Tails.{IsTail};
 
 use crate::frames::page_frame;
-use crate::tails::time_of;
+use crate::tails::{Tail, tail_at, time_of};
 use lst_rule::{Seat, Store, load_frame, load_tail_counter};
-use lst_sights::tail_of;
 
 /// The tails of a range that a merge of a page takes in: those with a number above `tps`, up to `end`.
 #[derive(Clone, Copy, PartialEq, Eq, Debug)]
@@ -35,13 +35,13 @@ pub fn run_end(store: &Store, seat: &mut Seat, range: u32, column: u32) -> Run
     ensures inspects { Inspects seat.old.view seat.new.view seat.old.view.limits.sessions }
     ensures run { IsRun seat.old.view seat.new.view range column result }
 {
-    let merger = store.layout().limits.sessions;
+    let layout = *store.layout();
     let tps = page_tps(store, seat, range, column);
-    let count = load_tail_counter(store, seat, merger, range);
-    let last = last_tail(count, store.layout().limits.tails);
+    let count = load_tail_counter(store, seat, layout.limits.sessions, range);
+    let last = last_tail(count, layout.limits.tails);
     let mut end = tps;
     while end < last {
-        if !is_settled(store, seat, range, end + 1) {
+        if !is_settled(store, seat, tail_at(&layout, range, end + 1)) {
             seat.consider();
             return Run { tps, end };
         }
@@ -79,18 +79,16 @@ fn page_tps(store: &Store, seat: &mut Seat, range: u32, column: u32) -> u32
     load_frame(store, seat, merger, frame, 0) as u32
 }
 
-/// Whether the tail of a range with this number, from 1 on, is found to be settled.
-fn is_settled(store: &Store, seat: &mut Seat, range: u32, number: u32) -> bool
+/// Whether a tail is found to be settled.
+#[inline(always)]
+fn is_settled(store: &Store, seat: &mut Seat, tail: Tail) -> bool
     requires seat { IsSeatOf store.now seat.old }
     requires host { hosts seat.old.view seat.old.view.limits.sessions ≡ true }
-    requires range { range < store.now.layout.limits.ranges }
-    requires some { 0 < number }
-    requires few { number ≤ store.now.layout.limits.tails }
+    requires tail { IsTail store.now.layout.limits tail }
     ensures seat { IsSeatOf store.now seat.new }
     ensures inspects { Inspects seat.old.view seat.new.view seat.old.view.limits.sessions }
-    ensures yes { result ≡ true → HasSettled (merger_of seat.new.view) (range * store.now.layout.limits.tails + number) }
-    ensures no { result ≡ false → Unsettled seat.old.view seat.new.view (range * store.now.layout.limits.tails + number) }
+    ensures yes { result ≡ true → HasSettled (merger_of seat.new.view) tail.identifier }
+    ensures no { result ≡ false → Unsettled seat.old.view seat.new.view tail.identifier }
 {
-    let tail = tail_of(store, range, number);
     time_of(store, seat, tail).is_some()
 }
