@@ -106,7 +106,6 @@ module _ (store : Store) (before session after : Session) (ready : IsReady store
     tried = (session.seat.view, a.tried, subst (λ (s : ℕ). FindsHeld session.seat.view after.seat.view s) a.number held);
   }
 
--- the first one was
-pub first_in_vain : (store : Store) (before after : Session) → IsReady store before → IsReady store after → after.number ≡ before.number → (knows before.seat.view before.number).is_open ≡ true
-    → FindsHeld before.seat.view after.seat.view before.number → IsWaiting store before after
-first_in_vain store before after was ready number opened held = waiting_on store before before after ready number record { ready = was; number = refl; opened = opened; vain = 0; tried = refl } held
+-- none was tried yet
+pub not_tried : (store : Store) (before : Session) → IsReady store before → (knows before.seat.view before.number).is_open ≡ true → IsWaiting store before before
+not_tried store before ready opened = record { ready = ready; number = refl; opened = opened; vain = 0; tried = refl }

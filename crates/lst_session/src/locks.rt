@@ -9,8 +9,12 @@ use crate::kinds::{CommitRefusal, Outcome};
 use crate::session::Session;
 use lst_rule::Store;
 use lst_txn::Idle as NotBegun;
+use std::hint::spin_loop;
 use std::sync::{Mutex, Wait};
 use std::thread::yield_now;
+
+/// How often a session tries to commit before it waits for the lock.
+const TRIES: u32 = 64;
 
 /// What a session holds while it tries again to commit, so that of those that wait one at a time tries. It guards nothing: that one commit at a
 /// time is made is the commit word's doing.
@@ -44,7 +48,8 @@ fn try_to_end(store: &Store, session: &mut Session) -> Option<Outcome>
     }
 }
 
-/// Ends the open transaction: tries once, and where the commit word is held waits for the lock and tries again and again.
+/// Ends the open transaction: tries at once, and where the commit word is held a few times more, since it is mostly held for a moment; then waits
+/// for the lock and tries again and again.
 fn end_at_last<R: Wait>(rt: &R, store: &Store, session: &mut Session, lock: &CommitLock) -> Outcome
     requires ready { IsReady store.now session.old }
     requires opened { (knows session.old.seat.view session.old.number).is_open ≡ true }
@@ -52,8 +57,11 @@ fn end_at_last<R: Wait>(rt: &R, store: &Store, session: &mut Session, lock: &Com
     ensures number { session.new.number ≡ session.old.number }
     ensures end { ConcludesAtLast session.old.seat.view session.new.seat.view session.old.number result }
 {
-    if let Some(outcome) = try_to_end(store, session) {
-        return outcome;
+    for _ in 0..TRIES {
+        if let Some(outcome) = try_to_end(store, session) {
+            return outcome;
+        }
+        spin_loop();
     }
     let _held = lock.mutex.lock(rt);
     for _ in rt.forever() {
