@@ -19,9 +19,9 @@ const KEYS: u64 = 1024;
 const LIMITS: Limits = Limits {
     columns: 2,
     ranges: 4,
-    tails: 16_384,
+    tails: 9_216,
     sessions: 4,
-    txns: 65_535,
+    txns: 33_400,
     spare: 8,
     indexed: 0,
 };

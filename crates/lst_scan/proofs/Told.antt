@@ -14,10 +14,8 @@ use Rattle.lst_rule.specs.Learned.{Possible}
 use Rattle.lst_rule.specs.Seats.{Sitting}
 use Rattle.lst_rule.specs.Runs.{LoadsRun}
 use Rattle.lst_walk.specs.Readers.{IsReader}
-use Rattle.lst_walk.specs.Packed.{Skims}
 use Rattle.lst_walk.specs.Patches.{cell_in}
 use Rattle.lst_scan.specs.Scans.{IsRowOn}
-use Rattle.lst_scan.specs.Savings.{SavesPart}
 use Rattle.lst_scan.specs.Paged.{HasPage, HasValues, entries_add}
 use Rattle.lst_scan.proofs.Seeing.{weight_of}
 use Rattle.lst_scan.proofs.Sheets.{Covers, covers_none, covers_next, add_none, add_more, told_values, told_packed, told_cell, told_number, told_row}
@@ -70,10 +68,6 @@ module _ (store : Store) (h : Sitting) (s range column tps : ℕ) (stamps : List
     ones_told (suc n) most = let next : n + 1 ≡ suc n = omega arith in let both = all n (omega arith) in let told = one_told n (omega arith) both.0 both.1 in
         subst (λ (m : ℕ). Covers h.view s (λ _. 1) (256 * range) m (0 + entries_add (knows h.view s).begin (λ (slot : ℕ). 1) stamps m)) next
         (covers_told h.view s (λ _. 1) (256 * range) n 0 (knows h.view s).begin (λ (slot : ℕ). 1) stamps p reader.host told.0 told.1 told.2 (ones_told n (omega arith)))
-
--- of records that aren't walked nothing is found
-pub skims_saves : (v w : View) (s column low high : ℕ) → Skims v w s → SavesPart v w s column low high
-skims_saves v w s column low high skims whole pinned needs = skims.finds
 
 -- a time word that no turn has come to stands
 abbrev pub Stands : ℕ → List ℕ → List ℕ → Type 0

@@ -28,16 +28,18 @@ impl Pace {
 
     /// The session has come past one more merge line.
     pub(crate) fn pass<R: Wait>(&self, rt: &R, session: u32) {
-        if let Some(count) = self.passed.lock(rt).get_mut(session as usize) {
-            *count = count.saturating_add(1);
-        }
-        self.moved.notify_all();
+        self.count(rt, session, 1);
     }
 
     /// The session has no more lines in this phase.
     pub(crate) fn leave<R: Wait>(&self, rt: &R, session: u32) {
+        self.count(rt, session, u64::MAX);
+    }
+
+    /// Counts so many lines more of a session.
+    fn count<R: Wait>(&self, rt: &R, session: u32, lines: u64) {
         if let Some(count) = self.passed.lock(rt).get_mut(session as usize) {
-            *count = u64::MAX;
+            *count = count.saturating_add(lines);
         }
         self.moved.notify_all();
     }
