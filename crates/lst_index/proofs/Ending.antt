@@ -71,3 +71,7 @@ pub endless : (l : Limits) (v : View) (s key n : ℕ) → v.limits ≡ l → hos
 endless l v s key n same hosted p passed all = let w : Words = shown v.limits p.words in
     let passed' : Passed v.limits (knows v s).facts key n = subst (λ (z : Limits). Passed z (knows v s).facts key n) (sym same) passed in let e : size v.limits ≡ size l = ap size same in
     not_full v.limits w.counter w.keys w.index (λ j. (p.known j).placing) p.allowed.sound.index p.allowed.sound.sized key (λ i h. (passes v p.words p.known p.merger p.allowed s hosted key n passed' i (omega arith)).0)
+
+-- so each position passed has one behind it
+pub not_over : (l : Limits) (v : View) (s key n : ℕ) → v.limits ≡ l → hosts v s ≡ true → Possible v → Passed l (knows v s).facts key n → n < size l
+not_over l v s key n same hosted p passed = dite (dec_lt n (size l)) (λ low. low) (λ high. absurd (endless l v s key n same hosted p passed (omega arith)))

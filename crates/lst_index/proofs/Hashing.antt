@@ -1,6 +1,7 @@
 -- The positions of a key's run, as the program computes them.
 use Rattle.std.proofs.Common.{◌≡◌, ℕ, ◌+◌, ◌%◌, ◌^◌, ◌<◌, ◌≤◌, sym, subst, ap, ◌∙◌, refl, arith}
 use Rattle.std.proofs.Math.Nat.{mod-eq_of_lt}
+use Rattle.std.proofs.Math.Pow.{pow_mono}
 use mathlib.Core.Logic.{dite}
 use native.Mathlib.Decide.{ℕ_discrete}
 use Rattle.lst_layout.specs.declared.limits.Limits.{Limits}
@@ -20,6 +21,10 @@ module _ (l : Limits) (sized : IsValid l) where
   bits_some = dite (ℕ_discrete (index_bits l) 0)
       (λ e. let h = (size_enough l sized).0 in let some = sized.ranges.0 in let one : size l ≡ 2 ^ 0 = ap (λ (b : ℕ). 2 ^ b) e in absurd (omega arith))
       (λ ne. omega arith)
+
+  pub size_few : size l ≤ 2 ^ 15
+  unfolding size
+  size_few = pow_mono (size_enough l sized).1
 
   pub position_is : (key offset first : ℕ) → first ≡ start_of key (index_bits l) → (positions : ℕ) → positions ≡ index_positions l → (first + offset) % positions ≡ position_of l key offset
   unfolding size first_of run_position

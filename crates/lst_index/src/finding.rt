@@ -11,6 +11,9 @@ use crate::visits::{compare, look};
 use lst_model::Key;
 use lst_rule::{RecordId, Seat, Store};
 
+/// No index has more positions.
+const MOST: u32 = 1 << 21;
+
 /// The record of a key. None comes exactly where the key's run was found to end without it, by a load in this call: then no commit that the session has
 /// seen wrote the key, and its open transaction sees nothing of it.
 ///
@@ -29,9 +32,8 @@ pub fn find(store: &Store, seat: &mut Seat, s: u32, key: Key) -> Option<RecordId
     ensures since { IfNone result (EndedSince seat.old.view seat.new.view s key) }
     ensures unseen { IfNone result (IsUnseen (knows seat.new.view s) key) }
 {
-    let all = store.layout().index_positions() as u32;
     let mut offset = 0;
-    while offset < all {
+    while offset < MOST {
         let at = position(store.layout(), key, offset);
         let Some(number) = look(store, seat, s, at) else {
             return None;
@@ -39,8 +41,8 @@ pub fn find(store: &Store, seat: &mut Seat, s: u32, key: Key) -> Option<RecordId
         if let Some(found) = compare(store, seat, s, key, at, number) {
             return Some(found);
         }
+        seat.consider();
         offset += 1;
     }
-    seat.consider();
     unreachable!()
 }
