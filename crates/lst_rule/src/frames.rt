@@ -14,6 +14,7 @@ ghost use Rattle.lst_rule.specs.Stores.{IsSeatOf};
 use crate::actions::Action;
 use crate::loads::load_quietly;
 use crate::page_steps::step_store_frame;
+use crate::runs::later;
 use crate::seat::Seat;
 use crate::store::Store;
 use crate::store_word;
@@ -28,19 +29,9 @@ const LOADED: u32 = 14;
 /// How many words are stored a turn: all but the first in 47 turns.
 const STORED: u32 = 11;
 
-/// The address of a word of a frame or a tail, whose first word has this address, in a store of so many words.
-#[inline(always)]
-pub(crate) fn later_word(words: u64, first: u64, place: u32) -> u64
-    requires { first + place < words }
-    ensures { result ≡ first + place }
-{
-    let _ = words;
-    first + place as u64
-}
-
 /// Loads a word of a frame, whose first word has this address, as `load_frame` does.
 #[inline(always)]
-pub fn load_next_word(
+pub fn load_frame_from(
     store: &Store,
     seat: &mut Seat,
     s: u32,
@@ -56,7 +47,7 @@ pub fn load_next_word(
     ensures seat { IsSeatOf store.now seat.new }
     ensures loaded { FrameLoaded seat.old.view seat.new.view s frame place result }
 {
-    let address = later_word(store.layout.words, first, place);
+    let address = later(store.layout.words, first, place);
     load_quietly(store, seat, s, Place::FrameWord { frame, place }, address)
 }
 
@@ -74,14 +65,14 @@ pub fn load_frame_words(store: &Store, seat: &mut Seat, s: u32, frame: u32, out:
     for turn in 0..FRAME_WORDS / LOADED {
         for place in 0..LOADED {
             let word = LOADED * turn + place;
-            out[word as usize] = load_next_word(store, seat, s, frame, first, word);
+            out[word as usize] = load_frame_from(store, seat, s, frame, first, word);
         }
     }
 }
 
 /// Stores a word into the frame that is being built, whose first word has this address. No number of the merger changes.
 #[inline(always)]
-fn store_next_word(store: &Store, seat: &mut Seat, frame: u32, first: u64, place: u32, value: u64)
+fn store_frame_from(store: &Store, seat: &mut Seat, frame: u32, first: u64, place: u32, value: u64)
     requires seat { IsSeatOf store.now seat.old }
     requires host { hosts seat.old.view seat.old.view.limits.sessions ≡ true }
     requires frame { frame < frame_count seat.old.view.limits }
@@ -92,7 +83,7 @@ fn store_next_word(store: &Store, seat: &mut Seat, frame: u32, first: u64, place
     ensures seat { IsSeatOf store.now seat.new }
     ensures stored { FrameStored seat.old.view seat.new.view frame place value }
 {
-    let word = later_word(store.layout.words, first, place) as usize;
+    let word = later(store.layout.words, first, place) as usize;
     let event = PageEvent::StoreFrame {
         frame,
         place,
@@ -123,7 +114,7 @@ pub fn store_frame_words(store: &Store, seat: &mut Seat, frame: u32, words: &[u6
     for turn in 0..FRAME_WORDS / STORED {
         for place in 0..STORED {
             let word = 1 + STORED * turn + place;
-            store_next_word(store, seat, frame, first, word, words[word as usize]);
+            store_frame_from(store, seat, frame, first, word, words[word as usize]);
         }
     }
 }

@@ -32,7 +32,7 @@ mod writes;
 
 pub use actions::Action;
 pub use any::load;
-pub use frames::{load_frame_words, load_next_word, store_frame_words};
+pub use frames::{load_frame_from, load_frame_words, store_frame_words};
 pub use joins::{hear_note, join_seat};
 pub use loads::{
     load_cell, load_cell_from, load_clock, load_head, load_index, load_key, load_record_counter,
@@ -44,7 +44,7 @@ pub use moves::{
 pub use open::open_store;
 pub use page_loads::{load_directory, load_epoch, load_frame, load_posting};
 pub use page_steps::{
-    step_look_next_page, step_look_page, step_look_pin, step_pin, step_raise, step_store_frame,
+    step_look_page, step_look_page_from, step_look_pin, step_pin, step_raise, step_store_frame,
     step_swap, step_unpin,
 };
 pub use parts::{Binds, Chooses, Confirms, Hears, Notes, Parts, Unites};

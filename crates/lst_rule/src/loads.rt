@@ -7,8 +7,8 @@ ghost use Rattle.lst_rule.specs.Operations.{IsQuiet};
 ghost use Rattle.lst_rule.specs.Stores.{IsSeatOf, Looked, Clocked};
 
 use crate::actions::Action;
-use crate::frames::later_word;
 use crate::load_word;
+use crate::runs::later;
 use crate::seat::Seat;
 use crate::store::Store;
 use lst_core_state::{Event, look};
@@ -189,6 +189,6 @@ pub fn load_cell_from(
     ensures seat { IsSeatOf store.now seat.new }
     ensures looked { Looked seat.old.view seat.new.view s (CellWord tail place) result }
 {
-    let address = later_word(store.layout.words, first, place);
+    let address = later(store.layout.words, first, place);
     load_quietly(store, seat, s, Place::CellWord { tail, place }, address)
 }

@@ -61,47 +61,23 @@ pub(crate) fn store_page(store: &Store, seat: &mut Seat, s: u32, event: PageEven
     advance_pages(&mut seat.numbers[s as usize], event);
 }
 
-/// A step on pages that loads a word, and answers it. No number changes.
+/// A step on pages that loads a word, which has this address, and answers it. No number changes.
 #[inline(always)]
-pub(crate) fn load_page(store: &Store, seat: &mut Seat, s: u32, event: PageEvent) -> u64
+pub(crate) fn load_page(store: &Store, seat: &mut Seat, event: PageEvent, address: u64) -> u64
     requires seat { IsSeatOf store.now seat.old }
-    requires actor { stepper seat.old.view.limits event ≡ s }
     requires host { hosts seat.old.view (stepper seat.old.view.limits event) ≡ true }
     requires kind { IsPageLoad event }
     requires within { IsWithin seat.old.view.limits event }
     requires enabled { PageEnabled seat.old.view.limits (knows seat.old.view (stepper seat.old.view.limits event)).pages event }
+    requires address { address ≡ addresses.address store.now.layout.limits (place_of event) }
+    requires below { address < words_of store.now.layout.limits }
     ensures seat { IsSeatOf store.now seat.new }
     ensures met { PageMet seat.old.view seat.new.view event (place_of event) result result }
 {
-    let word = target(&store.layout, event);
-    load_page_at(store, seat, s, event, word)
-}
-
-/// What `load_page` does, where the word of the step has this address.
-#[inline(always)]
-pub(crate) fn load_page_at(
-    store: &Store,
-    seat: &mut Seat,
-    s: u32,
-    event: PageEvent,
-    word: u64,
-) -> u64
-    requires seat { IsSeatOf store.now seat.old }
-    requires actor { stepper seat.old.view.limits event ≡ s }
-    requires host { hosts seat.old.view (stepper seat.old.view.limits event) ≡ true }
-    requires kind { IsPageLoad event }
-    requires within { IsWithin seat.old.view.limits event }
-    requires enabled { PageEnabled seat.old.view.limits (knows seat.old.view (stepper seat.old.view.limits event)).pages event }
-    requires word { word ≡ addresses.address store.now.layout.limits (place_of event) }
-    requires below { word < words_of store.now.layout.limits }
-    ensures seat { IsSeatOf store.now seat.new }
-    ensures met { PageMet seat.old.view seat.new.view event (place_of event) result result }
-{
-    let _ = s;
     load_word(
         &store.table.shared,
         &mut seat.place,
         Action::Page(event),
-        word as usize,
+        address as usize,
     )
 }

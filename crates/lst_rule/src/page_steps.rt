@@ -10,7 +10,7 @@ ghost use Rattle.lst_rule.specs.Learned.{Learns, PageCanStand, PageMade};
 ghost use Rattle.lst_rule.specs.PageSteps.{pinned_at, unpinned, PageLooked, PinLooked, frame_stored, stock_of, StockIs, Swapped, raised};
 ghost use Rattle.lst_rule.specs.Stores.{IsSeatOf};
 
-use crate::page_acts::{load_page, load_page_at, store_page};
+use crate::page_acts::{load_page, store_page};
 use crate::runs::later;
 use crate::seat::Seat;
 use crate::store::Store;
@@ -56,12 +56,12 @@ pub fn step_look_page(store: &Store, seat: &mut Seat, s: u32, range: u32, column
     ensures looked { PageLooked seat.old.view seat.new.view s range column result }
 {
     let first = store.layout.directory(range, 0);
-    step_look_next_page(store, seat, s, range, column, first)
+    step_look_page_from(store, seat, s, range, column, first)
 }
 
 /// What `step_look_page` does, where the directory word of the range's first page has this address.
 #[inline(always)]
-pub fn step_look_next_page(
+pub fn step_look_page_from(
     store: &Store,
     seat: &mut Seat,
     s: u32,
@@ -84,7 +84,7 @@ pub fn step_look_next_page(
         column,
     };
     let address = later(store.layout.words, first, column);
-    load_page_at(store, seat, s, event, address)
+    load_page(store, seat, event, address)
 }
 
 /// Loads a session's pin word as the merger, and answers it. Allowed while no frame waits to be retired. Afterwards the merger knows
@@ -97,8 +97,8 @@ pub fn step_look_pin(store: &Store, seat: &mut Seat, session: u32) -> u64
     ensures seat { IsSeatOf store.now seat.new }
     ensures looked { PinLooked seat.old.view seat.new.view session result }
 {
-    let merger = store.layout.limits.sessions;
-    load_page(store, seat, merger, PageEvent::LookPin { session })
+    let address = store.layout.pins(session);
+    load_page(store, seat, PageEvent::LookPin { session }, address)
 }
 
 /// Stores a word of a frame. Allowed for the oldest retired frame, once every session's pin was found not to hold it. The frame is being

@@ -58,7 +58,7 @@ fn first_of_run(layout: &Layout, run: Run) -> u64
     }
 }
 
-/// The address of a later word of some side by side, in a store of so many words.
+/// The address of a later word of some that stand side by side, whose first word has this address, in a store of so many words.
 #[inline(always)]
 pub(crate) fn later(words: u64, first: u64, i: u32) -> u64
     requires { first + i < words }

@@ -3,7 +3,7 @@ ghost use Rattle.lst_walk.specs.Packed.{MayLoad};
 
 use lst_layout::FRAME_VALUES;
 use lst_pack::Words;
-use lst_rule::{Seat, Store, load_next_word};
+use lst_rule::{Seat, Store, load_frame_from};
 
 // The packed words of a frame that a session has in hand.
 #[derive(Drop)]
@@ -25,7 +25,7 @@ impl Words for Packed<'_> {
     ghost later = { λ one other. Loads one other };
 
     fn word(&mut self, place: u32) -> u64 {
-        load_next_word(
+        load_frame_from(
             self.store,
             self.seat,
             self.s,

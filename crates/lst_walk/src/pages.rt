@@ -19,7 +19,7 @@ use crate::packed::Packed;
 use lst_bits::unpack_time;
 use lst_layout::{FRAME_NULLS, FRAME_TIMES};
 use lst_pack::get_from;
-use lst_rule::{RecordId, Seat, Store, load_frame, load_next_word, step_look_next_page};
+use lst_rule::{RecordId, Seat, Store, load_frame, load_frame_from, step_look_page_from};
 
 /// What a page says of a record in a column.
 #[derive(Clone, Copy)]
@@ -121,11 +121,11 @@ pub(crate) fn look(
     ensures looks { LooksAt seat.old.view seat.new.view s rec.number column result.frame result.tps result.stamp }
     ensures first { result.first ≡ address store.now.layout.limits (FrameWord result.frame 0) }
 {
-    let frame = step_look_next_page(store, seat, s, rec.number / 256, column, pages) as u32;
+    let frame = step_look_page_from(store, seat, s, rec.number / 256, column, pages) as u32;
     let first = store.layout().frames(frame, 0);
-    let tps = load_next_word(store, seat, s, frame, first, 0);
+    let tps = load_frame_from(store, seat, s, frame, first, 0);
     let place = FRAME_TIMES + rec.number % 256;
-    let stamp = load_next_word(store, seat, s, frame, first, place);
+    let stamp = load_frame_from(store, seat, s, frame, first, place);
     Looks {
         frame,
         first,

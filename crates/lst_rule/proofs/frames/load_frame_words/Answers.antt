@@ -15,8 +15,8 @@ loop-place-init c = subst (λ (n : ℕ). LoadsOn c.args.store.now c.args.seat.no
 
 pub loop-place-preserved : goal.loop-place-preserved
 loop-place-preserved c = let low = c.loop-turn-test.true in let short = c.loop-place-test.true in
-    subst (λ (n : ℕ). LoadsOn c.args.store.now c.args.seat.now.view c.load_next_word.new.seat c.args.s c.args.frame n (set c.loop-place.out (14 * c.loop-turn.turn + c.loop-place.place) c.load_next_word.result)) (omega arith)
-    (loads_next _ _ _ c.load_next_word.new.seat _ _ (14 * c.loop-turn.turn + c.loop-place.place) c.load_next_word.result c.loop-place.out c.loop-place.invariant (omega arith) (omega arith) c.load_next_word.ensures.seat c.load_next_word.ensures.loaded)
+    subst (λ (n : ℕ). LoadsOn c.args.store.now c.args.seat.now.view c.load_frame_from.new.seat c.args.s c.args.frame n (set c.loop-place.out (14 * c.loop-turn.turn + c.loop-place.place) c.load_frame_from.result)) (omega arith)
+    (loads_next _ _ _ c.load_frame_from.new.seat _ _ (14 * c.loop-turn.turn + c.loop-place.place) c.load_frame_from.result c.loop-place.out c.loop-place.invariant (omega arith) (omega arith) c.load_frame_from.ensures.seat c.load_frame_from.ensures.loaded)
 
 pub loop-turn-preserved : goal.loop-turn-preserved
 loop-turn-preserved c = let past = c.loop-place-test.false in let end = c.loop-place.auto.place-end in

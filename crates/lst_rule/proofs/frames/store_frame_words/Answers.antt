@@ -17,16 +17,16 @@ loop-turn-init c = stores_next _ _ _ c.step_store_frame.new.seat _ _ (slice_inde
 pub loop-place-init : goal.loop-place-init
 loop-place-init c = subst (λ (n : ℕ). StoresOn c.args.store.now c.args.seat.now.view c.loop-turn.seat c.args.frame n (slice_index c.args.words.now)) (omega arith) c.loop-turn.invariant
 
-pub store_next_word-requires-clause-enabled : goal.store_next_word-requires-clause-enabled
-store_next_word-requires-clause-enabled c = c.loop-place.invariant.enabled 0 0
+pub store_frame_from-requires-clause-enabled : goal.store_frame_from-requires-clause-enabled
+store_frame_from-requires-clause-enabled c = c.loop-place.invariant.enabled 0 0
 
-pub store_next_word-requires-clause-built : goal.store_next_word-requires-clause-built
-store_next_word-requires-clause-built c = c.loop-place.invariant.built (omega arith)
+pub store_frame_from-requires-clause-built : goal.store_frame_from-requires-clause-built
+store_frame_from-requires-clause-built c = c.loop-place.invariant.built (omega arith)
 
 pub loop-place-preserved : goal.loop-place-preserved
 loop-place-preserved c = let low = c.loop-turn-test.true in let short = c.loop-place-test.true in
-    subst (λ (n : ℕ). StoresOn c.args.store.now c.args.seat.now.view c.store_next_word.new.seat c.args.frame n (slice_index c.args.words.now)) (omega arith)
-    (stores_next _ _ _ c.store_next_word.new.seat _ (1 + 11 * c.loop-turn.turn + c.loop-place.place) (slice_index c.args.words.now) c.loop-place.invariant (omega arith) c.store_next_word.ensures.seat c.store_next_word.ensures.stored)
+    subst (λ (n : ℕ). StoresOn c.args.store.now c.args.seat.now.view c.store_frame_from.new.seat c.args.frame n (slice_index c.args.words.now)) (omega arith)
+    (stores_next _ _ _ c.store_frame_from.new.seat _ (1 + 11 * c.loop-turn.turn + c.loop-place.place) (slice_index c.args.words.now) c.loop-place.invariant (omega arith) c.store_frame_from.ensures.seat c.store_frame_from.ensures.stored)
 
 pub loop-turn-preserved : goal.loop-turn-preserved
 loop-turn-preserved c = let past = c.loop-place-test.false in let end = c.loop-place.auto.place-end in

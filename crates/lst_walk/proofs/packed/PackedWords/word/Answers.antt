@@ -8,16 +8,16 @@ use Rattle.lst_walk.proofs.Loading.{frame_skims, frame_knows, packed_low, packed
 use Rattle.lst_walk.proofs.packed.PackedWords.word.Goals as goal
 
 pub invariant_of-self : goal.invariant_of-self
-invariant_of-self c = let p = c.args.self.now in let skims = frame_skims p.seat.now.view c.load_next_word.new.seat.view p.s p.frame (1 + c.args.place) c.load_next_word.result c.load_next_word.ensures.loaded p.ready.reader.host p.ready.low (let few = packed_low (hand_of (knows p.seat.now.view p.s).pages.session p.frame) c.args.place c.requires in omega arith) in record {
+invariant_of-self c = let p = c.args.self.now in let skims = frame_skims p.seat.now.view c.load_frame_from.new.seat.view p.s p.frame (1 + c.args.place) c.load_frame_from.result c.load_frame_from.ensures.loaded p.ready.reader.host p.ready.low (let few = packed_low (hand_of (knows p.seat.now.view p.s).pages.session p.frame) c.args.place c.requires in omega arith) in record {
   ready = record {
-    reader = reader_on p.store.now p.seat.now c.load_next_word.new.seat p.s p.ready.reader skims.watched c.load_next_word.ensures.seat;
+    reader = reader_on p.store.now p.seat.now c.load_frame_from.new.seat p.s p.ready.reader skims.watched c.load_frame_from.ensures.seat;
     low = subst (λ (l : Limits). p.frame < frame_count l) (sym skims.watched.learns.limits) p.ready.low;
     is = p.ready.is;
   };
 }
 
 pub returns-clause-word : goal.returns-clause-word
-returns-clause-word c = let p = c.args.self.now in packed_word (hand_of (knows p.seat.now.view p.s).pages.session p.frame) c.args.place c.load_next_word.result c.requires (λ page is. c.load_next_word.ensures.loaded.in_hand p.ready.reader.own page is)
+returns-clause-word c = let p = c.args.self.now in packed_word (hand_of (knows p.seat.now.view p.s).pages.session p.frame) c.args.place c.load_frame_from.result c.requires (λ page is. c.load_frame_from.ensures.loaded.in_hand p.ready.reader.own page is)
 
 pub returns-clause-later : goal.returns-clause-later
 returns-clause-later c = let p = c.args.self.now in record {
@@ -26,6 +26,6 @@ returns-clause-later c = let p = c.args.self.now in record {
   s = search rules;
   frame = search rules;
   first = search rules;
-  skims = frame_skims p.seat.now.view c.load_next_word.new.seat.view p.s p.frame (1 + c.args.place) c.load_next_word.result c.load_next_word.ensures.loaded p.ready.reader.host p.ready.low (let few = packed_low (hand_of (knows p.seat.now.view p.s).pages.session p.frame) c.args.place c.requires in omega arith);
-  same = frame_knows p.seat.now.view c.load_next_word.new.seat.view p.s p.frame (1 + c.args.place) c.load_next_word.result c.load_next_word.ensures.loaded;
+  skims = frame_skims p.seat.now.view c.load_frame_from.new.seat.view p.s p.frame (1 + c.args.place) c.load_frame_from.result c.load_frame_from.ensures.loaded p.ready.reader.host p.ready.low (let few = packed_low (hand_of (knows p.seat.now.view p.s).pages.session p.frame) c.args.place c.requires in omega arith);
+  same = frame_knows p.seat.now.view c.load_frame_from.new.seat.view p.s p.frame (1 + c.args.place) c.load_frame_from.result c.load_frame_from.ensures.loaded;
 }
