@@ -75,9 +75,10 @@ fn end_at_last<R: Wait>(rt: &R, store: &Store, session: &mut Session, lock: &Com
 
 impl Session {
     /// Commits the transaction, and answers its time; a transaction without writes only ends, and its begin is answered. The session's pin is
-    /// taken away. It is refused exactly where none is open. Where the commit word is held, the session waits for the lock and tries again, till
-    /// the word is free: what comes of the call is what comes of `try_commit`, but for Busy. `ConcludesAtLast` says of the tries in vain that each
-    /// found the word held, and nothing else came of them. Nothing is promised of when it returns. A lock is for the sessions of one store.
+    /// taken away. It is refused exactly where none is open. Where the commit word is held, the session tries 63 times more, and then waits for
+    /// the lock and tries on, till the word is free: what comes of the call is what comes of `try_commit`, but for Busy. `ConcludesAtLast` says of
+    /// the tries in vain that each found the word held, and nothing else came of them. Nothing is promised of when it returns. A lock is for the
+    /// sessions of one store.
     pub fn commit<R: Wait>(
         &mut self,
         rt: &R,

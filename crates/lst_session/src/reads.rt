@@ -30,6 +30,7 @@ pub(crate) fn read(store: &Store, seat: &mut Seat, s: u32, key: Key) -> Option<R
 }
 
 /// What `read` answers, put into a row that has no cells. Whether there is a row is answered.
+#[inline(always)]
 fn put_read(store: &Store, seat: &mut Seat, s: u32, key: Key, row: &mut Row) -> bool
     requires seat { IsSeatOf store.now seat.old }
     requires host { hosts seat.old.view s ≡ true }

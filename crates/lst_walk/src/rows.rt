@@ -66,13 +66,12 @@ pub fn row(store: &Store, seat: &mut Seat, s: u32, rec: RecordId) -> Option<Row>
     ensures walk { WalksRow seat.old.view seat.new.view s rec.number result }
     ensures saves { 0 < (knows seat.old.view s).pages.session.pin → SavesRow seat.old.view seat.new.view s rec.number }
 {
-    seat.consider();
-    let number = head(store, seat, s, rec);
     let mut told = Row::of_numbers(ArrayVec::new());
-    if paged(store, seat, s, rec, number, &mut told) {
-        return Some(told);
+    if put_row(store, seat, s, rec, &mut told) {
+        Some(told)
+    } else {
+        None
     }
-    walked(store, seat, s, rec, number)
 }
 
 /// What `row` answers, put into a row that has no cells. Whether there is a row is answered.

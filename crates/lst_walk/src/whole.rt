@@ -41,7 +41,7 @@ fn page_cell(
     let found = look(store, seat, s, rec, column, pages);
     let (time, is_present) = unpack_time(found.stamp);
     // A number of 0 becomes one above each TPS.
-    if (number as u64).wrapping_sub(1) < found.tps && time <= begin && is_present {
+    if (number as u64).wrapping_sub(1) < found.tps && is_present && time <= begin {
         let slot = rec.number % 256;
         Some(numbered_cell(store, seat, s, found.frame, found.first, slot))
     } else {

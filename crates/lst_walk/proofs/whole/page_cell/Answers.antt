@@ -27,9 +27,9 @@ numbered_cell-requires-clause-frame c = (timely (goal.at.numbered_cell-requires-
 pub numbered_cell-requires-clause-packed : goal.numbered_cell-requires-clause-packed
 numbered_cell-requires-clause-packed c = let at = (goal.at.numbered_cell-requires-clause-packed c).After-unpack_time-time in let t = timely at c.if-time-begin.true in (t.page.right.entries.values, taken_packs c.args.seat.now.view c.look-found.new.seat.view c.args.s c.args.rec.number c.args.column (entry at) t)
 
-pub returns-then-is_present-clause-skims : goal.returns-then-is_present-clause-skims
-returns-then-is_present-clause-skims c = skims_on c.args.seat.now.view c.look-found.new.seat.view c.numbered_cell.new.seat.view c.args.s c.look-found.ensures.skims c.numbered_cell.ensures.skims
+pub returns-then-time-begin-clause-skims : goal.returns-then-time-begin-clause-skims
+returns-then-time-begin-clause-skims c = skims_on c.args.seat.now.view c.look-found.new.seat.view c.numbered_cell.new.seat.view c.args.s c.look-found.ensures.skims c.numbered_cell.ensures.skims
 
-pub returns-then-is_present-clause-told : goal.returns-then-is_present-clause-told
-returns-then-is_present-clause-told c = let at = (goal.at.returns-then-is_present-clause-told c).After-unpack_time-time in
+pub returns-then-time-begin-clause-told : goal.returns-then-time-begin-clause-told
+returns-then-time-begin-clause-told c = let at = (goal.at.returns-then-time-begin-clause-told c).After-unpack_time-time in
     tells_cell c.args.seat.now.view c.look-found.new.seat.view c.numbered_cell.new.seat.view c.args.s c.args.rec.number c.args.number c.args.column (entry at) c.numbered_cell.result (timely at c.if-time-begin.true) (let below = c.if-number-found.true in omega arith) (let below = c.if-number-found.true in omega arith) c.if-is_present.true c.numbered_cell.ensures.skims.watched c.numbered_cell.ensures.cell
