@@ -2,18 +2,13 @@
 use Rattle.std.proofs.Common.{◌≡◌, ◌<◌, List, [], ◌∷◌, ◌++◌, length, get_or, arith, sym, subst, ap, ◌∙◌, append_assoc, append-nil}
 use Rattle.std.specs.List.{AllByRecursion, remove}
 use Rattle.std.proofs.lemmas.List.{map-append, nil_from_length}
-use Rattle.lst_model.specs.declared.replies.Reply.{Reply}
 use Rattle.lst_session.specs.declared.session.Session.{Session}
 use Rattle.lst_work.specs.declared.workers.Worker.{Worker}
-use Rattle.lst_work.specs.Hiring.{IsNew, AreHired, sessions_of, replies_of}
+use Rattle.lst_work.specs.Hiring.{IsNew, AreHired, sessions_of}
 
 pub record IsHiring (all rest : List Session) (workers : List Worker) : Type 0 where
   pub sessions_are : sessions_of workers ++ rest ≡ all
   pub all_new : AllByRecursion IsNew workers
-
-pub record IsDismissing (all rest : List Worker) (sessions : List Session) (queues : List (List Reply)) : Type 0 where
-  pub sessions_are : sessions ++ sessions_of rest ≡ sessions_of all
-  pub queues_are : queues ++ replies_of rest ≡ replies_of all
 
 all_new_on : (xs : List Worker) (x : Worker) → AllByRecursion IsNew xs → IsNew x → AllByRecursion IsNew (xs ++ x ∷ [])
 all_new_on [] x a n = (n, tt)
@@ -30,18 +25,7 @@ hiring_on all rest left workers longer session worker x first is same fresh = re
 pub hired_all : (all rest : List Session) (workers : List Worker) → IsHiring all rest workers → length rest ≡ 0 → AreHired all workers
 hired_all all rest workers x short = let none = nil_from_length rest short in record { sessions_are = sym (append-nil (sessions_of workers)) ∙ (ap (λ (ss : List Session). sessions_of workers ++ ss) (sym none) ∙ x.sessions_are); all_new = x.all_new }
 
-pub dismissing_on : (all rest left : List Worker) (worker : Worker) (sessions more : List Session) (queues longer : List (List Reply)) → IsDismissing all rest sessions queues → rest ≡ worker ∷ left
-    → more ≡ sessions ++ worker.session ∷ [] → longer ≡ queues ++ worker.replies.items ∷ [] → IsDismissing all left more longer
-dismissing_on all rest left worker sessions more queues longer x first is are = record {
-  sessions_are = ap (λ (ss : List Session). ss ++ sessions_of left) is ∙ (append_assoc sessions (worker.session ∷ []) (sessions_of left) ∙ (ap (λ (ws : List Worker). sessions ++ sessions_of ws) (sym first) ∙ x.sessions_are));
-  queues_are = ap (λ (qs : List (List Reply)). qs ++ replies_of left) are ∙ (append_assoc queues (worker.replies.items ∷ []) (replies_of left) ∙ (ap (λ (ws : List Worker). queues ++ replies_of ws) (sym first) ∙ x.queues_are));
-}
-
 -- the first of a list, and the rest
 pub first_rest : {X : Type 0} (xs left : List X) (x : X) → 0 < length xs → x ≡ get_or xs 0 x → left ≡ remove xs 0 → xs ≡ x ∷ left
 first_rest [] left x some is e = absurd (omega arith)
 first_rest (y ∷ ys) left x some is e = ap (λ (z : _). z ∷ ys) (sym is) ∙ ap (λ (zs : _). x ∷ zs) (sym e)
-
-pub dismissed_all : (all rest : List Worker) (sessions : List Session) (queues : List (List Reply)) → IsDismissing all rest sessions queues → length rest ≡ 0 → (sessions ≡ sessions_of all) × (queues ≡ replies_of all)
-dismissed_all all [] sessions queues x none = (sym (append-nil sessions) ∙ x.sessions_are, sym (append-nil queues) ∙ x.queues_are)
-dismissed_all all (w ∷ ws) sessions queues x none = absurd (omega arith)

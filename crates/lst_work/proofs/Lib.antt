@@ -1,12 +1,15 @@
 pub mod AfterCalls
 pub mod Beginning
+pub mod BlockOrders
 pub mod Cutting
 pub mod Growing
 pub mod Heard
 pub mod Hires
+pub mod InBlocks
 pub mod Merges
 pub mod Ordering
 pub mod ParSumming
+pub mod Parting
 pub mod Reading
 pub mod Refusing
 pub mod Reports

@@ -1,6 +1,7 @@
 -- A worker that runs one line after another.
-use Rattle.std.proofs.Common.{◌≡◌, ℕ, ◌+◌, ◌<◌, List, [], ◌∷◌, ◌++◌, Bool, cond, length, take, get_or, refl, sym, subst, ap, ◌∙◌, append_assoc, append-nil}
-use Rattle.std.proofs.lemmas.List.{take_more}
+use Rattle.std.proofs.Common.{◌≡◌, ℕ, ◌+◌, ◌<◌, List, [], ◌∷◌, ◌++◌, Bool, cond, length, map, take, drop, get_or, refl, sym, subst, ap, ◌∙◌, arith, append_assoc, append-nil}
+use Rattle.std.proofs.lemmas.List.{take_more, map-append}
+use Rattle.std.proofs.lemmas.Grind.{flat_map-append}
 use Rattle.std.proofs.lemmas.List.Elements.{filter-append}
 use Rattle.std.proofs.lemmas.Bool.{ne_eqb, eq-eqb}
 use Rattle.lst_model.specs.declared.lines.Line.{Line}
@@ -14,7 +15,10 @@ use Rattle.lst_legal_work.specs.Lines.{AfterLine}
 use Rattle.lst_legal_work.specs.Runs.{lines_of, Runs}
 use Rattle.lst_rule.specs.declared.store.Store.{Store}
 use Rattle.lst_session.specs.Passes.{IsReady}
-use Rattle.lst_work.specs.Workers.{Ran, IsRunning}
+use Rattle.lst_session.specs.declared.session.Session.{Session}
+use Rattle.lst_work.specs.Blocks.{block_length, blocks_of, joined}
+use Rattle.lst_work.specs.Workers.{Ran, RanBlocks, IsRunning, IsRunningBlocks, parts_of}
+use Rattle.lst_work.proofs.InBlocks.{cut_on}
 
 -- ---- runs
 
@@ -26,6 +30,14 @@ runs_on s (Merge range column ∷ xs) ys rs qs v u w a b = absurd a
 runs_on s (Call t call ∷ xs) ys [] qs v u w a b = absurd a
 runs_on s (Call t call ∷ xs) ys (reply ∷ rs) qs v u w a b = (a.0, (a.1.0, a.1.1, runs_on s xs ys rs qs a.1.0 u w a.1.2 b))
 
+pub runs_long : (s : ℕ) (lines : List Line) (replies : List Reply) (v w : View) → Runs s lines replies v w → length replies ≡ length lines
+runs_long s [] [] v w x = refl
+runs_long s [] (reply ∷ replies) v w x = absurd x
+runs_long s (Phase ∷ lines) replies v w x = absurd x
+runs_long s (Merge range column ∷ lines) replies v w x = absurd x
+runs_long s (Call t call ∷ lines) [] v w x = absurd x
+runs_long s (Call t call ∷ lines) (reply ∷ replies) v w x = let h = runs_long s lines replies x.1.0 w x.1.2 in omega arith
+
 -- ---- of workers
 
 pub ran_nothing : (lines : List Line) (worker : Worker) → lines_of worker.session.number lines ≡ [] → Ran lines worker worker
@@ -34,6 +46,7 @@ ran_nothing lines worker none = record {
   replies = [];
   grows = sym (append-nil worker.replies.items);
   runs = subst (λ (ls : List Line). Runs worker.session.number ls [] worker.session.seat.view worker.session.seat.view) (sym none) refl;
+  parts = refl;
 }
 
 -- a line of another session
@@ -44,15 +57,16 @@ not_own s t call other = ap (λ (b : Bool). cond b (Call t call ∷ []) []) (ne_
 pub own : (s : ℕ) (call : CallKind) → lines_of s (Call s call ∷ []) ≡ Call s call ∷ []
 own s call = ap (λ (b : Bool). cond b (Call s call ∷ []) []) (eq-eqb s s refl)
 
-pub ran_call : (s : ℕ) (call : CallKind) (reply : Reply) (old new : Worker) → old.session.number ≡ s → new.session.number ≡ old.session.number → new.replies.items ≡ old.replies.items ++ reply ∷ []
+pub ran_call : (s : ℕ) (call : CallKind) (reply : Reply) (old new : Worker) → old.session.number ≡ s → new.session.number ≡ old.session.number → new.replies.items ≡ old.replies.items ++ reply ∷ [] → new.parts ≡ old.parts
     → AfterLine old.session.number call reply old.session.seat.view new.session.seat.view → Ran (Call s call ∷ []) old new
-ran_call s call reply old new is number grows after = record {
+ran_call s call reply old new is number grows same after = record {
   number = number;
   replies = reply ∷ [];
   grows = grows;
   runs = subst (λ (ls : List Line). Runs old.session.number ls (reply ∷ []) old.session.seat.view new.session.seat.view)
       (sym (subst (λ (t : ℕ). lines_of old.session.number (Call t call ∷ []) ≡ Call t call ∷ []) is (own old.session.number call)))
       (sym is, (new.session.seat.view, after, refl));
+  parts = same;
 }
 
 pub ran_on : (xs ys : List Line) (a b c : Worker) → Ran xs a b → Ran ys b c → Ran (xs ++ ys) a c
@@ -63,6 +77,7 @@ ran_on xs ys a b c x y = let s = a.session.number in record {
   runs = subst (λ (ls : List Line). Runs s ls (x.replies ++ y.replies) a.session.seat.view c.session.seat.view) (sym (filter-append (λ (line : Line). names s (speaker_of line)) xs ys))
       (runs_on s (lines_of s xs) (lines_of s ys) x.replies y.replies a.session.seat.view b.session.seat.view c.session.seat.view x.runs
       (subst (λ (n : ℕ). Runs n (lines_of n ys) y.replies b.session.seat.view c.session.seat.view) x.number y.runs));
+  parts = y.parts ∙ x.parts;
 }
 
 pub ran_whole : (lines all : List Line) (a b : Worker) → lines ≡ all → Ran lines a b → Ran all a b
@@ -78,3 +93,65 @@ running_on store lines before now next n line x inside is ready number ran = rec
   number = number ∙ x.number;
   ran = ran_whole (take n lines ++ line ∷ []) (take (n + 1) lines) before next (sym (take_more lines n line inside ∙ ap (λ (l : Line). take n lines ++ l ∷ []) (sym is))) (ran_on (take n lines) (line ∷ []) before now next x.ran ran);
 }
+
+-- ---- by blocks
+
+lines_joined : (s : ℕ) (xs ys : List (List Line)) → lines_of s (joined (xs ++ ys)) ≡ lines_of s (joined xs) ++ lines_of s (joined ys)
+lines_joined s xs ys = ap (lines_of s) (flat_map-append (λ (ls : List Line). ls) xs ys) ∙ filter-append (λ (line : Line). names s (speaker_of line)) (joined xs) (joined ys)
+
+pub ran_no_blocks : (worker : Worker) → RanBlocks [] worker worker
+ran_no_blocks worker = record { number = refl; parts = []; grows = sym (append-nil (parts_of worker)); long = refl; runs = refl }
+
+-- one block, from what its lines did to the worker that begins it
+pub ran_block : (block : List Line) (old begun done new : Worker) (replies : List Reply) → Ran block begun done → begun.session ≡ old.session → begun.parts ≡ old.parts → begun.replies.items ≡ []
+    → new.session ≡ done.session → replies ≡ done.replies.items → parts_of new ≡ parts_of done ++ replies ∷ [] → RanBlocks (block ∷ []) old new
+ran_block block old begun done new replies x same none_more fresh ends are more =
+    let s = old.session.number in
+    let said : replies ≡ x.replies = are ∙ (x.grows ∙ ap (λ (rs : List Reply). rs ++ x.replies) fresh) in
+    let from : Runs s (lines_of s block) x.replies old.session.seat.view done.session.seat.view =
+    subst (λ (a : Session). Runs a.number (lines_of a.number block) x.replies a.seat.view done.session.seat.view) same x.runs in
+    let runs : Runs s (lines_of s block) replies old.session.seat.view new.session.seat.view =
+    subst (λ (rs : List Reply). Runs s (lines_of s block) rs old.session.seat.view new.session.seat.view) (sym said)
+    (subst (λ (a : Session). Runs s (lines_of s block) x.replies old.session.seat.view a.seat.view) (sym ends) from) in
+    record {
+      number = ap (λ (a : Session). a.number) ends ∙ (x.number ∙ ap (λ (a : Session). a.number) same);
+      parts = replies ∷ [];
+      grows = more ∙ ap (λ (ps : List (List Reply)). ps ++ replies ∷ []) (ap (λ v. map (λ part. part.items) v.items) (x.parts ∙ none_more));
+      long = ap (λ (n : ℕ). n ∷ []) (runs_long s (lines_of s block) replies old.session.seat.view new.session.seat.view runs);
+      runs = subst (λ (ls : List Line). Runs s (lines_of s ls) (replies ++ []) old.session.seat.view new.session.seat.view) (sym (append-nil block))
+          (subst (λ (rs : List Reply). Runs s (lines_of s block) rs old.session.seat.view new.session.seat.view) (sym (append-nil replies)) runs);
+    }
+
+pub ran_blocks_on : (xs ys : List (List Line)) (a b c : Worker) → RanBlocks xs a b → RanBlocks ys b c → RanBlocks (xs ++ ys) a c
+ran_blocks_on xs ys a b c x y =
+    let s = a.session.number in
+    record {
+      number = y.number ∙ x.number;
+      parts = x.parts ++ y.parts;
+      grows = y.grows ∙ (ap (λ (ps : List (List Reply)). ps ++ y.parts) x.grows ∙ append_assoc (parts_of a) x.parts y.parts);
+      long = map-append length x.parts y.parts
+          ∙ (ap (λ (ns : List ℕ). ns ++ map length y.parts) x.long
+          ∙ (ap (λ (ns : List ℕ). map (λ (block : List Line). length (lines_of s block)) xs ++ ns) (y.long ∙ ap (λ (n : ℕ). map (λ (block : List Line). length (lines_of n block)) ys) x.number)
+          ∙ sym (map-append (λ (block : List Line). length (lines_of s block)) xs ys)));
+      runs = subst (λ (ls : List Line). Runs s ls (joined (x.parts ++ y.parts)) a.session.seat.view c.session.seat.view) (sym (lines_joined s xs ys))
+          (subst (λ (rs : List Reply). Runs s (lines_of s (joined xs) ++ lines_of s (joined ys)) rs a.session.seat.view c.session.seat.view) (sym (flat_map-append (λ (rs : List Reply). rs) x.parts y.parts))
+          (runs_on s (lines_of s (joined xs)) (lines_of s (joined ys)) (joined x.parts) (joined y.parts) a.session.seat.view b.session.seat.view c.session.seat.view x.runs
+          (subst (λ (n : ℕ). Runs n (lines_of n (joined ys)) (joined y.parts) b.session.seat.view c.session.seat.view) x.number y.runs)));
+    }
+
+pub running_blocks_first : (store : Store) (lines : List Line) (worker : Worker) → IsReady store worker.session → IsRunningBlocks store lines lines worker worker
+running_blocks_first store lines worker ready = record { ready = ready; number = refl; blocks = []; are = refl; ran = ran_no_blocks worker }
+
+pub running_blocks_on : (store : Store) (lines rest after block : List Line) (before now next : Worker) → IsRunningBlocks store lines rest before now → 0 < length rest → block ≡ take block_length rest → after ≡ drop block_length rest
+    → IsReady store next.session → next.session.number ≡ now.session.number → RanBlocks (block ∷ []) now next → IsRunningBlocks store lines after before next
+running_blocks_on store lines rest after block before now next x some first left ready number ran = record {
+  ready = ready;
+  number = number ∙ x.number;
+  blocks = x.blocks ++ block ∷ [];
+  are = cut_on lines rest after block x.blocks x.are some first left;
+  ran = ran_blocks_on x.blocks (block ∷ []) before now next x.ran ran;
+}
+
+pub running_blocks_all : (store : Store) (lines rest : List Line) (before now : Worker) → IsRunningBlocks store lines rest before now → length rest ≡ 0 → RanBlocks (blocks_of lines) before now
+running_blocks_all store lines [] before now x none = subst (λ (bs : List (List Line)). RanBlocks bs before now) (sym (append-nil x.blocks) ∙ x.are) x.ran
+running_blocks_all store lines (line ∷ rest) before now x none = absurd (omega arith)

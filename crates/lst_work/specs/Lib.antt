@@ -1,3 +1,4 @@
+pub mod Blocks
 pub mod Hiring
 pub mod Merges
 pub mod Orders

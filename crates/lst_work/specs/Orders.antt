@@ -1,8 +1,9 @@
 -- The replies of all workers, put into the order of the lines.
-use Rattle.std.specs.Prelude.{◌≡◌, ℕ, List, [], ◌++◌, ◌==◌, Option, map, length, slice_index_or, take, drop}
+use Rattle.std.specs.Prelude.{◌≡◌, ℕ, List, [], ◌++◌, ◌==◌, Option, None, map, length, slice_index_or, take, drop}
 use Rattle.std.specs.List.{count_by}
 use Rattle.lst_model.specs.declared.lines.Line.{Line}
 use Rattle.lst_model.specs.declared.replies.Reply.{Reply}
+use Rattle.lst_model.specs.declared.replies.Reply.TheVariants.{Silent}
 use Rattle.lst_replies.specs.Runs.{speaker_of}
 use Rattle.lst_legal_work.specs.Orders.{queue_of, replies_from}
 
@@ -24,6 +25,10 @@ pub record GrowsBy (is_so : List (Option ℕ × Reply) → Type 0) (old new : Li
   pub added : List (Option ℕ × Reply)
   pub grows : new ≡ old ++ added
   pub so : is_so added
+
+-- what stands where a reply will be put
+abbrev pub placeholder : Option ℕ × Reply
+placeholder = (None, Silent)
 
 -- the first n lines have their replies, and what is left in the queues are the others
 pub record IsOrdering (sessions : ℕ) (lines : List Line) (before now : List (List Reply)) (replies : List (Option ℕ × Reply)) (n : ℕ) : Type 0 where

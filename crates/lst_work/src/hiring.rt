@@ -1,7 +1,11 @@
-//! Workers made of sessions for a phase, and sessions and queues of replies made of workers after it.
-ghost use Rattle.std.specs.Prelude.{◌≡◌, ◌∷◌, [], ◌++◌, IfOk, map};
-ghost use Rattle.lst_work.specs.Hiring.{AreHired, sessions_of, replies_of};
+//! Workers made of sessions for a phase, and sessions and blocks of replies made of workers after it.
+ghost use Rattle.std.specs.Prelude.{◌≡◌, ◌+◌, ◌<◌, ℕ, length, map, slice_index_or, IfOk, OnOk};
+ghost use Rattle.std.specs.List.{All};
+ghost use Rattle.lst_work.specs.Blocks.{parts_at};
+ghost use Rattle.lst_work.specs.Hiring.{AreHired, AreFirst, HaveSaid, sessions_of, said_in};
+ghost use Rattle.lst_work.specs.Workers.{parts_of};
 
+use crate::blocks::Block;
 use crate::workers::Worker;
 use lst_model::{OutOfMemory, Reply};
 use lst_session::Session;
@@ -20,27 +24,69 @@ pub(crate) fn hired(alloc: Global, sessions: Vec<Session>) -> Result<Vec<Worker>
     Ok(workers)
 }
 
-/// The workers' sessions, and their replies with those to merges last.
-pub(crate) fn dismissed(
+/// The queues of the next block: the first part that each worker has said, and those to merges last.
+fn next_queues(
     alloc: Global,
-    workers: Vec<Worker>,
+    workers: &mut Vec<Worker>,
     merges: VecDeque<Reply>,
-) -> Result<(Vec<Session>, Vec<VecDeque<Reply>>), OutOfMemory>
-    ensures sessions { IfOk result (λ parted. parted.0.items ≡ sessions_of workers.items) }
-    ensures queues { IfOk result (λ parted. map (λ queue. queue.items) parted.1.items ≡ replies_of workers.items ++ merges.items ∷ []) }
+) -> Result<Vec<VecDeque<Reply>>, OutOfMemory>
+    requires some { (i : ℕ) (d : Worker) → i < length workers.old.items → 0 < length (parts_of (slice_index_or workers.old.items i d)) }
+    ensures { IfOk result (λ queues. AreFirst workers.old.items workers.new.items merges.items (map (λ queue. queue.items) queues.items)) }
+{
+    let mut queues = Vec::new(alloc);
+    for i in 0..workers.len() {
+        let part = workers[i].parts.remove(0);
+        queues.push(VecDeque::from_vec(part))?;
+    }
+    queues.push(merges)?;
+    Ok(queues)
+}
+
+/// Takes what the workers have said, and answers it by block, with the replies to merges last.
+fn blocks_said(
+    alloc: Global,
+    workers: &mut Vec<Worker>,
+    merges: Vec<VecDeque<Reply>>,
+) -> Result<Vec<Block>, OutOfMemory>
+    requires said { HaveSaid workers.old.items (length merges.items) }
+    ensures sessions { OnOk result (sessions_of workers.new.items ≡ sessions_of workers.old.items) }
+    ensures wide { IfOk result (λ blocks. All (λ block. length block.queues.items ≡ length workers.old.items + 1) blocks.items) }
+    ensures parts { IfOk result (λ blocks. (queue : ℕ) → parts_at blocks.items queue ≡ said_in workers.old.items (map (λ part. part.items) merges.items) queue) }
+{
+    let mut rest = merges;
+    let mut blocks = Vec::new(alloc);
+    while !rest.is_empty() {
+        let queues = next_queues(alloc, workers, rest.remove(0))?;
+        blocks.push(Block { queues })?;
+    }
+    Ok(blocks)
+}
+
+/// The sessions of workers.
+fn sessions_back(alloc: Global, workers: Vec<Worker>) -> Result<Vec<Session>, OutOfMemory>
+    ensures { IfOk result (λ sessions. sessions.items ≡ sessions_of workers.items) }
 {
     let mut rest = workers;
     let mut sessions = Vec::new(alloc);
-    let mut queues = Vec::new(alloc);
     while !rest.is_empty() {
-        let Worker {
-            session,
-            replies,
-            ..
-        } = rest.remove(0);
+        let Worker { session, .. } = rest.remove(0);
         sessions.push(session)?;
-        queues.push(VecDeque::from_vec(replies))?;
     }
-    queues.push(merges)?;
-    Ok((sessions, queues))
+    Ok(sessions)
+}
+
+/// The workers' sessions, and by block what they have said, with the replies to merges last.
+pub(crate) fn dismissed(
+    alloc: Global,
+    workers: Vec<Worker>,
+    merges: Vec<VecDeque<Reply>>,
+) -> Result<(Vec<Session>, Vec<Block>), OutOfMemory>
+    requires said { HaveSaid workers.items (length merges.items) }
+    ensures sessions { IfOk result (λ parted. parted.0.items ≡ sessions_of workers.items) }
+    ensures wide { IfOk result (λ parted. All (λ block. length block.queues.items ≡ length workers.items + 1) parted.1.items) }
+    ensures parts { IfOk result (λ parted. (queue : ℕ) → parts_at parted.1.items queue ≡ said_in workers.items (map (λ part. part.items) merges.items) queue) }
+{
+    let mut workers = workers;
+    let blocks = blocks_said(alloc, &mut workers, merges)?;
+    Ok((sessions_back(alloc, workers)?, blocks))
 }

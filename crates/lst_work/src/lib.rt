@@ -2,6 +2,7 @@
 //! after phase. What the replies tell, and what the lines leave of what each session and the merger know, is told by `work_on`.
 #![tactic(auto)]
 
+mod blocks;
 mod gates;
 mod hearing;
 mod hiring;

@@ -3,9 +3,11 @@ ghost use Rattle.std.specs.Prelude.{◌≡◌, ◌+◌, ◌<◌, ◌^◌, length
 ghost use Rattle.std.specs.List.{All};
 ghost use Rattle.lst_session.specs.Parting.{IsMergerOf};
 ghost use Rattle.lst_session.specs.Replies as replies;
-ghost use Rattle.lst_work.specs.Merges.{Merged, HasMerged};
+ghost use Rattle.lst_work.specs.Merges.{Merged, MergedBlocks, HasMerged};
+ghost use Rattle.lst_work.specs.Blocks.{blocks_of};
 ghost use Rattle.lst_legal_work.specs.Runs.{CanRun};
 
+use crate::blocks::first_block;
 use crate::gates::Gate;
 use crate::paces::Pace;
 use lst_model::{Line, OutOfMemory, Reply};
@@ -13,23 +15,31 @@ use lst_rule::Store;
 use lst_session::{Merge, Merger};
 use std::alloc::Global;
 use std::collections::VecDeque;
+use std::mem;
 use std::sync::Wait;
 
-/// The replies to the merges that were made, in order.
+/// The replies to the merges that were made, in order and by block.
 #[derive(Drop)]
 pub(crate) struct MergeQueue {
+    /// The replies to the merges of the block at hand.
     pub(crate) replies: VecDeque<Reply>,
+    /// Those to the merges of each block before it.
+    pub(crate) parts: Vec<VecDeque<Reply>>,
+    /// How many merges were made.
+    pub(crate) made: u64,
     /// Memory ran out, and the rest of the lines was given up.
     pub(crate) has_failed: bool,
 }
 
 /// A queue of no replies.
 pub(crate) fn empty_queue(alloc: Global) -> MergeQueue
-    ensures none { result.replies.items ≡ [] }
+    ensures none { result.parts.items ≡ [] }
     ensures ready { result.has_failed ≡ false }
 {
     MergeQueue {
         replies: VecDeque::new(alloc),
+        parts: Vec::new(alloc),
+        made: 0,
         has_failed: false,
     }
 }
@@ -60,6 +70,7 @@ fn merge_page(
 {
     let answer = merger.merge(store, range, column);
     queue.replies.push_back(merge_reply(answer))?;
+    queue.made = queue.made.saturating_add(1);
     Ok(())
 }
 
@@ -82,7 +93,7 @@ fn merge_line<R: Wait, G: Gate>(
     let Line::Merge { range, column } = line else {
         return Ok(());
     };
-    pace.wait_for_all(rt, queue.replies.len() as u64 + 1);
+    pace.wait_for_all(rt, queue.made.saturating_add(1));
     let number = store.layout().limits.sessions;
     gate.at(number, place, false);
     merge_page(store, *range, *column, merger, queue)?;
@@ -114,9 +125,64 @@ fn merge_lines<R: Wait, G: Gate>(
     Ok(())
 }
 
+/// Makes the merges of a block, and puts their replies behind those to the blocks before it.
+fn merge_block<R: Wait, G: Gate>(
+    rt: &R,
+    alloc: Global,
+    store: &Store,
+    pace: &Pace,
+    gate: &G,
+    first: u64,
+    block: &[Line],
+    merger: &mut Merger,
+    queue: &mut MergeQueue,
+) -> Result<(), OutOfMemory>
+    requires merger { IsMergerOf store.now merger.old }
+    requires can { All (CanRun store.now.layout.limits) block.now }
+    requires places { first + length block.now < 2 ^ 64 }
+    ensures merger { IsMergerOf store.now merger.new }
+    ensures merged { OnOk result (MergedBlocks (block.now ∷ []) merger.old merger.new queue.old queue.new) }
+{
+    queue.replies = VecDeque::new(alloc);
+    merge_lines(rt, store, pace, gate, first, block, merger, queue)?;
+    let replies = mem::replace(&mut queue.replies, VecDeque::new(alloc));
+    queue.parts.push(replies)?;
+    Ok(())
+}
+
+/// Makes the merges among these lines, block by block.
+fn merge_blocks<R: Wait, G: Gate>(
+    rt: &R,
+    alloc: Global,
+    store: &Store,
+    pace: &Pace,
+    gate: &G,
+    first: u64,
+    lines: &[Line],
+    merger: &mut Merger,
+    queue: &mut MergeQueue,
+) -> Result<(), OutOfMemory>
+    requires merger { IsMergerOf store.now merger.old }
+    requires can { All (CanRun store.now.layout.limits) lines.now }
+    requires places { first + length lines.now < 2 ^ 64 }
+    ensures merger { IsMergerOf store.now merger.new }
+    ensures merged { OnOk result (MergedBlocks (blocks_of lines.now) merger.old merger.new queue.old queue.new) }
+{
+    let mut rest = lines;
+    let mut place = first;
+    while !rest.is_empty() {
+        let (block, after) = first_block(rest);
+        merge_block(rt, alloc, store, pace, gate, place, block, merger, queue)?;
+        place += block.len() as u64;
+        rest = after;
+    }
+    Ok(())
+}
+
 /// Makes the merges among these lines, unless memory runs out.
 pub(crate) fn run_merges<R: Wait, G: Gate>(
     rt: &R,
+    alloc: Global,
     store: &Store,
     pace: &Pace,
     gate: &G,
@@ -130,7 +196,7 @@ pub(crate) fn run_merges<R: Wait, G: Gate>(
     requires places { first + length lines.now < 2 ^ 64 }
     ensures { HasMerged store.now lines.now merger.old merger.new queue.old queue.new }
 {
-    if merge_lines(rt, store, pace, gate, first, lines, merger, queue).is_err() {
+    if merge_blocks(rt, alloc, store, pace, gate, first, lines, merger, queue).is_err() {
         queue.has_failed = true;
     }
 }

@@ -1,9 +1,9 @@
 //! The replies of all workers, put into the order of the lines.
-ghost use Rattle.std.specs.Prelude.{◌≡◌, ◌≢◌, ◌+◌, ◌<◌, ◌∷◌, length, map, OnOk, ℕ};
+ghost use Rattle.std.specs.Prelude.{◌≡◌, ◌≢◌, ◌+◌, ◌<◌, ◌∷◌, ◌++◌, length, map, replicate, OnOk, ℕ};
 ghost use Rattle.std.specs.List.{All};
 ghost use Rattle.lst_model.specs.Lines.{LineFits};
 ghost use Rattle.lst_replies.specs.Runs.{speaker_of};
-ghost use Rattle.lst_work.specs.Orders.{queue_at, lines_from, AreInOrder, GrowsBy};
+ghost use Rattle.lst_work.specs.Orders.{queue_at, lines_from, placeholder, AreInOrder};
 ghost use Rattle.lst_legal_work.specs.Orders.{queue_of};
 
 use lst_model::{Line, OutOfMemory, Reply};
@@ -33,41 +33,38 @@ fn speaker(line: &Line) -> Option<u32>
     }
 }
 
-/// Makes room behind these replies for so many more, and writes each place of it once: so the process has the memory when they are put there. Nothing is
-/// promised of the room, and where memory doesn't suffice there is none.
-pub(crate) fn make_room(replies: &mut Vec<(Option<u32>, Reply)>, more: usize)
-    ensures { replies.new.items ≡ replies.old.items }
+/// Puts so many placeholders behind these replies: so the process has the memory when the replies are put there.
+pub(crate) fn make_room(
+    replies: &mut Vec<(Option<u32>, Reply)>,
+    more: usize,
+) -> Result<(), OutOfMemory>
+    ensures { OnOk result (replies.new.items ≡ replies.old.items ++ replicate more placeholder) }
 {
-    let count = replies.len();
-    if replies.reserve(more).is_err() {
-        return;
-    }
+    replies.reserve(more)?;
     for _ in 0..more {
-        if replies.push((None, Reply::Silent)).is_err() {
-            break;
-        }
+        replies.push((None, Reply::Silent))?;
     }
-    replies.truncate(count);
+    Ok(())
 }
 
-/// Puts the replies to these lines behind others, in the order of the lines. Each session's stand in the queue with its number, and those to merges
-/// in the last one.
+/// Puts the replies to these lines into as many places, in the order of the lines. Each session's stand in the queue with its number, and those to
+/// merges in the last one.
 pub(crate) fn put_in_order(
     sessions: u32,
     lines: &[Line],
     queues: &mut [VecDeque<Reply>],
-    replies: &mut Vec<(Option<u32>, Reply)>,
-) -> Result<(), OutOfMemory>
+    places: &mut [(Option<u32>, Reply)],
+)
     requires wide { length queues.old ≡ sessions + 1 }
     requires fits { (ranges columns : ℕ) × All (LineFits sessions ranges columns) lines.now }
     requires long { (queue : ℕ) → length (queue_at (map (λ q. q.items) queues.old) queue) ≡ lines_from sessions queue lines.now }
-    ensures { OnOk result (GrowsBy (AreInOrder sessions lines.now (map (λ q. q.items) queues.old)) replies.old.items replies.new.items) }
+    requires room { length places.old ≡ length lines.now }
+    ensures room { length places.new ≡ length places.old }
+    ensures order { AreInOrder sessions lines.now (map (λ q. q.items) queues.old) places.new }
 {
-    replies.reserve(lines.len())?;
     for i in 0..lines.len() {
         let speaker = speaker(&lines[i]);
         let reply = taken(queues, speaker.unwrap_or(sessions) as usize);
-        replies.push((speaker, reply))?;
+        places[i] = (speaker, reply);
     }
-    Ok(())
 }

@@ -1,9 +1,10 @@
 //! A phase: the lines of all sessions and the merges, side by side.
-ghost use Rattle.std.specs.Prelude.{◌≡◌, ◌+◌, ◌<◌, ◌^◌, length};
+ghost use Rattle.std.specs.Prelude.{◌≡◌, ◌+◌, ◌<◌, ◌^◌, ◌++◌, length, replicate, false};
 ghost use Rattle.std.specs.List.{All};
 ghost use Rattle.std.specs.Thread.{IsSync};
 ghost use Rattle.lst_session.specs.Parting.{IsMergerOf};
 ghost use Rattle.lst_work.specs.Merges.{HasMerged};
+ghost use Rattle.lst_work.specs.Orders.{placeholder};
 ghost use Rattle.lst_legal_work.specs.Runs.{CanRun};
 ghost use Rattle.lst_session.specs.Passes.{IsReady};
 ghost use Rattle.lst_work.specs.Workers.{AreReady, AllHaveWorked, HasWorked};
@@ -85,9 +86,10 @@ fn run_beside<R: Threads + Wait + Sync, G: Gate + Sync>(
     join_mut(rt, &mut one, &mut rest);
 }
 
-/// Makes room for the replies to these lines, behind those to earlier ones, and then the merges among the lines.
+/// Makes room for the replies to these lines, behind those to earlier ones, and then the merges among the lines, unless memory runs out.
 fn make_room_and_merge<R: Wait, G: Gate>(
     rt: &R,
+    alloc: Global,
     store: &Store,
     pace: &Pace,
     gate: &G,
@@ -101,10 +103,13 @@ fn make_room_and_merge<R: Wait, G: Gate>(
     requires can { All (CanRun store.now.layout.limits) lines.now }
     requires places { first + length lines.now < 2 ^ 64 }
     ensures merges { HasMerged store.now lines.now merger.old merger.new queue.old queue.new }
-    ensures replies { replies.new.items ≡ replies.old.items }
+    ensures room { queue.new.has_failed ≡ false → replies.new.items ≡ replies.old.items ++ replicate (length lines.now) placeholder }
 {
-    make_room(replies, lines.len());
-    run_merges(rt, store, pace, gate, first, lines, merger, queue);
+    if make_room(replies, lines.len()).is_err() {
+        queue.has_failed = true;
+        return;
+    }
+    run_merges(rt, alloc, store, pace, gate, first, lines, merger, queue);
 }
 
 /// The workers run their sessions' lines beside each other, and beside them the merge worker makes room behind the replies to earlier lines, and the
@@ -128,7 +133,7 @@ pub(crate) fn run_phase<R: Threads + Wait + Sync, G: Gate + Sync>(
     requires places { first + length lines.now < 2 ^ 64 }
     ensures sessions { AllHaveWorked store.now lines.now workers.old workers.new }
     ensures merges { HasMerged store.now lines.now merger.old merger.new queue.old queue.new }
-    ensures replies { replies.new.items ≡ replies.old.items }
+    ensures room { queue.new.has_failed ≡ false → replies.new.items ≡ replies.old.items ++ replicate (length lines.now) placeholder }
 {
     let pace = Pace::new(workers.len());
     join_mut(
@@ -137,7 +142,11 @@ pub(crate) fn run_phase<R: Threads + Wait + Sync, G: Gate + Sync>(
             requires merger { IsMergerOf store.now merger.now }
             requires can { All (CanRun store.now.layout.limits) lines.now }
             requires places { first + length lines.now < 2 ^ 64 }
-        { make_room_and_merge(rt, store, &pace, gate, first, lines, merger, queue, replies) },
+        {
+            make_room_and_merge(
+                rt, alloc, store, &pace, gate, first, lines, merger, queue, replies,
+            )
+        },
         &mut ||
             requires ready { AreReady store.now workers.now }
             requires can { All (CanRun store.now.layout.limits) lines.now }

@@ -1,22 +1,23 @@
 //! The phases of a script, one after another.
-ghost use Rattle.std.specs.Prelude.{◌≡◌, ◌+◌, ◌<◌, ◌≤◌, ◌^◌, length, OnOk, IfOk, slice_range};
+ghost use Rattle.std.specs.Prelude.{◌≡◌, ◌+◌, ◌<◌, ◌≤◌, ◌^◌, ◌++◌, length, replicate, OnOk, IfOk, slice_range};
 ghost use Rattle.std.specs.List.{All, list_any};
 ghost use Rattle.lst_model.specs.Lines.{LineFits};
 ghost use Rattle.lst_session.specs.Parting.{IsMergerOf};
-ghost use Rattle.lst_work.specs.Merges.{Merged};
+ghost use Rattle.lst_work.specs.Merges.{MergedBlocks};
 ghost use Rattle.lst_replies.specs.Runs.{is_phase};
-ghost use Rattle.lst_work.specs.Orders.{GrowsBy};
+ghost use Rattle.lst_work.specs.Orders.{GrowsBy, placeholder};
+ghost use Rattle.lst_work.specs.Blocks.{blocks_of};
 ghost use Rattle.lst_work.specs.Parts.{AreWithin, EndsAt, IsPart};
 ghost use Rattle.lst_legal_work.specs.Phases.{HaveRunThrough};
 ghost use Rattle.lst_legal_work.specs.Whole.{AreAll, IsPhase};
 ghost use Rattle.lst_legal_work.specs.Runs.{CanRun};
 ghost use Rattle.lst_work.specs.Workers.{AreReady, HaveRun};
 
+use crate::blocks::order_phase;
 use crate::gates::Gate;
 use crate::hearing::heard;
 use crate::hiring::{dismissed, hired};
 use crate::merging::{MergeQueue, empty_queue};
-use crate::orders::put_in_order;
 use crate::phases::run_phase;
 use crate::workers::Worker;
 use lst_model::{Line, OutOfMemory, Reply};
@@ -33,7 +34,7 @@ fn has_any_failed(workers: &[Worker]) -> bool
     workers.iter().any(|worker| worker.has_failed)
 }
 
-/// Runs a phase, unless memory runs out.
+/// Runs a phase, and makes room for its replies behind the earlier ones, unless memory runs out.
 fn try_phase<R: Threads + Wait + Sync, G: Gate + Sync>(
     rt: &R,
     alloc: Global,
@@ -54,8 +55,8 @@ fn try_phase<R: Threads + Wait + Sync, G: Gate + Sync>(
     ensures ready { AreReady store.now workers.new }
     ensures merger { IsMergerOf store.now merger.new }
     ensures ran { OnOk result (HaveRun lines.now workers.old workers.new) }
-    ensures merged { OnOk result (Merged lines.now merger.old merger.new queue.old queue.new) }
-    ensures replies { replies.new.items ≡ replies.old.items }
+    ensures merged { OnOk result (MergedBlocks (blocks_of lines.now) merger.old merger.new queue.old queue.new) }
+    ensures room { OnOk result (replies.new.items ≡ replies.old.items ++ replicate (length lines.now) placeholder) }
 {
     run_phase(
         rt, alloc, store, lock, gate, first, lines, workers, merger, queue, replies,
@@ -89,6 +90,7 @@ fn phase_onto<R: Threads + Wait + Sync, G: Gate + Sync>(
     ensures phase { IfOk result (λ done. GrowsBy (IsPhase lines.now sessions.items done.items merger.old.seat.view merger.new.seat.view) replies.old.items replies.new.items) }
 {
     let count = store.layout().limits.sessions;
+    let earlier = replies.len();
     let mut workers = hired(alloc, sessions)?;
     let mut queue = empty_queue(alloc);
     try_phase(
@@ -104,8 +106,8 @@ fn phase_onto<R: Threads + Wait + Sync, G: Gate + Sync>(
         &mut queue,
         replies,
     )?;
-    let (sessions, mut queues) = dismissed(alloc, workers, queue.replies)?;
-    put_in_order(count, lines, queues.as_mut_slice(), replies)?;
+    let (sessions, blocks) = dismissed(alloc, workers, queue.parts)?;
+    order_phase(rt, count, lines, blocks, earlier, replies);
     Ok(sessions)
 }
 

@@ -3,8 +3,10 @@ ghost use Rattle.std.specs.Prelude.{◌≡◌, ◌+◌, ◌<◌, ◌^◌, length
 ghost use Rattle.std.specs.List.{All};
 ghost use Rattle.lst_session.specs.Passes.{IsReady};
 ghost use Rattle.lst_legal_work.specs.Runs.{CanRun};
-ghost use Rattle.lst_work.specs.Workers.{Ran, HasWorked};
+ghost use Rattle.lst_work.specs.Workers.{Ran, RanBlocks, HasWorked};
+ghost use Rattle.lst_work.specs.Blocks.{blocks_of};
 
+use crate::blocks::first_block;
 use crate::gates::Gate;
 use crate::lines::line_reply;
 use crate::paces::Pace;
@@ -12,13 +14,17 @@ use lst_model::{Call, Line, OutOfMemory, Reply};
 use lst_rule::Store;
 use lst_session::{CommitLock, Session};
 use std::alloc::Global;
+use std::mem;
 use std::sync::Wait;
 
-/// One session's pass, with the replies to the lines that it has run, in order.
+/// One session's pass, with the replies to the lines that it has run, in order and by block.
 #[derive(Drop)]
 pub(crate) struct Worker {
     pub(crate) session: Session,
+    /// The replies to the lines of the block at hand.
     pub(crate) replies: Vec<Reply>,
+    /// Those to the lines of each block before it.
+    pub(crate) parts: Vec<Vec<Reply>>,
     /// Memory ran out, and the rest of the lines was given up.
     pub(crate) has_failed: bool,
 }
@@ -29,12 +35,13 @@ impl Worker {
     /// A worker that has run nothing yet.
     pub(crate) fn new(alloc: Global, session: Session) -> Worker
         ensures session { result.session ≡ session }
-        ensures none { result.replies.items ≡ [] }
+        ensures none { result.parts.items ≡ [] }
         ensures ready { result.has_failed ≡ false }
     {
         Worker {
             session,
             replies: Vec::new(alloc),
+            parts: Vec::new(alloc),
             has_failed: false,
         }
     }
@@ -94,7 +101,7 @@ fn run_line<R: Wait, G: Gate>(
 }
 
 /// Runs the session's lines among these. The first of them has the place `first` in the script.
-pub(crate) fn run_lines<R: Wait, G: Gate>(
+fn run_lines<R: Wait, G: Gate>(
     rt: &R,
     alloc: Global,
     store: &Store,
@@ -119,6 +126,62 @@ pub(crate) fn run_lines<R: Wait, G: Gate>(
     Ok(())
 }
 
+/// Runs the session's lines of a block, and puts their replies behind those to the blocks before it.
+fn run_block<R: Wait, G: Gate>(
+    rt: &R,
+    alloc: Global,
+    store: &Store,
+    lock: &CommitLock,
+    pace: &Pace,
+    gate: &G,
+    first: u64,
+    block: &[Line],
+    worker: &mut Worker,
+) -> Result<(), OutOfMemory>
+    requires ready { IsReady store.now worker.old.session }
+    requires can { All (CanRun store.now.layout.limits) block.now }
+    requires places { first + length block.now < 2 ^ 64 }
+    ensures ready { IsReady store.now worker.new.session }
+    ensures number { worker.new.session.number ≡ worker.old.session.number }
+    ensures ran { OnOk result (RanBlocks (block.now ∷ []) worker.old worker.new) }
+{
+    worker.replies = Vec::new(alloc);
+    run_lines(rt, alloc, store, lock, pace, gate, first, block, worker)?;
+    let replies = mem::replace(&mut worker.replies, Vec::new(alloc));
+    worker.parts.push(replies)?;
+    Ok(())
+}
+
+/// Runs the session's lines among these, block by block.
+fn run_blocks<R: Wait, G: Gate>(
+    rt: &R,
+    alloc: Global,
+    store: &Store,
+    lock: &CommitLock,
+    pace: &Pace,
+    gate: &G,
+    first: u64,
+    lines: &[Line],
+    worker: &mut Worker,
+) -> Result<(), OutOfMemory>
+    requires ready { IsReady store.now worker.old.session }
+    requires can { All (CanRun store.now.layout.limits) lines.now }
+    requires places { first + length lines.now < 2 ^ 64 }
+    ensures ready { IsReady store.now worker.new.session }
+    ensures number { worker.new.session.number ≡ worker.old.session.number }
+    ensures ran { OnOk result (RanBlocks (blocks_of lines.now) worker.old worker.new) }
+{
+    let mut rest = lines;
+    let mut place = first;
+    while !rest.is_empty() {
+        let (block, after) = first_block(rest);
+        run_block(rt, alloc, store, lock, pace, gate, place, block, worker)?;
+        place += block.len() as u64;
+        rest = after;
+    }
+    Ok(())
+}
+
 /// Runs the session's lines among these, unless memory runs out.
 pub(crate) fn work_phase<R: Wait, G: Gate>(
     rt: &R,
@@ -136,7 +199,7 @@ pub(crate) fn work_phase<R: Wait, G: Gate>(
     requires places { first + length lines.now < 2 ^ 64 }
     ensures { HasWorked store.now lines.now worker.old worker.new }
 {
-    if run_lines(rt, alloc, store, lock, pace, gate, first, lines, worker).is_err() {
+    if run_blocks(rt, alloc, store, lock, pace, gate, first, lines, worker).is_err() {
         worker.has_failed = true;
     }
     pace.leave(rt, worker.session.number);
