@@ -44,15 +44,16 @@ const MANY: Limits = Limits {
 
 /// A store with all its sessions and its merger.
 #[derive(Drop)]
-struct Opened {
-    store: Store,
-    sessions: Sessions,
-    merger: Merger,
-    ghost all: { AreAll store sessions },
-    ghost ready: { IsMergerOf store merger },
+pub(crate) struct Opened {
+    pub(crate) store: Store,
+    pub(crate) sessions: Sessions,
+    pub(crate) merger: Merger,
+    pub(crate) ghost all: { AreAll store sessions },
+    pub(crate) ghost ready: { IsMergerOf store merger },
 }
 
-fn open_all(alloc: Global, limits: &Limits) -> Result<Opened, Fail>
+/// Opens such a store.
+pub(crate) fn open_all(alloc: Global, limits: &Limits) -> Result<Opened, Fail>
     ensures { IfOk result (λ on. on.store.layout.limits ≡ limits.now) }
 {
     let Ok(layout) = limits.check() else {
@@ -96,7 +97,7 @@ fn line_fits(limits: &Limits, line: &Line) -> bool
 }
 
 /// Whether it takes each line.
-fn lines_fit(limits: &Limits, lines: &[Line]) -> bool
+pub(crate) fn lines_fit(limits: &Limits, lines: &[Line]) -> bool
     ensures { IsTrue result → All (LineFits limits.now.sessions limits.now.ranges limits.now.columns) lines.now }
 {
     for i in 0..lines.len() {
