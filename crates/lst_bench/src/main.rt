@@ -7,6 +7,7 @@ mod engines;
 mod making;
 mod packs;
 mod phases;
+mod reads;
 mod reports;
 mod runs;
 mod sums;
@@ -17,6 +18,7 @@ use lst_layout::{Layout, Limits};
 use lst_seat::open_store;
 use packs::{deed_of, packs};
 use phases::phases;
+use reads::gets;
 use reports::{Task, reports};
 use runs::{clocks, finds, head_runs, heads, time_runs, turns};
 use std::alloc::Global;
@@ -65,6 +67,11 @@ fn answer<R: Threads + Wait + Sync>(
 ) -> Option<u64> {
     if let Some(task) = task_of(kind) {
         return works(rt, alloc, task, count).ok();
+    }
+    match kind.split_once('_') {
+        Some(("rows", forms)) => return gets(alloc, forms, true, count).ok(),
+        Some(("versions", forms)) => return gets(alloc, forms, false, count).ok(),
+        _ => {}
     }
     if let Some((deed, form)) = deed_of(kind) {
         return Some(packs(deed, form, count));

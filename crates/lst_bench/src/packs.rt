@@ -26,7 +26,7 @@ pub fn deed_of(kind: &str) -> Option<(Deed, &str)> {
 }
 
 /// 256 values that a form packs in the fewest words.
-fn values_of(form: &str) -> [u64; 256] {
+pub(crate) fn values_of(form: &str) -> [u64; 256] {
     let mut values = [5; 256];
     for place in 0..256 {
         let number = place as u64;

@@ -1,5 +1,5 @@
 //! Scripts on which sessions work side by side, each on keys of its own, or all on one key.
-ghost use Rattle.std.specs.Prelude.{◌≡◌, ◌<◌, ◌≤◌, IfOk, OnOk};
+ghost use Rattle.std.specs.Prelude.{◌≡◌, ◌<◌, IfOk, OnOk};
 ghost use Rattle.std.specs.List.{All};
 ghost use Rattle.lst_model.specs.Lines.{CallFits, LineFits};
 
@@ -15,16 +15,23 @@ use std::thread::Threads;
 /// Each has a row from the first commit on. They are put in order, so 256 of them are in each range of records.
 const KEYS: u64 = 1024;
 
-/// The limits of the store.
-const LIMITS: Limits = Limits {
-    columns: 2,
-    ranges: 4,
-    tails: 9_216,
-    sessions: 4,
-    txns: 33_400,
-    spare: 8,
-    indexed: 0,
-};
+/// The limits of a store that has the size which a script takes, with about so many lines behind its first phase, by so many sessions.
+fn limits_for(sessions: u32, lines: u32) -> Limits
+    requires { 0 < sessions }
+    ensures sessions { result.sessions ≡ sessions }
+    ensures ranges { result.ranges ≡ 4 }
+    ensures columns { result.columns ≡ 2 }
+{
+    Limits {
+        columns: 2,
+        ranges: 4,
+        tails: 9_216,
+        sessions,
+        txns: lines / 6 / sessions + 2,
+        spare: 8,
+        indexed: 0,
+    }
+}
 
 /// What is done with a script of such a kind.
 #[derive(Clone, Copy)]
@@ -35,7 +42,7 @@ pub struct Task {
     keys: u64,
     /// Whether it is run, or drawn alone.
     runs: bool,
-    ghost few: { sessions ≤ 4 },
+    ghost some: { 0 < sessions },
 }
 
 /// The task of a kind of run, or None where there is none of this name.
@@ -62,14 +69,17 @@ pub fn task_of(kind: &str) -> Option<Task> {
 struct Drawing {
     lines: Vec<Line>,
     seed: u64,
+    /// Of how many sessions the lines are.
+    sessions: u32,
 }
 
 impl Drawing {
     /// Adds a call of a session.
     fn ask(&mut self, session: u32, call: Call) -> Result<(), OutOfMemory>
-        requires call { (session < 4) × CallFits 2 call }
-        requires fits { All (LineFits 4 4 2) self.old.lines.items }
-        ensures fits { OnOk result (All (LineFits 4 4 2) self.new.lines.items) }
+        requires call { (session < self.old.sessions) × CallFits 2 call }
+        requires fits { All (LineFits self.old.sessions 4 2) self.old.lines.items }
+        ensures fits { OnOk result (All (LineFits self.old.sessions 4 2) self.new.lines.items) }
+        ensures same { self.new.sessions ≡ self.old.sessions }
     {
         self.lines.push(Line::Call { session, call })?;
         Ok(())
@@ -77,8 +87,10 @@ impl Drawing {
 
     /// The first phase, which puts each key.
     fn fill(&mut self) -> Result<(), OutOfMemory>
-        requires fits { All (LineFits 4 4 2) self.old.lines.items }
-        ensures fits { OnOk result (All (LineFits 4 4 2) self.new.lines.items) }
+        requires some { 0 < self.old.sessions }
+        requires fits { All (LineFits self.old.sessions 4 2) self.old.lines.items }
+        ensures fits { OnOk result (All (LineFits self.old.sessions 4 2) self.new.lines.items) }
+        ensures same { self.new.sessions ≡ self.old.sessions }
     {
         self.ask(0, Call::Begin)?;
         for key in 0..KEYS {
@@ -97,7 +109,8 @@ impl Drawing {
 
     /// A key of a session.
     fn key(&mut self, session: u32, keys: u64) -> u64
-        ensures { self.new.lines ≡ self.old.lines }
+        ensures lines { self.new.lines ≡ self.old.lines }
+        ensures same { self.new.sessions ≡ self.old.sessions }
     {
         let first = if keys == 1 { 0 } else { u64::from(session) };
         first
@@ -107,9 +120,10 @@ impl Drawing {
 
     /// A transaction of six lines. One in ten is rolled back.
     fn transact(&mut self, session: u32, keys: u64) -> Result<(), OutOfMemory>
-        requires session { session < 4 }
-        requires fits { All (LineFits 4 4 2) self.old.lines.items }
-        ensures fits { OnOk result (All (LineFits 4 4 2) self.new.lines.items) }
+        requires session { session < self.old.sessions }
+        requires fits { All (LineFits self.old.sessions 4 2) self.old.lines.items }
+        ensures fits { OnOk result (All (LineFits self.old.sessions 4 2) self.new.lines.items) }
+        ensures same { self.new.sessions ≡ self.old.sessions }
     {
         self.ask(session, Call::Begin)?;
         let key = self.key(session, keys);
@@ -128,11 +142,12 @@ impl Drawing {
 
 /// The script of a task, with about so many lines behind its first phase.
 fn script(alloc: Global, task: Task, lines: u32) -> Result<Script, OutOfMemory>
-    ensures { IfOk result (All (LineFits 4 4 2)) }
+    ensures { IfOk result (All (LineFits task.sessions 4 2)) }
 {
     let mut drawing = Drawing {
         lines: Vec::new(alloc),
         seed: 1,
+        sessions: task.sessions,
     };
     drawing.fill()?;
     let mut session = 0;
@@ -155,7 +170,7 @@ pub fn works<R: Threads + Wait + Sync>(
     task: Task,
     lines: u32,
 ) -> Result<u64, OutOfMemory> {
-    let Ok(layout) = LIMITS.check() else {
+    let Ok(layout) = limits_for(task.sessions, lines).check() else {
         return Ok(0);
     };
     let script = script(alloc, task, lines)?;
