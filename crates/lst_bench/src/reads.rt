@@ -3,6 +3,7 @@ ghost use Rattle.std.specs.Prelude.{◌<◌};
 ghost use Rattle.lst_session.specs.Crews.{IsCrewOf};
 
 use crate::packs::values_of;
+use crate::sums::merge_all;
 use arrayvec::ArrayVec;
 use lst_layout::Limits;
 use lst_model::{Key, OutOfMemory, Row};
@@ -50,19 +51,6 @@ fn fill(store: &Store, crew: &mut Crew, first: &[u64; 256], second: &[u64; 256])
         }
     }
     crew.seat.limits().sessions > 0 && crew.commit(store, 0).is_ok()
-}
-
-/// Merges the pages of the first range.
-fn merge_all(store: &Store, crew: &mut Crew)
-    requires { IsCrewOf store.now crew.old }
-    ensures { IsCrewOf store.now crew.new }
-{
-    for column in 0..2 {
-        let limits = crew.seat.limits();
-        if limits.ranges > 0 && column < limits.columns {
-            crew.merge(store, 0, column);
-        }
-    }
 }
 
 /// Gets the rows of the keys 0 to 255 in turn, in a transaction of session 0, and adds up the numbers of their second column.

@@ -103,15 +103,17 @@ fn rewrite(store: &Store, crew: &mut Crew, later: u32) -> bool
     true
 }
 
-/// Merges the page of each range.
-fn merge_all(store: &Store, crew: &mut Crew)
+/// Merges the page of each range and column.
+pub(crate) fn merge_all(store: &Store, crew: &mut Crew)
     requires { IsCrewOf store.now crew.old }
     ensures { IsCrewOf store.now crew.new }
 {
-    for range in 0..RANGES {
-        let limits = crew.seat.limits();
-        if range < limits.ranges && limits.columns > 0 {
-            crew.merge(store, range, 0);
+    for range in 0..store.layout().limits.ranges {
+        for column in 0..store.layout().limits.columns {
+            let limits = crew.seat.limits();
+            if range < limits.ranges && column < limits.columns {
+                crew.merge(store, range, column);
+            }
         }
     }
 }

@@ -1,5 +1,0 @@
-use Rattle.lst_session.specs.Crews.{IsCrewOf}
-use Rattle.lst_bench.proofs.reads.merge_all.Given as goal
-
-abbrev pub invariant-loop-column : goal.invariant-loop-column
-invariant-loop-column l = IsCrewOf l.store l.crew
