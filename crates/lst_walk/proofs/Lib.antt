@@ -7,6 +7,7 @@ pub mod Stamping
 pub mod Filling
 pub mod Walking
 pub mod Acting
+pub mod Setting
 pub mod Resolving
 pub mod Tails
 pub mod Entries

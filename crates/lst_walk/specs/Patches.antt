@@ -1,5 +1,6 @@
 -- Rows and patches that a walk makes, newest version first.
-use Rattle.std.specs.Prelude.{◌≡◌, ℕ, List, [], ◌∷◌, cond, Option, Some, None, length}
+use Rattle.std.specs.Prelude.{◌≡◌, ◌≢◌, ℕ, List, [], ◌∷◌, cond, Option, Some, None, length, slice_get}
+use Rattle.lst_bits.specs.Encodings.{HasColumn}
 use Rattle.lst_model.specs.Cells.{Cell, number_at, cells_of}
 use Rattle.lst_model.specs.Histories.{row_after}
 use Rattle.lst_core_state.specs.Cells.{nulls_of}
@@ -21,6 +22,10 @@ abbrev pub merged : List (Option Cell) → List (Option Cell) → List (Option C
 merged [] older = []
 merged (x ∷ newer) [] = x ∷ newer
 merged (x ∷ newer) (y ∷ older) = newest x y ∷ merged newer older
+
+-- the patch sets each column that the mask holds, and has
+abbrev pub AreSet : ℕ → List (Option Cell) → Type 0
+AreSet mask patch = (column : ℕ) → HasColumn mask column → slice_get patch column ≢ Some None
 
 -- the row after a version, where older ones leave this row
 abbrev pub seen_after : Known → ℕ → Version → Option (List Cell) → Option (List Cell)

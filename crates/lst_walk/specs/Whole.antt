@@ -11,6 +11,7 @@ use Rattle.lst_rule.specs.Rule.{knows, hosts}
 use Rattle.lst_rule.specs.Seats.{Sitting}
 use Rattle.lst_rule.specs.Stores.{Looked}
 use Rattle.lst_sights.specs.Watching.{Watched}
+use Rattle.lst_walk.specs.Patches.{AreSet}
 use Rattle.lst_walk.specs.Readers.{IsReader}
 use Rattle.lst_walk.specs.Packed.{Skims}
 use Rattle.lst_walk.specs.Pages.{Takes, ReadsPage, SavesRow}
@@ -70,7 +71,8 @@ pub record RowBy (v w : View) (s rec : ℕ) (found : Option (List Cell)) : Type 
 abbrev pub row_where : Bool → List Cell → Option (List Cell)
 row_where is_there row = cond is_there (Some row) None
 
--- the walk for a row from the number n on, for each view at which the call for it may have begun; it is at the number m. Some column isn't set
-pub record RowOnWalk (store : Store) (a seat : Sitting) (s rec n m : ℕ) (entries : List Entry) (patch : List (Option Cell)) : Type 0 where
+-- the walk for a row from the number n on, for each view at which the call for it may have begun; it is at the number m. Some column isn't set, and those that the mask holds are
+pub record RowOnWalk (store : Store) (a seat : Sitting) (s rec n m : ℕ) (entries : List Entry) (patch : List (Option Cell)) (set : ℕ) : Type 0 where
   pub goes : (v : View) → PagedRow store v a s rec n 0 [] → RowPages store v seat s rec m entries patch
   pub unset : list_all is_some patch ≡ false
+  pub held : AreSet set patch

@@ -9,7 +9,7 @@ ghost use Rattle.lst_rule.specs.Stores.{IsSeatOf};
 ghost use Rattle.lst_sights.specs.Copies.{Version};
 ghost use Rattle.lst_sights.specs.Watching.{Watched};
 ghost use Rattle.lst_walk.specs.Readers.{IsReader, IsAt, HasVersion, LoadsTail, Resolves};
-ghost use Rattle.lst_walk.specs.Patches.{merged};
+ghost use Rattle.lst_walk.specs.Patches.{merged, AreSet};
 ghost use Rattle.lst_walk.specs.Packed.{Skims};
 ghost use Rattle.lst_walk.specs.Taking.{entry_at};
 ghost use Rattle.lst_walk.specs.Pages.{touches_by, is_told, SavesRow};
@@ -135,16 +135,17 @@ fn walked(store: &Store, seat: &mut Seat, s: u32, rec: RecordId, number: u32) ->
     let mut number = number;
     let mut cells = [None; 8];
     let patch = &mut cells[..store.layout().limits.columns as usize];
+    let mut set = 0;
     let entries = entries_of(store, seat, s, rec);
     let last = newest(&entries);
     while number > 0 {
-        match fill(store, seat, s, rec, number, &entries, last, patch) {
+        match fill(store, seat, s, rec, number, &entries, last, patch, &mut set) {
             Filled::Absent => return None,
             Filled::Whole => return Some(row_of(patch)),
             Filled::Partly => {}
         }
         let tail = tail_of(store, range, number);
-        match look(store, seat, s, range, number, patch) {
+        match look(store, seat, s, range, number, patch, &mut set) {
             Visit::Row { nulls } => return Some(row_under(store, seat, s, tail, nulls, patch)),
             Visit::NoRow => return None,
             Visit::Older => number = below(store, seat, s, tail),
@@ -153,7 +154,8 @@ fn walked(store: &Store, seat: &mut Seat, s: u32, rec: RecordId, number: u32) ->
     None
 }
 
-/// Fills each column that the patch doesn't set by the entry of its page, where that may be used at this number. None may be above `last`.
+/// Fills each column that the patch doesn't set by the entry of its page, where that may be used at this number. None may be above `last`. `set` holds
+/// some of the columns that the patch sets.
 fn fill(
     store: &Store,
     seat: &mut Seat,
@@ -163,6 +165,7 @@ fn fill(
     entries: &[Entry; 8],
     last: u64,
     patch: &mut [Option<Option<u64>>],
+    set: &mut u8,
 ) -> Filled
     requires reader { IsReader store.now seat.old s }
     requires number { 0 < number }
@@ -174,10 +177,12 @@ fn fill(
     ensures wide { length patch.new ≡ length patch.old }
     ensures filled { (v : View) → RowPages store.now v seat.old s rec.number number entries.now patch.old → Fills store.now v seat.new s rec.number number entries.now patch.new result }
     ensures sets { SetsAll store.now.layout.limits.columns number entries.now patch.old patch.new result }
+    ensures set { AreSet set.old patch.old → AreSet set.new patch.new }
 {
     if number as u64 > last {
         return Filled::Partly;
     }
+    *set = 0;
     let mut is_used = false;
     for column in 0..store.layout().limits.columns {
         match fill_column(store, seat, s, rec, number, entries, column, patch) {
@@ -240,7 +245,7 @@ fn row_of(patch: &[Option<Option<u64>>]) -> Row
     row
 }
 
-/// Looks at a version of a range, by the number of its tail record, under a patch of newer versions.
+/// Looks at a version of a range, by the number of its tail record, under a patch of newer versions. `set` holds some of the columns that the patch sets.
 fn look(
     store: &Store,
     seat: &mut Seat,
@@ -248,42 +253,49 @@ fn look(
     range: u32,
     number: u32,
     patch: &mut [Option<Option<u64>>],
+    set: &mut u8,
 ) -> Visit
     requires reader { IsReader store.now seat.old s }
     requires range { range < store.now.layout.limits.ranges }
     requires number { (0 < number) × (number ≤ store.now.layout.limits.tails) }
     requires version { HasVersion seat.old.view s (range * store.now.layout.limits.tails + number) }
     requires wide { length patch.old ≡ store.now.layout.limits.columns }
+    requires set { AreSet set.old patch.old }
     ensures reader { IsReader store.now seat.new s }
     ensures watched { Watched seat.old.view seat.new.view s }
     ensures loads { LoadsTail seat.old.view seat.new.view s (range * store.now.layout.limits.tails + number) }
     ensures visited { (c : Version) → IsAt seat.old.view s (range * store.now.layout.limits.tails + number) c → Visited (knows seat.old.view s) s c store.now.layout.limits.columns patch.old patch.new result }
     ensures leaves { (c : Version) → IsAt seat.old.view s (range * store.now.layout.limits.tails + number) c → Leaves (λ column. is_told (knows seat.old.view s) s column c) patch.old patch.new result }
     ensures resolved { Resolves seat.old.view seat.new.view s range number }
+    ensures set { AreSet set.new patch.new }
 {
     if is_seen(store, seat, s, range, number) {
-        acted(store, seat, s, tail_of(store, range, number), patch)
+        acted(store, seat, s, tail_of(store, range, number), patch, set)
     } else {
         Visit::Older
     }
 }
 
-/// Looks at a version that is seen, under a patch of newer versions.
+/// Looks at a version that is seen, under a patch of newer versions. `set` holds some of the columns that the patch sets: a version that sets no other adds
+/// nothing.
 fn acted(
     store: &Store,
     seat: &mut Seat,
     s: u32,
     tail: u32,
     patch: &mut [Option<Option<u64>>],
+    set: &mut u8,
 ) -> Visit
     requires reader { IsReader store.now seat.old s }
     requires version { HasVersion seat.old.view s tail }
     requires wide { length patch.old ≡ store.now.layout.limits.columns }
+    requires set { AreSet set.old patch.old }
     ensures reader { IsReader store.now seat.new s }
     ensures watched { Watched seat.old.view seat.new.view s }
     ensures loads { LoadsTail seat.old.view seat.new.view s tail }
     ensures acted { (c : Version) → IsAt seat.old.view s tail c → Acted c store.now.layout.limits.columns patch.old patch.new result }
     ensures leaves { (c : Version) → IsAt seat.old.view s tail c → Leaves (λ column. touches_by column c.encoding) patch.old patch.new result }
+    ensures set { AreSet set.new patch.new }
 {
     let encoding = encoding(store, seat, s, tail);
     match encoding.kind {
@@ -291,7 +303,11 @@ fn acted(
             nulls: encoding.nulls,
         },
         Kind::Set => {
+            if encoding.mask | *set == *set {
+                return Visit::Older;
+            }
             set_under(store, seat, s, tail, encoding, patch);
+            *set |= encoding.mask;
             if is_whole(patch) {
                 Visit::Row {
                     nulls: encoding.nulls,

@@ -11,6 +11,7 @@ use Rattle.std.specs.List.{list_all}
 use Rattle.lst_walk.proofs.Rowing.{rows_next, rows_saved, rows_held, rows_whole, rows_walked, high_column, unset_still}
 use Rattle.lst_walk.proofs.Straight.{walked_start}
 use Rattle.lst_walk.proofs.Finds.{loads_tail}
+use Rattle.lst_walk.proofs.Setting.{none_known}
 use Rattle.lst_walk.proofs.rows.walked.Goals as goal
 
 pub look-requires-clause-reader : goal.look-requires-clause-reader
@@ -97,6 +98,7 @@ loop-number-init c = let l = ap (λ (y : Layout). y.limits.columns) c.layout.ens
     let is = take_same c.layout.result.now.limits.columns 8 None (omega arith) ∙ ap (λ (n : ℕ). replicate n None) l in record {
       goes = λ v p. walked_start c.args.store.now v c.args.seat.now c.entries_of-entries.new.seat c.args.s c.args.rec.number c.args.number c.entries_of-entries.result _ is p c.entries_of-entries.ensures.takes;
       unset = ap (list_all is_some) is ∙ none_set c.args.store.now.layout.limits.columns c.args.store.now.layout.valid.columns.0;
+      held = none_known 0 _ refl;
     }
 
 pub loop-number-preserved : goal.loop-number-preserved
@@ -105,8 +107,12 @@ loop-number-preserved c = let q = at_number c.args.store.now c.fill.new.seat c.a
       (reader_on c.args.store.now c.look.new.seat c.below-number.new.seat c.args.s c.look.ensures.reader c.below-number.ensures.watched c.below-number.ensures.seat) c.below-number.ensures.watched
       (λ d at. back_at c.look.new.seat.view c.args.s c.tail_of-tail.result c.below-number.result d c.below-number.ensures.back (at_same c.look.new.seat.view c.args.s (c.args.rec.number / 256 * c.args.store.now.layout.limits.tails + c.loop-number.number) c.tail_of-tail.result d (sym c.tail_of-tail.ensures) (at_on c.fill.new.seat.view c.look.new.seat.view c.args.s (c.args.rec.number / 256 * c.args.store.now.layout.limits.tails + c.loop-number.number) d c.look.ensures.watched at)))
       c.in-Older.ensures.leaves c.look.ensures.loads c.tail_of-tail.result c.tail_of-tail.ensures c.below-number.ensures.loads;
+  held = c.look.ensures.set;
   unset = unset_still c.fill.new.patch c.look.new.patch (unset_still c.loop-number.patch c.fill.new.patch c.loop-number.invariant.unset c.in-Partly.ensures.sets.0) (c.in-Older.ensures.leaves q.0 q.3).1;
 }
 
 pub returns-clause-reader : goal.returns-clause-reader
 returns-clause-reader c = (c.loop-number.invariant.goes c.requires.walk.0 c.requires.walk.1).walk.reader
+
+pub look-requires-clause-set : goal.look-requires-clause-set
+look-requires-clause-set c = c.in-Partly.ensures.set c.loop-number.invariant.held
