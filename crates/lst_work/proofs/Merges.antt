@@ -30,10 +30,10 @@ leaves_by v w range column (merges.Idle tps) x = x
 leaves_by v w range column (merges.NoFrame session) x = x
 
 pub merged_page : (range column : ℕ) (answer : Answer) (reply : Reply) (before after : Merger) (old new : MergeQueue) → Merges before.seat.view after.seat.view range column answer
-    → reply ≡ merge_reply answer → new.replies.items ≡ old.replies.items ++ reply ∷ [] → new.parts ≡ old.parts → Merged (Merge range column ∷ []) before after old new
+    → reply ≡ merge_reply answer → new.replies ≡ old.replies ++ reply ∷ [] → new.parts ≡ old.parts → Merged (Merge range column ∷ []) before after old new
 merged_page range column answer reply before after old new x is grows same = record {
   replies = merge_reply answer ∷ [];
-  grows = grows ∙ ap (λ (r : Reply). old.replies.items ++ r ∷ []) is;
+  grows = grows ∙ ap (λ (r : Reply). old.replies ++ r ∷ []) is;
   merging = (after.seat.view, leaves_by before.seat.view after.seat.view range column answer x, refl);
   parts = same;
 }
@@ -42,7 +42,7 @@ merged_page range column answer reply before after old new x is grows same = rec
 pub merged_nothing : (lines : List Line) (merger : Merger) (queue : MergeQueue) → merges_of lines ≡ [] → Merged lines merger merger queue queue
 merged_nothing lines merger queue none = record {
   replies = [];
-  grows = sym (append-nil queue.replies.items);
+  grows = sym (append-nil queue.replies);
   merging = subst (λ (ls : List Line). Merging ls [] merger.seat.view merger.seat.view) (sym none) refl;
   parts = refl;
 }
@@ -60,7 +60,7 @@ merging_on (Merge range column ∷ xs) ys (reply ∷ rs) qs v u w a b = (a.0, a.
 pub merged_on : (xs ys : List Line) (a b c : Merger) (p q r : MergeQueue) → Merged xs a b p q → Merged ys b c q r → Merged (xs ++ ys) a c p r
 merged_on xs ys a b c p q r x y = record {
   replies = x.replies ++ y.replies;
-  grows = y.grows ∙ (ap (λ (rs : List Reply). rs ++ y.replies) x.grows ∙ append_assoc p.replies.items x.replies y.replies);
+  grows = y.grows ∙ (ap (λ (rs : List Reply). rs ++ y.replies) x.grows ∙ append_assoc p.replies x.replies y.replies);
   merging = subst (λ (ls : List Line). Merging ls (x.replies ++ y.replies) a.seat.view c.seat.view) (sym (filter-append is_merge xs ys))
       (merging_on (merges_of xs) (merges_of ys) x.replies y.replies a.seat.view b.seat.view c.seat.view x.merging y.merging);
   parts = y.parts ∙ x.parts;
@@ -99,14 +99,14 @@ merges_joined : (xs ys : List (List Line)) → merges_of (joined (xs ++ ys)) ≡
 merges_joined xs ys = ap merges_of (flat_map-append (λ (ls : List Line). ls) xs ys) ∙ filter-append is_merge (joined xs) (joined ys)
 
 -- one block, from what its lines did to the queue that begins it
-pub merged_block : (block : List Line) (before after : Merger) (old begun done new : MergeQueue) (replies : List Reply) → Merged block before after begun done → begun.parts ≡ old.parts → begun.replies.items ≡ []
-    → replies ≡ done.replies.items → merge_parts new ≡ merge_parts done ++ replies ∷ [] → MergedBlocks (block ∷ []) before after old new
+pub merged_block : (block : List Line) (before after : Merger) (old begun done new : MergeQueue) (replies : List Reply) → Merged block before after begun done → begun.parts ≡ old.parts → begun.replies ≡ []
+    → replies ≡ done.replies → merge_parts new ≡ merge_parts done ++ replies ∷ [] → MergedBlocks (block ∷ []) before after old new
 merged_block block before after old begun done new replies x none_more fresh are more =
     let said : replies ≡ x.replies = are ∙ (x.grows ∙ ap (λ (rs : List Reply). rs ++ x.replies) fresh) in
     let merging : Merging (merges_of block) replies before.seat.view after.seat.view = subst (λ (rs : List Reply). Merging (merges_of block) rs before.seat.view after.seat.view) (sym said) x.merging in
     record {
       parts = replies ∷ [];
-      grows = more ∙ ap (λ (ps : List (List Reply)). ps ++ replies ∷ []) (ap (λ v. map (λ part. part.items) v.items) (x.parts ∙ none_more));
+      grows = more ∙ ap (λ (ps : List (List Reply)). ps ++ replies ∷ []) (ap (λ v. v.items) (x.parts ∙ none_more));
       long = ap (λ (n : ℕ). n ∷ []) (merging_long (merges_of block) replies before.seat.view after.seat.view merging);
       merging = subst (λ (ls : List Line). Merging (merges_of ls) (replies ++ []) before.seat.view after.seat.view) (sym (append-nil block))
           (subst (λ (rs : List Reply). Merging (merges_of block) rs before.seat.view after.seat.view) (sym (append-nil replies)) merging);
@@ -149,7 +149,7 @@ merging_blocks_all store lines (line ∷ rest) before now old queue x none = abs
 -- ---- the replies of a queue that had none
 
 fresh_parts : (blocks : List (List Line)) (before after : Merger) (old new : MergeQueue) (x : MergedBlocks blocks before after old new) → old.parts.items ≡ [] → merge_parts new ≡ x.parts
-fresh_parts blocks before after old new x none = x.grows ∙ ap (λ (ps : List (List Reply)). ps ++ x.parts) (ap (map (λ part. part.items)) none)
+fresh_parts blocks before after old new x none = x.grows ∙ ap (λ (ps : List (List Reply)). ps ++ x.parts) none
 
 pub fresh_merging : (lines : List Line) (before after : Merger) (old new : MergeQueue) → MergedBlocks (blocks_of lines) before after old new → old.parts.items ≡ [] → Merging (merges_of lines) (joined (merge_parts new)) before.seat.view after.seat.view
 fresh_merging lines before after old new x none =

@@ -2,7 +2,7 @@
 use Rattle.std.proofs.Common.{◌≡◌, ◌≢◌, ℕ, ◌+◌, ◌<◌, ◌≤◌, List, [], ◌∷◌, ◌++◌, Bool, true, false, cond, eqb, length, take, drop, set, map, get_or, Option, Some, None, refl, sym, subst, ap, ◌∙◌, arith, append_assoc, append-nil}
 use Rattle.std.specs.List.{cons_option}
 use Rattle.std.proofs.lemmas.Bool.{eqb-true, eqb-false, eq-eqb}
-use Rattle.std.proofs.lemmas.List.{take_more, map-append, map-set, get_or-map, get_or-set_same, get_or-set_other, length-map, nil_from_length, drop_all}
+use Rattle.std.proofs.lemmas.List.{take_more, map-append, get_or_default, get_or-set_same, get_or-set_other, nil_from_length, drop_all}
 use Rattle.std.proofs.lemmas.List.Elements.{filter_map-append}
 use Rattle.std.proofs.lemmas.List.Sums.{sum_by-drop_more}
 use Rattle.lst_walk.proofs.Lists.{take_whole}
@@ -14,14 +14,12 @@ use Rattle.lst_work.specs.Orders.{queue_at, lines_from, AreInOrder, IsOrdering}
 
 -- ---- a reply that is taken
 
-module _ {X : Type 0} (f : X → List Reply) (qs : List X) (i : ℕ) (q next : X) (inside : i < length qs) where
-  pub taken_first : (reply : Reply) → q ≡ get_or qs i q → f q ≡ reply ∷ f next → queue_at (map f qs) i ≡ reply ∷ queue_at (map f (set qs i next)) i
-  taken_first reply is e =
-      get_or-map f qs i q [] inside ∙ (ap f (sym is) ∙ (e
-      ∙ ap (λ (rs : List Reply). reply ∷ rs) (sym (ap (λ (l : List (List Reply)). get_or l i []) (map-set f qs i next) ∙ get_or-set_same (map f qs) i (f next) [] (subst (λ (n : ℕ). i < n) (sym (length-map qs f)) inside)))))
+module _ (queues : List (List Reply)) (i : ℕ) (queue next : List Reply) (inside : i < length queues) where
+  pub taken_first : (reply : Reply) → queue ≡ get_or queues i queue → queue ≡ reply ∷ next → queue_at queues i ≡ reply ∷ queue_at (set queues i next) i
+  taken_first reply is e = get_or_default queues i [] queue inside ∙ (sym is ∙ (e ∙ ap (λ (rs : List Reply). reply ∷ rs) (sym (get_or-set_same queues i next [] inside))))
 
-  pub taken_others : (other : ℕ) → other ≢ i → queue_at (map f (set qs i next)) other ≡ queue_at (map f qs) other
-  taken_others other ne = ap (λ (l : List (List Reply)). get_or l other []) (map-set f qs i next) ∙ get_or-set_other (map f qs) i other (f next) [] ne
+  pub taken_others : (other : ℕ) → other ≢ i → queue_at (set queues i next) other ≡ queue_at queues other
+  taken_others other ne = get_or-set_other queues i other next [] ne
 
 -- ---- the order so far
 

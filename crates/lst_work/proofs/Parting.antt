@@ -131,7 +131,7 @@ all_on P (y ∷ ys) x a p = (a.0, all_on P ys x a.1 p)
 pub parting_on : (all left new : List Worker) (merges rest after : List (List Reply)) (part : List Reply) (blocks longer : List Block) (block : Block) → IsParting all left merges rest blocks → rest ≡ part ∷ after
     → AreFirst left new part (queues_of block) → longer ≡ blocks ++ block ∷ [] → IsParting all new merges after longer
 parting_on all left new merges rest after part blocks longer block x first f more =
-    let wide : length block.queues.items ≡ length all + 1 = (let w = f.wide in let l = length-map block.queues.items (λ queue. queue.items) in let c = x.count in omega arith) in record {
+    let wide : length block.queues.items ≡ length all + 1 = (let w = f.wide in let c = x.count in omega arith) in record {
       count = f.count ∙ x.count;
       sessions_are = f.sessions_are ∙ x.sessions_are;
       said = said_fewer left new part after (queues_of block) f (subst (λ (ps : List (List Reply)). HaveSaid left (length ps)) first x.said);

@@ -44,7 +44,7 @@ pub ran_nothing : (lines : List Line) (worker : Worker) → lines_of worker.sess
 ran_nothing lines worker none = record {
   number = refl;
   replies = [];
-  grows = sym (append-nil worker.replies.items);
+  grows = sym (append-nil worker.replies);
   runs = subst (λ (ls : List Line). Runs worker.session.number ls [] worker.session.seat.view worker.session.seat.view) (sym none) refl;
   parts = refl;
 }
@@ -57,7 +57,7 @@ not_own s t call other = ap (λ (b : Bool). cond b (Call t call ∷ []) []) (ne_
 pub own : (s : ℕ) (call : CallKind) → lines_of s (Call s call ∷ []) ≡ Call s call ∷ []
 own s call = ap (λ (b : Bool). cond b (Call s call ∷ []) []) (eq-eqb s s refl)
 
-pub ran_call : (s : ℕ) (call : CallKind) (reply : Reply) (old new : Worker) → old.session.number ≡ s → new.session.number ≡ old.session.number → new.replies.items ≡ old.replies.items ++ reply ∷ [] → new.parts ≡ old.parts
+pub ran_call : (s : ℕ) (call : CallKind) (reply : Reply) (old new : Worker) → old.session.number ≡ s → new.session.number ≡ old.session.number → new.replies ≡ old.replies ++ reply ∷ [] → new.parts ≡ old.parts
     → AfterLine old.session.number call reply old.session.seat.view new.session.seat.view → Ran (Call s call ∷ []) old new
 ran_call s call reply old new is number grows same after = record {
   number = number;
@@ -73,7 +73,7 @@ pub ran_on : (xs ys : List Line) (a b c : Worker) → Ran xs a b → Ran ys b c 
 ran_on xs ys a b c x y = let s = a.session.number in record {
   number = y.number ∙ x.number;
   replies = x.replies ++ y.replies;
-  grows = y.grows ∙ (ap (λ (rs : List Reply). rs ++ y.replies) x.grows ∙ append_assoc a.replies.items x.replies y.replies);
+  grows = y.grows ∙ (ap (λ (rs : List Reply). rs ++ y.replies) x.grows ∙ append_assoc a.replies x.replies y.replies);
   runs = subst (λ (ls : List Line). Runs s ls (x.replies ++ y.replies) a.session.seat.view c.session.seat.view) (sym (filter-append (λ (line : Line). names s (speaker_of line)) xs ys))
       (runs_on s (lines_of s xs) (lines_of s ys) x.replies y.replies a.session.seat.view b.session.seat.view c.session.seat.view x.runs
       (subst (λ (n : ℕ). Runs n (lines_of n ys) y.replies b.session.seat.view c.session.seat.view) x.number y.runs));
@@ -103,8 +103,8 @@ pub ran_no_blocks : (worker : Worker) → RanBlocks [] worker worker
 ran_no_blocks worker = record { number = refl; parts = []; grows = sym (append-nil (parts_of worker)); long = refl; runs = refl }
 
 -- one block, from what its lines did to the worker that begins it
-pub ran_block : (block : List Line) (old begun done new : Worker) (replies : List Reply) → Ran block begun done → begun.session ≡ old.session → begun.parts ≡ old.parts → begun.replies.items ≡ []
-    → new.session ≡ done.session → replies ≡ done.replies.items → parts_of new ≡ parts_of done ++ replies ∷ [] → RanBlocks (block ∷ []) old new
+pub ran_block : (block : List Line) (old begun done new : Worker) (replies : List Reply) → Ran block begun done → begun.session ≡ old.session → begun.parts ≡ old.parts → begun.replies ≡ []
+    → new.session ≡ done.session → replies ≡ done.replies → parts_of new ≡ parts_of done ++ replies ∷ [] → RanBlocks (block ∷ []) old new
 ran_block block old begun done new replies x same none_more fresh ends are more =
     let s = old.session.number in
     let said : replies ≡ x.replies = are ∙ (x.grows ∙ ap (λ (rs : List Reply). rs ++ x.replies) fresh) in
@@ -116,7 +116,7 @@ ran_block block old begun done new replies x same none_more fresh ends are more 
     record {
       number = ap (λ (a : Session). a.number) ends ∙ (x.number ∙ ap (λ (a : Session). a.number) same);
       parts = replies ∷ [];
-      grows = more ∙ ap (λ (ps : List (List Reply)). ps ++ replies ∷ []) (ap (λ v. map (λ part. part.items) v.items) (x.parts ∙ none_more));
+      grows = more ∙ ap (λ (ps : List (List Reply)). ps ++ replies ∷ []) (ap (λ v. v.items) (x.parts ∙ none_more));
       long = ap (λ (n : ℕ). n ∷ []) (runs_long s (lines_of s block) replies old.session.seat.view new.session.seat.view runs);
       runs = subst (λ (ls : List Line). Runs s (lines_of s ls) (replies ++ []) old.session.seat.view new.session.seat.view) (sym (append-nil block))
           (subst (λ (rs : List Reply). Runs s (lines_of s block) rs old.session.seat.view new.session.seat.view) (sym (append-nil replies)) runs);

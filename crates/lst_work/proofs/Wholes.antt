@@ -112,7 +112,7 @@ module _ (store : Store) (lines : List Line) (old : List Session) (first last : 
 
     -- what the session's worker has said
     said_is : (k : ℕ) (d : Worker) (low : k < length first) → parts_of (get_or last k d) ≡ (ran k d low).parts
-    said_is k d low = (ran k d low).grows ∙ ap (λ (ps : List (List Reply)). ps ++ (ran k d low).parts) (ap (map (λ part. part.items)) (new_at first hires.all_new k d low).parts)
+    said_is k d low = (ran k d low).grows ∙ ap (λ (ps : List (List Reply)). ps ++ (ran k d low).parts) (new_at first hires.all_new k d low).parts
 
     pub have_said : (parts : List (List Reply)) → length parts ≡ length (blocks_of lines) → HaveSaid last (length parts)
     have_said parts many_parts k d low = let inside : k < length first = subst (λ (n : ℕ). k < n) long low in

@@ -27,7 +27,7 @@ joined parts = flat_map (λ part. part) parts
 
 -- what stands in the queues of a block
 abbrev pub queues_of : Block → List (List Reply)
-queues_of block = map (λ queue. queue.items) block.queues.items
+queues_of block = block.queues.items
 
 -- what stands in a queue, block by block
 abbrev pub parts_at : List Block → ℕ → List (List Reply)

@@ -12,13 +12,13 @@ use Rattle.lst_work.specs.declared.merging.MergeQueue.{MergeQueue}
 -- It has made the merges among these lines, and the replies were put behind those that were there.
 pub record Merged (lines : List Line) (before after : Merger) (old new : MergeQueue) : Type 0 where
   pub replies : List Reply
-  pub grows : new.replies.items ≡ old.replies.items ++ replies
+  pub grows : new.replies ≡ old.replies ++ replies
   pub merging : Merging (merges_of lines) replies before.seat.view after.seat.view
   pub parts : new.parts ≡ old.parts
 
 -- the replies to merges, block by block
 abbrev pub merge_parts : MergeQueue → List (List Reply)
-merge_parts queue = map (λ part. part.items) queue.parts.items
+merge_parts queue = queue.parts.items
 
 -- It has made the merges among these blocks, and the replies to each block's were put behind those that were there.
 pub record MergedBlocks (blocks : List (List Line)) (before after : Merger) (old new : MergeQueue) : Type 0 where

@@ -13,13 +13,13 @@ use Rattle.lst_work.specs.Blocks.{blocks_of, joined}
 pub record Ran (lines : List Line) (old new : Worker) : Type 0 where
   pub number : new.session.number ≡ old.session.number
   pub replies : List Reply
-  pub grows : new.replies.items ≡ old.replies.items ++ replies
+  pub grows : new.replies ≡ old.replies ++ replies
   pub runs : Runs old.session.number (lines_of old.session.number lines) replies old.session.seat.view new.session.seat.view
   pub parts : new.parts ≡ old.parts
 
 -- what a worker has said, block by block
 abbrev pub parts_of : Worker → List (List Reply)
-parts_of worker = map (λ part. part.items) worker.parts.items
+parts_of worker = worker.parts.items
 
 -- The worker has run its session's lines among these blocks, and has put the replies to each block's behind what it had said.
 pub record RanBlocks (blocks : List (List Line)) (old new : Worker) : Type 0 where

@@ -8,17 +8,17 @@ ghost use Rattle.lst_work.specs.Blocks.{block_length, queues_of, AreAsLong, AreI
 
 use crate::orders::put_in_order;
 use lst_model::{Line, Reply};
-use std::collections::VecDeque;
+use lst_queue::ReplyQueue;
 use std::sync::Wait;
 use std::thread::{Threads, join_mut};
 
-/// A block has so many lines, and the last one of a phase may have fewer. A thread for fewer lines costs more than it saves.
+/// A block has so many lines, and the last one of a phase may have fewer.
 const BLOCK: usize = 32_768;
 
 /// The replies to the lines of a block: each session's stand in the queue with its number, and those to merges in the last one.
 #[derive(Drop)]
 pub(crate) struct Block {
-    pub(crate) queues: Vec<VecDeque<Reply>>,
+    pub(crate) queues: Vec<ReplyQueue>,
 }
 
 /// The first block of these lines, and the lines after it.

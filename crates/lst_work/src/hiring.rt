@@ -7,10 +7,10 @@ ghost use Rattle.lst_work.specs.Workers.{parts_of};
 
 use crate::blocks::Block;
 use crate::workers::Worker;
-use lst_model::{OutOfMemory, Reply};
+use lst_model::OutOfMemory;
+use lst_queue::ReplyQueue;
 use lst_session::Session;
 use std::alloc::Global;
-use std::collections::VecDeque;
 
 /// A new worker for each session, in order.
 pub(crate) fn hired(alloc: Global, sessions: Vec<Session>) -> Result<Vec<Worker>, OutOfMemory>
@@ -28,15 +28,15 @@ pub(crate) fn hired(alloc: Global, sessions: Vec<Session>) -> Result<Vec<Worker>
 fn next_queues(
     alloc: Global,
     workers: &mut Vec<Worker>,
-    merges: VecDeque<Reply>,
-) -> Result<Vec<VecDeque<Reply>>, OutOfMemory>
+    merges: ReplyQueue,
+) -> Result<Vec<ReplyQueue>, OutOfMemory>
     requires some { (i : ℕ) (d : Worker) → i < length workers.old.items → 0 < length (parts_of (slice_index_or workers.old.items i d)) }
-    ensures { IfOk result (λ queues. AreFirst workers.old.items workers.new.items merges.items (map (λ queue. queue.items) queues.items)) }
+    ensures { IfOk result (λ queues. AreFirst workers.old.items workers.new.items merges queues.items) }
 {
     let mut queues = Vec::new(alloc);
     for i in 0..workers.len() {
         let part = workers[i].parts.remove(0);
-        queues.push(VecDeque::from_vec(part))?;
+        queues.push(part)?;
     }
     queues.push(merges)?;
     Ok(queues)
@@ -46,12 +46,12 @@ fn next_queues(
 fn blocks_said(
     alloc: Global,
     workers: &mut Vec<Worker>,
-    merges: Vec<VecDeque<Reply>>,
+    merges: Vec<ReplyQueue>,
 ) -> Result<Vec<Block>, OutOfMemory>
     requires said { HaveSaid workers.old.items (length merges.items) }
     ensures sessions { OnOk result (sessions_of workers.new.items ≡ sessions_of workers.old.items) }
     ensures wide { IfOk result (λ blocks. All (λ block. length block.queues.items ≡ length workers.old.items + 1) blocks.items) }
-    ensures parts { IfOk result (λ blocks. (queue : ℕ) → parts_at blocks.items queue ≡ said_in workers.old.items (map (λ part. part.items) merges.items) queue) }
+    ensures parts { IfOk result (λ blocks. (queue : ℕ) → parts_at blocks.items queue ≡ said_in workers.old.items merges.items queue) }
 {
     let mut rest = merges;
     let mut blocks = Vec::new(alloc);
@@ -79,12 +79,12 @@ fn sessions_back(alloc: Global, workers: Vec<Worker>) -> Result<Vec<Session>, Ou
 pub(crate) fn dismissed(
     alloc: Global,
     workers: Vec<Worker>,
-    merges: Vec<VecDeque<Reply>>,
+    merges: Vec<ReplyQueue>,
 ) -> Result<(Vec<Session>, Vec<Block>), OutOfMemory>
     requires said { HaveSaid workers.items (length merges.items) }
     ensures sessions { IfOk result (λ parted. parted.0.items ≡ sessions_of workers.items) }
     ensures wide { IfOk result (λ parted. All (λ block. length block.queues.items ≡ length workers.items + 1) parted.1.items) }
-    ensures parts { IfOk result (λ parted. (queue : ℕ) → parts_at parted.1.items queue ≡ said_in workers.items (map (λ part. part.items) merges.items) queue) }
+    ensures parts { IfOk result (λ parted. (queue : ℕ) → parts_at parted.1.items queue ≡ said_in workers.items merges.items queue) }
 {
     let mut workers = workers;
     let blocks = blocks_said(alloc, &mut workers, merges)?;

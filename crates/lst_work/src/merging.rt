@@ -11,10 +11,10 @@ use crate::blocks::first_block;
 use crate::gates::Gate;
 use crate::paces::Pace;
 use lst_model::{Line, OutOfMemory, Reply};
+use lst_queue::ReplyQueue;
 use lst_rule::Store;
 use lst_session::{Merge, Merger};
 use std::alloc::Global;
-use std::collections::VecDeque;
 use std::mem;
 use std::sync::Wait;
 
@@ -22,9 +22,9 @@ use std::sync::Wait;
 #[derive(Drop)]
 pub(crate) struct MergeQueue {
     /// The replies to the merges of the block at hand.
-    pub(crate) replies: VecDeque<Reply>,
+    pub(crate) replies: ReplyQueue,
     /// Those to the merges of each block before it.
-    pub(crate) parts: Vec<VecDeque<Reply>>,
+    pub(crate) parts: Vec<ReplyQueue>,
     /// How many merges were made.
     pub(crate) made: u64,
     /// Memory ran out, and the rest of the lines was given up.
@@ -37,7 +37,7 @@ pub(crate) fn empty_queue(alloc: Global) -> MergeQueue
     ensures ready { result.has_failed ≡ false }
 {
     MergeQueue {
-        replies: VecDeque::new(alloc),
+        replies: ReplyQueue::new(alloc),
         parts: Vec::new(alloc),
         made: 0,
         has_failed: false,
@@ -69,7 +69,7 @@ fn merge_page(
     ensures merged { OnOk result (Merged (Line.Merge range column ∷ []) merger.old merger.new queue.old queue.new) }
 {
     let answer = merger.merge(store, range, column);
-    queue.replies.push_back(merge_reply(answer))?;
+    queue.replies.push(merge_reply(answer))?;
     queue.made = queue.made.saturating_add(1);
     Ok(())
 }
@@ -143,9 +143,9 @@ fn merge_block<R: Wait, G: Gate>(
     ensures merger { IsMergerOf store.now merger.new }
     ensures merged { OnOk result (MergedBlocks (block.now ∷ []) merger.old merger.new queue.old queue.new) }
 {
-    queue.replies = VecDeque::new(alloc);
+    queue.replies = ReplyQueue::new(alloc);
     merge_lines(rt, store, pace, gate, first, block, merger, queue)?;
-    let replies = mem::replace(&mut queue.replies, VecDeque::new(alloc));
+    let replies = mem::replace(&mut queue.replies, ReplyQueue::new(alloc));
     queue.parts.push(replies)?;
     Ok(())
 }

@@ -7,17 +7,17 @@ ghost use Rattle.lst_work.specs.Orders.{queue_at, lines_from, placeholder, AreIn
 ghost use Rattle.lst_legal_work.specs.Orders.{queue_of};
 
 use lst_model::{Line, OutOfMemory, Reply};
-use std::collections::VecDeque;
+use lst_queue::ReplyQueue;
 
 /// Takes the first reply from a queue.
-fn taken(queues: &mut [VecDeque<Reply>], queue: usize) -> Reply
+fn taken(queues: &mut [ReplyQueue], queue: usize) -> Reply
     requires inside { queue < length queues.old }
-    requires some { 0 < length (queue_at (map (λ q. q.items) queues.old) queue) }
+    requires some { 0 < length (queue_at queues.old queue) }
     ensures wide { length queues.new ≡ length queues.old }
-    ensures first { queue_at (map (λ q. q.items) queues.old) queue ≡ result ∷ queue_at (map (λ q. q.items) queues.new) queue }
-    ensures others { (other : ℕ) → other ≢ queue → queue_at (map (λ q. q.items) queues.new) other ≡ queue_at (map (λ q. q.items) queues.old) other }
+    ensures first { queue_at queues.old queue ≡ result ∷ queue_at queues.new queue }
+    ensures others { (other : ℕ) → other ≢ queue → queue_at queues.new other ≡ queue_at queues.old other }
 {
-    let Some(reply) = queues[queue].pop_front() else {
+    let Some(reply) = queues[queue].pop() else {
         unreachable!();
     };
     reply
@@ -52,15 +52,15 @@ pub(crate) fn make_room(
 pub(crate) fn put_in_order(
     sessions: u32,
     lines: &[Line],
-    queues: &mut [VecDeque<Reply>],
+    queues: &mut [ReplyQueue],
     places: &mut [(Option<u32>, Reply)],
 )
     requires wide { length queues.old ≡ sessions + 1 }
     requires fits { (ranges columns : ℕ) × All (LineFits sessions ranges columns) lines.now }
-    requires long { (queue : ℕ) → length (queue_at (map (λ q. q.items) queues.old) queue) ≡ lines_from sessions queue lines.now }
+    requires long { (queue : ℕ) → length (queue_at queues.old queue) ≡ lines_from sessions queue lines.now }
     requires room { length places.old ≡ length lines.now }
     ensures room { length places.new ≡ length places.old }
-    ensures order { AreInOrder sessions lines.now (map (λ q. q.items) queues.old) places.new }
+    ensures order { AreInOrder sessions lines.now queues.old places.new }
 {
     for i in 0..lines.len() {
         let speaker = speaker(&lines[i]);

@@ -10,7 +10,8 @@ use crate::blocks::first_block;
 use crate::gates::Gate;
 use crate::lines::line_reply;
 use crate::paces::Pace;
-use lst_model::{Call, Line, OutOfMemory, Reply};
+use lst_model::{Call, Line, OutOfMemory};
+use lst_queue::ReplyQueue;
 use lst_rule::Store;
 use lst_session::{CommitLock, Session};
 use std::alloc::Global;
@@ -22,9 +23,9 @@ use std::sync::Wait;
 pub(crate) struct Worker {
     pub(crate) session: Session,
     /// The replies to the lines of the block at hand.
-    pub(crate) replies: Vec<Reply>,
+    pub(crate) replies: ReplyQueue,
     /// Those to the lines of each block before it.
-    pub(crate) parts: Vec<Vec<Reply>>,
+    pub(crate) parts: Vec<ReplyQueue>,
     /// Memory ran out, and the rest of the lines was given up.
     pub(crate) has_failed: bool,
 }
@@ -40,7 +41,7 @@ impl Worker {
     {
         Worker {
             session,
-            replies: Vec::new(alloc),
+            replies: ReplyQueue::new(alloc),
             parts: Vec::new(alloc),
             has_failed: false,
         }
@@ -145,9 +146,9 @@ fn run_block<R: Wait, G: Gate>(
     ensures number { worker.new.session.number ≡ worker.old.session.number }
     ensures ran { OnOk result (RanBlocks (block.now ∷ []) worker.old worker.new) }
 {
-    worker.replies = Vec::new(alloc);
+    worker.replies = ReplyQueue::new(alloc);
     run_lines(rt, alloc, store, lock, pace, gate, first, block, worker)?;
-    let replies = mem::replace(&mut worker.replies, Vec::new(alloc));
+    let replies = mem::replace(&mut worker.replies, ReplyQueue::new(alloc));
     worker.parts.push(replies)?;
     Ok(())
 }

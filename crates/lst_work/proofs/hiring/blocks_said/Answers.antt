@@ -7,11 +7,11 @@ use Rattle.lst_work.proofs.hiring.blocks_said.Goals as goal
 pub loop-alloc-preserved : goal.loop-alloc-preserved
 loop-alloc-preserved c =
     let rest = first_rest c.loop-alloc.rest.items c.remove.new.self.items c.remove.result (let h = c.remove.ensures.len in omega arith) c.remove.ensures.value c.remove.ensures.items in
-    parting_on c.args.workers.now.items c.loop-alloc.workers.items c.next_queues.new.workers.items (map (λ part. part.items) c.args.merges.items) (map (λ part. part.items) c.loop-alloc.rest.items)
-    (map (λ part. part.items) c.remove.new.self.items) c.remove.result.items c.loop-alloc.blocks.items c.push.new.self.items record { queues = c.in_ok-queues.queues } c.loop-alloc.invariant
-    (ap (map (λ part. part.items)) rest) c.in_ok-queues.ensures c.in_ok-push.ensures.items
+    parting_on c.args.workers.now.items c.loop-alloc.workers.items c.next_queues.new.workers.items c.args.merges.items c.loop-alloc.rest.items
+    c.remove.new.self.items c.remove.result c.loop-alloc.blocks.items c.push.new.self.items record { queues = c.in_ok-queues.queues } c.loop-alloc.invariant
+    rest c.in_ok-queues.ensures c.in_ok-push.ensures.items
 
 pub returns-clause-parts : goal.returns-clause-parts
 returns-clause-parts c = let none : length c.loop-alloc.rest.items ≡ 0 = search rules in
-    parted_all c.args.workers.now.items c.loop-alloc.workers.items (map (λ part. part.items) c.args.merges.items) (map (λ part. part.items) c.loop-alloc.rest.items) c.loop-alloc.blocks.items c.loop-alloc.invariant
-    (ap (λ xs. length (map (λ part. part.items) xs)) (nil_from_length c.loop-alloc.rest.items none))
+    parted_all c.args.workers.now.items c.loop-alloc.workers.items c.args.merges.items c.loop-alloc.rest.items c.loop-alloc.blocks.items c.loop-alloc.invariant
+    none

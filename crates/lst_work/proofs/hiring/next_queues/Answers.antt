@@ -9,11 +9,11 @@ pub loop-i-preserved : goal.loop-i-preserved
 loop-i-preserved c = let worker = c.index_mut.result.now in let x = c.loop-i.invariant in
     let low : c.loop-i.i < length c.loop-i.workers.items = search rules in
     let rest = first_rest worker.parts.items c.remove-part.new.self.items c.remove-part.result (let h = c.remove-part.ensures.len in omega arith) c.remove-part.ensures.value c.remove-part.ensures.items in
-    taking_on c.args.workers.now.items c.loop-i.workers.items (map (λ queue. queue.items) c.loop-i.queues.items) _ c.loop-i.i worker record worker { parts = c.remove-part.new.self } c.from_vec.result.items x low c.index_mut.ensures.value refl
-    (ap (map (λ part. part.items)) rest ∙ ap (λ (p : List Reply). p ∷ map (λ part. part.items) c.remove-part.new.self.items) (sym c.from_vec.ensures.items))
-    (ap (map (λ queue. queue.items)) c.in_ok-push.ensures.items ∙ map-append (λ queue. queue.items) c.loop-i.queues.items (c.from_vec.result ∷ []))
+    taking_on c.args.workers.now.items c.loop-i.workers.items c.loop-i.queues.items _ c.loop-i.i worker record worker { parts = c.remove-part.new.self } c.remove-part.result x low c.index_mut.ensures.value refl
+    rest
+    c.in_ok-push.ensures.items
 
 pub returns : goal.returns
 returns c = let past : length c.loop-i.workers.items ≤ c.loop-i.i = search rules in
-    taken_all c.args.workers.now.items c.loop-i.workers.items (map (λ queue. queue.items) c.loop-i.queues.items) _ c.args.merges.items c.loop-i.i c.loop-i.invariant past
-    (ap (map (λ queue. queue.items)) c.in_ok-push-2.ensures.items ∙ map-append (λ queue. queue.items) c.loop-i.queues.items (c.args.merges ∷ []))
+    taken_all c.args.workers.now.items c.loop-i.workers.items c.loop-i.queues.items _ c.args.merges c.loop-i.i c.loop-i.invariant past
+    c.in_ok-push-2.ensures.items

@@ -4,6 +4,6 @@ use Rattle.lst_work.proofs.Merges.{merged_block}
 use Rattle.lst_work.proofs.merging.merge_block.Goals as goal
 
 pub returns-clause-merged : goal.returns-clause-merged
-returns-clause-merged g c = merged_block c.args.block.now c.args.merger.now c.merge_lines.new.merger c.args.queue.now record c.args.queue.now { replies = c.new.result } c.merge_lines.new.queue _ c.replace-replies.result.items
-    c.in_ok-merge_lines.ensures.merged refl c.new.ensures.items (ap (λ v. v.items) c.replace-replies.ensures.value)
-    (ap (map (λ part. part.items)) c.in_ok-push.ensures.items ∙ map-append (λ part. part.items) c.merge_lines.new.queue.parts.items (c.replace-replies.result ∷ []))
+returns-clause-merged g c = merged_block c.args.block.now c.args.merger.now c.merge_lines.new.merger c.args.queue.now record c.args.queue.now { replies = c.new.result } c.merge_lines.new.queue _ c.replace-replies.result
+    c.in_ok-merge_lines.ensures.merged refl c.new.ensures c.replace-replies.ensures.value
+    c.in_ok-push.ensures.items

@@ -7,4 +7,4 @@ pub merge-answer-requires-clause-page : goal.merge-answer-requires-clause-page
 merge-answer-requires-clause-page c = subst (λ (l : Limits). (c.args.range < l.ranges) × (c.args.column < l.columns)) (sym c.requires.merger.seat_of.limits) c.requires.can.fits
 
 pub returns-clause-merged : goal.returns-clause-merged
-returns-clause-merged c = merged_page c.args.range c.args.column c.merge-answer.result c.merge_reply.result c.args.merger.now c.merge-answer.new.self c.args.queue.now _ c.merge-answer.ensures.merges c.merge_reply.ensures c.in_ok-push_back.ensures.items refl
+returns-clause-merged c = merged_page c.args.range c.args.column c.merge-answer.result c.merge_reply.result c.args.merger.now c.merge-answer.new.self c.args.queue.now _ c.merge-answer.ensures.merges c.merge_reply.ensures c.in_ok-push.ensures.ok refl

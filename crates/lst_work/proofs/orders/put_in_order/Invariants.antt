@@ -3,4 +3,4 @@ use Rattle.lst_work.specs.Orders.{IsOrdering}
 use Rattle.lst_work.proofs.orders.put_in_order.Given as goal
 
 abbrev pub invariant-loop-i : goal.invariant-loop-i
-invariant-loop-i l = IsOrdering l.sessions l.lines (map (λ q. q.items) l.fn.queues) (map (λ q. q.items) l.queues) (take l.i l.places) l.i × (length l.places ≡ length l.fn.places)
+invariant-loop-i l = IsOrdering l.sessions l.lines l.fn.queues l.queues (take l.i l.places) l.i × (length l.places ≡ length l.fn.places)

@@ -30,7 +30,7 @@ dismissed-requires g c =
     let merged = fresh_long lines c.args.merger.now c.try_phase.new.merger c.empty_queue-queue.result queue ends.merged c.empty_queue-queue.ensures.none in
     record {
       said = subst (λ (ws : List Worker). HaveSaid ws (length queue.parts.items)) (sym after)
-          (subst (HaveSaid last) (length-map queue.parts.items (λ part. part.items)) (have_said c.args.store.now lines c.args.sessions.items items last c.requires.all c.in_ok-workers.ensures ran long ends.ready (merge_parts queue) (as_many c.args.store.now lines c.args.sessions.items items last c.requires.all c.in_ok-workers.ensures ran long ends.ready c.requires.can (merge_parts queue) merged)));
+          (have_said c.args.store.now lines c.args.sessions.items items last c.requires.all c.in_ok-workers.ensures ran long ends.ready (merge_parts queue) (as_many c.args.store.now lines c.args.sessions.items items last c.requires.all c.in_ok-workers.ensures ran long ends.ready c.requires.can (merge_parts queue) merged));
     }
 
 pub order_phase-requires-clause-wide : goal.order_phase-requires-clause-wide
