@@ -25,6 +25,7 @@ use std::alloc::Global;
 use std::io;
 use std::sync::Wait;
 use std::thread::Threads;
+use std::time::Clock;
 use sums::sums;
 use works::{task_of, works};
 
@@ -58,7 +59,7 @@ fn summing_of(kind: &str) -> Option<(u32, u32)>
 }
 
 /// What the kind of run came to, or None for want of memory. A kind that there isn't comes to 0.
-fn answer<R: Threads + Wait + Sync>(
+fn answer<R: Threads + Wait + Sync + Clock>(
     rt: &R,
     alloc: Global,
     layout: &Layout,

@@ -9,8 +9,10 @@ use lst_model::{Call, Line, OutOfMemory};
 use lst_script::Script;
 use lst_work::{FreeGate, work};
 use std::alloc::Global;
+use std::io;
 use std::sync::Wait;
 use std::thread::Threads;
+use std::time::{Clock, Instant};
 
 /// Each has a row from the first commit on. They are put in order, so 256 of them are in each range of records.
 const KEYS: u64 = 1024;
@@ -33,34 +35,47 @@ fn limits_for(sessions: u32, lines: u32) -> Limits
     }
 }
 
-/// What is done with a script of such a kind.
+/// What is done with a script, and what it comes to.
+#[derive(Clone, Copy)]
+enum Deed {
+    /// It is drawn: how many lines it has.
+    Draw,
+    /// The sessions work on it: how many commits there were.
+    Work,
+    /// The same: how many nanoseconds it took from the call of `work` to its answer, or 0 where the clock can't be read.
+    Time,
+}
+
+/// Which script is drawn, and what is done with it.
 #[derive(Clone, Copy)]
 pub struct Task {
     /// How many sessions work.
     sessions: u32,
     /// How many keys each session has. Sessions have different keys, unless this is 1: then all have the one key.
     keys: u64,
-    /// Whether it is run, or drawn alone.
-    runs: bool,
+    deed: Deed,
     ghost some: { 0 < sessions },
 }
 
 /// The task of a kind of run, or None where there is none of this name.
 pub fn task_of(kind: &str) -> Option<Task> {
-    let (sessions, keys, runs) = match kind {
-        "lines_1" => (1, KEYS, false),
-        "lines_2" => (2, KEYS / 2, false),
-        "lines_4" => (4, KEYS / 4, false),
-        "works_1" => (1, KEYS, true),
-        "works_2" => (2, KEYS / 2, true),
-        "works_4" => (4, KEYS / 4, true),
-        "rivals_2" => (2, 1, true),
+    let (sessions, keys, deed) = match kind {
+        "lines_1" => (1, KEYS, Deed::Draw),
+        "lines_2" => (2, KEYS / 2, Deed::Draw),
+        "lines_4" => (4, KEYS / 4, Deed::Draw),
+        "works_1" => (1, KEYS, Deed::Work),
+        "works_2" => (2, KEYS / 2, Deed::Work),
+        "works_4" => (4, KEYS / 4, Deed::Work),
+        "times_1" => (1, KEYS, Deed::Time),
+        "times_2" => (2, KEYS / 2, Deed::Time),
+        "times_4" => (4, KEYS / 4, Deed::Time),
+        "rivals_2" => (2, 1, Deed::Work),
         _ => return None,
     };
     Some(Task {
         sessions,
         keys,
-        runs,
+        deed,
     })
 }
 
@@ -162,9 +177,19 @@ fn script(alloc: Global, task: Task, lines: u32) -> Result<Script, OutOfMemory>
     Ok(Script::from_items(drawing.lines))
 }
 
-/// Draws the script of a task, with about so many lines behind its first phase, and answers how many lines it has; or how many commits there
-/// were once the sessions had worked on it, each in a thread of its own.
-pub fn works<R: Threads + Wait + Sync>(
+/// How many nanoseconds there are from one time to another, or 0 where either is missing.
+fn between(start: io::Result<Instant>, end: io::Result<Instant>) -> u64 {
+    match (start, end) {
+        (Ok(start), Ok(end)) => u64::try_from(end.duration_since(start).as_nanos()).unwrap_or(
+            u64::MAX,
+        ),
+        _ => 0,
+    }
+}
+
+/// Draws the script of a task, with about so many lines behind its first phase, and lets the sessions work on it, each in a thread of its own.
+/// `Deed` says what is answered.
+pub fn works<R: Threads + Wait + Sync + Clock>(
     rt: &R,
     alloc: Global,
     task: Task,
@@ -174,9 +199,14 @@ pub fn works<R: Threads + Wait + Sync>(
         return Ok(0);
     };
     let script = script(alloc, task, lines)?;
-    if !task.runs {
+    if let Deed::Draw = task.deed {
         return Ok(script.items().len() as u64);
     }
+    let start = Instant::now(rt);
     let (report, _, _) = work(rt, alloc, &layout, &script, &FreeGate)?;
-    Ok(report.history.len() as u64)
+    let end = Instant::now(rt);
+    Ok(match task.deed {
+        Deed::Time => between(start, end),
+        _ => report.history.len() as u64,
+    })
 }
