@@ -17,7 +17,7 @@ use std::time::{Clock, Instant};
 /// Each has a row from the first commit on. They are put in order, so 256 of them are in each range of records.
 const KEYS: u64 = 1024;
 
-/// The limits of a store that has the size which a script takes, with about so many lines behind its first phase, by so many sessions.
+/// The limits of a store that has the size which a script of at most 200,000 lines behind its first phase takes, by so many sessions.
 fn limits_for(sessions: u32, lines: u32) -> Limits
     requires { 0 < sessions }
     ensures sessions { result.sessions ≡ sessions }
@@ -187,8 +187,8 @@ fn between(start: io::Result<Instant>, end: io::Result<Instant>) -> u64 {
     }
 }
 
-/// Draws the script of a task, with about so many lines behind its first phase, and lets the sessions work on it, each in a thread of its own.
-/// `Deed` says what is answered.
+/// Draws the script of a task, with about so many lines behind its first phase, and does with it what `Deed` says, which says what is answered too. Each
+/// session has a thread of its own. A store that can't have the limits answers 0.
 pub fn works<R: Threads + Wait + Sync + Clock>(
     rt: &R,
     alloc: Global,

@@ -52,7 +52,7 @@ abbrev pub others_after : Option Reply → List Reply → List Reply
 others_after (Some reply) others = others
 others_after None others = drop 1 others
 
--- there is one
+-- the reply was told, or there is one among the others
 abbrev pub HasReply : Option Reply → List Reply → Type 0
 HasReply (Some reply) others = Unit
 HasReply None others = 0 < length others

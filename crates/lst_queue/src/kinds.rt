@@ -12,6 +12,7 @@ use std::collections::VecDeque;
 pub(crate) enum Kind {
     Begun,
     Done,
+    /// A row of so many columns; bit c of `nulls` is set where column c is null.
     Row { cells: u8, nulls: u8 },
     Absent,
     Committed,
@@ -91,7 +92,7 @@ pub(crate) fn keep(
     })
 }
 
-/// The row of these numbers, null where the bits say so.
+/// The row of these numbers, in the order of the columns, where bit c of `nulls` makes column c null. A null column's number is 0.
 fn row_of(numbers: &[u64], nulls: u8) -> Row
     requires few { length numbers.now ≤ 8 }
     requires null { AreNull 0 nulls numbers.now }

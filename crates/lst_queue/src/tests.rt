@@ -2,7 +2,7 @@
 
 use crate::ReplyQueue;
 use arrayvec::ArrayVec;
-use lst_model::{Cause, KeyList, OutOfMemory, Reply, Row, RowList};
+use lst_model::{Cause, KeyList, Reply, Row, RowList};
 use std::alloc::Global;
 use std::test::Fail;
 
@@ -47,20 +47,19 @@ fn reply(alloc: Global, number: u64) -> Reply {
     }
 }
 
-/// With `rt try --test --fail-alloc N..` memory is refused from the Nth time on, and the replies so far come back all the same.
+/// With `rt try --test --fail-alloc N` memory is refused the Nth time; the replies that were put before and after that come back all the same.
 #[test]
 fn each_kind_of_reply_comes_back_in_its_place(rt: HostRuntime) -> Result<(), Fail> {
     let alloc = rt.alloc();
     let mut queue = ReplyQueue::new(alloc);
-    let mut kept = 0u64;
-    for number in 0..24 {
-        if let Err(OutOfMemory) = queue.push(reply(alloc, number)) {
-            break;
-        }
-        kept = number + 1;
+    let mut kept = [false; 24];
+    for number in 0..24usize {
+        kept[number] = queue.push(reply(alloc, number as u64)).is_ok();
     }
-    for number in 0..kept {
-        assert_eq!(rt; queue.pop(), Some(reply(alloc, number)));
+    for number in 0..24usize {
+        if kept[number] {
+            assert_eq!(rt; queue.pop(), Some(reply(alloc, number as u64)));
+        }
     }
     assert_eq!(rt; queue.pop(), None);
     Ok(())

@@ -19,7 +19,7 @@ replies_of workers = map (λ worker. joined (parts_of worker)) workers
 abbrev pub said_in : List Worker → List (List Reply) → ℕ → List (List Reply)
 said_in workers merges queue = slice_index_or (map parts_of workers ++ merges ∷ []) queue (map (λ part. []) merges)
 
--- each worker has said something to so many blocks
+-- each worker has a part for each of so many blocks, which may be empty
 abbrev pub HaveSaid : List Worker → ℕ → Type 0
 HaveSaid workers n = (i : ℕ) (d : Worker) → i < length workers → length (parts_of (slice_index_or workers i d)) ≡ n
 

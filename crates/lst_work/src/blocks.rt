@@ -15,7 +15,7 @@ use std::thread::{Threads, join_mut};
 /// A block has so many lines, and the last one of a phase may have fewer.
 const BLOCK: usize = 32_768;
 
-/// The replies to the lines of a block: each session's stand in the queue with its number, and those to merges in the last one.
+/// The replies to the lines of a block: each session's stand in the queue with its number, and those to other lines in the last one.
 #[derive(Drop)]
 pub(crate) struct Block {
     pub(crate) queues: Vec<ReplyQueue>,
@@ -115,7 +115,7 @@ fn order_beside<R: Threads + Wait + Sync>(
     join_mut(rt, &mut one, &mut more);
 }
 
-/// Puts the replies to these lines into the places behind the earlier ones, in the order of the lines.
+/// Puts the replies to these lines into the places behind the earlier ones, of which there are so many, in the order of the lines.
 pub(crate) fn order_phase<R: Threads + Wait + Sync>(
     rt: &R,
     sessions: u32,

@@ -48,7 +48,7 @@ pub(crate) fn make_room(
 }
 
 /// Puts the replies to these lines into as many places, in the order of the lines. Each session's stand in the queue with its number, and those to
-/// merges in the last one.
+/// other lines in the last one.
 pub(crate) fn put_in_order(
     sessions: u32,
     lines: &[Line],
