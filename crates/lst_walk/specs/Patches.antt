@@ -23,7 +23,7 @@ merged [] older = []
 merged (x ∷ newer) [] = x ∷ newer
 merged (x ∷ newer) (y ∷ older) = newest x y ∷ merged newer older
 
--- the patch sets each column that the mask holds, and has
+-- the patch sets each of its columns that the mask holds
 abbrev pub AreSet : ℕ → List (Option Cell) → Type 0
 AreSet mask patch = (column : ℕ) → HasColumn mask column → slice_get patch column ≢ Some None
 

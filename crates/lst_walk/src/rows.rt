@@ -154,8 +154,8 @@ fn walked(store: &Store, seat: &mut Seat, s: u32, rec: RecordId, number: u32) ->
     None
 }
 
-/// Fills each column that the patch doesn't set by the entry of its page, where that may be used at this number. None may be above `last`. `set` holds
-/// some of the columns that the patch sets.
+/// Fills each column that the patch doesn't set by the entry of its page, where that may be used at this number. None may be above `last`. Bit c of `set` is
+/// set only where the patch sets column c, before and after; where a page may be used, no bit is set after.
 fn fill(
     store: &Store,
     seat: &mut Seat,
@@ -245,7 +245,8 @@ fn row_of(patch: &[Option<Option<u64>>]) -> Row
     row
 }
 
-/// Looks at a version of a range, by the number of its tail record, under a patch of newer versions. `set` holds some of the columns that the patch sets.
+/// Looks at a version of a range, by the number of its tail record, under a patch of newer versions. Bit c of `set` is set only where the patch sets column
+/// c, before and after.
 fn look(
     store: &Store,
     seat: &mut Seat,
@@ -276,8 +277,8 @@ fn look(
     }
 }
 
-/// Looks at a version that is seen, under a patch of newer versions. `set` holds some of the columns that the patch sets: a version that sets no other adds
-/// nothing.
+/// Looks at a version that is seen, under a patch of newer versions. Bit c of `set` is set only where the patch sets column c, before and after: a set of
+/// columns that all have their bits there adds nothing.
 fn acted(
     store: &Store,
     seat: &mut Seat,
