@@ -57,19 +57,20 @@ pub struct Task {
     ghost some: { 0 < sessions },
 }
 
-/// The task of a kind of run, or None where there is none of this name.
+/// The task of a kind of run, which is named for what is done and for how many sessions work, as `works_4`; or None where there is none of this name.
 pub fn task_of(kind: &str) -> Option<Task> {
-    let (sessions, keys, deed) = match kind {
-        "lines_1" => (1, KEYS, Deed::Draw),
-        "lines_2" => (2, KEYS / 2, Deed::Draw),
-        "lines_4" => (4, KEYS / 4, Deed::Draw),
-        "works_1" => (1, KEYS, Deed::Work),
-        "works_2" => (2, KEYS / 2, Deed::Work),
-        "works_4" => (4, KEYS / 4, Deed::Work),
-        "times_1" => (1, KEYS, Deed::Time),
-        "times_2" => (2, KEYS / 2, Deed::Time),
-        "times_4" => (4, KEYS / 4, Deed::Time),
-        "rivals_2" => (2, 1, Deed::Work),
+    let (name, sessions) = kind.split_once('_')?;
+    let (sessions, own) = match sessions {
+        "1" => (1, KEYS),
+        "2" => (2, KEYS / 2),
+        "4" => (4, KEYS / 4),
+        _ => return None,
+    };
+    let (keys, deed) = match name {
+        "lines" => (own, Deed::Draw),
+        "works" => (own, Deed::Work),
+        "times" => (own, Deed::Time),
+        "rivals" => (1, Deed::Work),
         _ => return None,
     };
     Some(Task {
