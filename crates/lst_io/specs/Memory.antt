@@ -1,7 +1,7 @@
 -- What a source and a sink over memory show of themselves, and what a call does.
 use Rattle.std.specs.Prelude.{◌≡◌, ◌↔◌, ◌⊎◌, ℕ, ◌+◌, ◌-◌, ◌^◌, ◌<◌, min, List, [], length, drop, Result, Contains, IsErr, IfOk}
 use Rattle.lst_io.specs.declared.ends.Failed.{Failed}
-use Rattle.lst_io.specs.Faults.{faults_after}
+use Rattle.lst_model.specs.Faults.{faults_after}
 use Rattle.lst_io.specs.declared.memory.MemSource.{MemSource}
 use Rattle.lst_io.specs.declared.memory.MemSink.{MemSink}
 

@@ -2,7 +2,7 @@
 ghost use Rattle.std.specs.Prelude.{◌<◌, ℕ, List, Option, length, IfOk};
 ghost use Rattle.std.specs.Io.{ReadsAtMost, WritesAtMost};
 ghost use Rattle.std.specs.Io.KnownBytes.{ReadConsumes, WriteAppends};
-ghost use Rattle.lst_io.specs.Faults.{HasCause};
+ghost use Rattle.lst_model.specs.Faults.{HasCause};
 
 /// A read or a write failed: it gave or took no byte.
 #[derive(Clone, Copy, Debug, PartialEq, Eq)]

@@ -2,7 +2,7 @@
 ghost use Rattle.std.specs.Prelude.{◌≡◌, ◌≤◌, ◌<◌, ◌+◌, ℕ, List, [], Some, None, OnOk, IfOk, length, min, take, vec_capacity};
 ghost use Rattle.std.specs.Io.{ReadsAtMost, WritesAtMost};
 ghost use Rattle.std.specs.Io.KnownBytes.{ReadConsumes, WriteAppends};
-ghost use Rattle.lst_io.specs.Faults.{HasCause};
+ghost use Rattle.lst_model.specs.Faults.{HasCause};
 
 use crate::ends::{Failed, Sink, Source};
 use crate::faults::raised;

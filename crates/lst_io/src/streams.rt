@@ -2,7 +2,7 @@
 ghost use Rattle.std.specs.Prelude.{◌≡◌, ◌<◌, length, IfOk};
 ghost use Rattle.std.specs.Io.{ReadsAtMost, WritesAtMost};
 ghost use Rattle.std.specs.Io.KnownBytes.{ReadConsumes, WriteAppends};
-ghost use Rattle.lst_io.specs.Faults.{HasCause, faults_after};
+ghost use Rattle.lst_model.specs.Faults.{HasCause, faults_after};
 
 use crate::ends::{Failed, Sink, Source};
 use crate::faults::raised;

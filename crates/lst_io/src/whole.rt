@@ -1,7 +1,7 @@
 //! A whole input, and a whole output.
 ghost use Rattle.std.specs.Prelude.{◌≡◌, ◌≤◌, ◌<◌, ◌^◌, ℕ, take, IfOk, IfErr, IfSome, OnOk};
 ghost use Rattle.std.specs.Io.KnownBytes.{Appends};
-ghost use Rattle.lst_io.specs.Faults.{HasCause, Rose};
+ghost use Rattle.lst_model.specs.Faults.{HasCause, Rose};
 ghost use Rattle.lst_io.specs.Inputs.{IsWholeInput, StopsAt, IsDue};
 
 use crate::ends::{Failed, Sink, Source};

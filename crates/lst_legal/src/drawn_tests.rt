@@ -153,7 +153,7 @@ impl Drawer {
     }
 
     fn draw_cause(&mut self) -> Cause {
-        match self.draw(13) {
+        match self.draw(14) {
             0 => Cause::Idle,
             1 => Cause::Active,
             2 => Cause::ReadOnly,
@@ -168,6 +168,7 @@ impl Drawer {
             9 => Cause::Newer { time: self.draw(4) },
             10 => Cause::TailFull,
             11 => Cause::NotIndexed,
+            12 => Cause::Stale { time: self.draw(4) },
             _ => Cause::Unfinished {
                 session: self.pick(SESSIONS + 1),
                 number: self.pick(4),

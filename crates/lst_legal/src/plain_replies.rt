@@ -44,6 +44,7 @@ fn can_refuse(call: &Call, cause: &Cause) -> bool {
         Cause::Exists | Cause::TableFull => inserts,
         Cause::Missing => writes && !inserts,
         Cause::NotIndexed => matches!(call, Call::Find { .. }),
+        Cause::Stale { .. } => matches!(call, Call::Commit),
     }
 }
 

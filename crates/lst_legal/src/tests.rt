@@ -259,6 +259,14 @@ fn a_conflict_is_with_another_session(rt: HostRuntime) -> Result<(), Fail> {
         "0 begin\n0 insert 7 1 1\n",
         "0 begun 0\n0 conflict latched\nhistory 0\n",
         false,
+    )?;
+    is_judged(
+        &rt,
+        alloc,
+        &USUAL,
+        "0 begin\n0 insert 7 1 1\n0 commit\n1 begin\n1 insert 8 1 1\n1 commit\n",
+        "0 begun 0\n0 ok\n0 committed 1\n1 begun 0\n1 ok\n1 conflict stale 1\nhistory 1\n1 0 1 0\n",
+        false,
     )
 }
 

@@ -11,3 +11,8 @@ pub mod Viewing
 pub mod Answering
 pub mod Writing
 pub mod Covering
+pub mod Places
+pub mod Acting
+pub mod Ordering
+pub mod Sounding
+pub mod Lasting

@@ -1,5 +1,5 @@
 -- Whether a merge comes before a transaction that is aborted at once or after it, the machine's state is the same.
-use Rattle.std.proofs.Common.{◌≡◌, ◌≢◌, ℕ, suc, ◌+◌, ◌≤◌, Bool, true, false, cond, List, [], ◌∷◌, ◌++◌, Option, Some, None, length, refl, sym, ap, ◌∙◌, subst, arith, eq-eqb, ne_eqb}
+use Rattle.std.proofs.Common.{◌≡◌, ◌≢◌, ℕ, suc, ◌+◌, ◌≤◌, Bool, true, false, cond, List, [], ◌∷◌, ◌++◌, Option, Some, None, length, refl, sym, ap, ◌∙◌, subst, arith}
 use Rattle.std.specs.Prelude.{take_while, is_some, nat_le, ◌||◌, ◌&&◌}
 use Rattle.std.proofs.lemmas.List.Sums.{take_while-cons}
 use mathlib.Core.Logic.{dite}
@@ -20,16 +20,10 @@ use Rattle.lst_machine.specs.Writes.{put, put_in, time_of, own_writes, range_of}
 use Rattle.lst_machine.specs.Calls.{begin_refusal, as_of_refusal, with_opened, with_closed, with_commit, accepted_unless, placed_unless, insert_refusal, early_insert_refusal, change_refusal, opened_unless, after_abort, after_insert, after_change, after_commit, store_after}
 use Rattle.lst_machine.specs.Merges.{is_settled, holds_frame, lowest_where, merge_reply, merge_reply_at, swapped_where, begun_unless, ended_where, pages_after_call}
 use Rattle.lst_machine.specs.Machine.{next, state_after}
+use Rattle.lst_machine.proofs.Acting.{put_here, put_else}
 use Rattle.lst_machine.specs.Orders.{aborted_transaction, OrderIsForgotten}
 
 -- ---- functions that change at one place
-
-module _ {A : Type 0} (f : ℕ → A) (k : ℕ) (a : A) where
-  put_here : put f k a k ≡ a
-  put_here = ap (λ b. cond b a (f k)) (eq-eqb k k refl)
-
-  put_else : (j : ℕ) → j ≢ k → put f k a j ≡ f j
-  put_else j other = ap (λ b. cond b a (f j)) (ne_eqb j k other)
 
 -- what is set back
 put_back : {A : Type 0} (f : ℕ → A) (s : ℕ) (x z : A) → f s ≡ z → put (put f s x) s z ≡ f

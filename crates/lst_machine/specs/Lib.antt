@@ -11,3 +11,4 @@ pub mod Scans
 pub mod Listings
 pub mod Parts
 pub mod Machines
+pub mod Histories

@@ -22,6 +22,7 @@ ghost use Rattle.lst_machine.specs.State.{State};
 ghost use Rattle.lst_machine.specs.Machine.{replies};
 ghost use Rattle.lst_machine.specs.Others.{without_merges, other_replies};
 ghost use Rattle.lst_machine.specs.Orders.{OrderIsForgotten};
+ghost use Rattle.lst_machine.specs.Histories.{MachineIsSound};
 
 pub use answers::{Transaction, answer_from_rows, lacks_index, list_row, refused, row_misfit};
 pub use machine::Machine;
@@ -38,4 +39,10 @@ pub fn merges_change_no_other_reply()
 /// nothing.
 pub fn an_ended_begin_is_forgotten()
     ensures { OrderIsForgotten }
+{}
+
+/// After any script the machine's history is sound: each commit began before its time, no commit after its begin wrote one of its keys, its
+/// number is above those of its session before it, and each of its writes fits what it saw. The contract is a law; the body does nothing.
+pub fn every_history_is_sound()
+    ensures { MachineIsSound }
 {}

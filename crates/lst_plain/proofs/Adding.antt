@@ -13,7 +13,8 @@ use Rattle.lst_plain.specs.Rows.{Kept, fresh, newest, keys_of, kept_of}
 use Rattle.lst_plain.specs.Engines.{EngineState}
 use Rattle.lst_plain.specs.Steps.{with_record}
 use Rattle.lst_plain.specs.Telling.{own_acts, acts_by, has_write, is_live, is_apart, last_settled, accepted_on, IsReached, KeyTells, StoreTells}
-use Rattle.lst_plain.proofs.Placing.{with_last, place-append, kept-add}
+use Rattle.lst_machine.proofs.Places.{with_last, place-append}
+use Rattle.lst_plain.proofs.Placing.{kept-add}
 use Rattle.lst_plain.proofs.Acting.{acts_by-none, last-none}
 use Rattle.lst_plain.proofs.Seeing.{no_write_unplaced}
 use Rattle.lst_plain.proofs.Opening.{pending_same}

@@ -27,7 +27,7 @@ use Rattle.lst_plain.specs.Tails.{key_of}
 use Rattle.lst_plain.specs.Lineages.{LineageState, with_newest, with_tail, followed, IsWide}
 use Rattle.lst_plain.specs.Pages.{PagesTell}
 use Rattle.lst_plain.proofs.Opening.{put-same}
-use Rattle.lst_plain.proofs.Placing.{with_last, place-append}
+use Rattle.lst_machine.proofs.Places.{with_last, place-append}
 use Rattle.lst_plain.proofs.Following.{pages_placed, pages_begun, pages_closed, pages_committed, pages_accepted}
 
 first_rest : (cause : Option Cause) (causes : List (Option Cause)) → first_of (cause ∷ causes) ≡ None → (cause ≡ None) × (first_of causes ≡ None)

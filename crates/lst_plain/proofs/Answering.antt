@@ -28,7 +28,8 @@ use Rattle.lst_plain.specs.Steps.{refusal_of_begin, with_transaction, with_recor
 use Rattle.lst_machine.specs.Changes.{IsChange}
 use Rattle.lst_machine.specs.Transactions.{opened_as}
 use Rattle.lst_plain.specs.Telling.{own_acts, KeyTells, SessionTells, StoreTells}
-use Rattle.lst_plain.proofs.Placing.{with_last, place-append, at_place, kept-at, kept-absent}
+use Rattle.lst_machine.proofs.Places.{with_last, place-append}
+use Rattle.lst_plain.proofs.Placing.{at_place, kept-at, kept-absent}
 use Rattle.lst_plain.proofs.Seeing.{sight_is, conflict_is, range_low, own_by_key}
 use Rattle.lst_plain.proofs.Adding.{tells_placed}
 use Rattle.lst_plain.proofs.Ending.{tells_closed, tells_committed}

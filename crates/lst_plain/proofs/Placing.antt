@@ -7,54 +7,11 @@ use Rattle.std.proofs.Math.Seq.{map-set_same}
 use Rattle.std.specs.Prelude.{Option, Some, None, nat_lt, ◌==◌}
 use Rattle.std.specs.Ordering.{nat_cmp}
 use Rattle.std.specs.Cmp.{unsigned_tied}
-use Rattle.std.specs.List.{position_or_len}
 use Rattle.std.specs.BTreeMap.{is_at}
 use Rattle.lst_machine.specs.Writes.{place_of}
+use Rattle.lst_machine.proofs.Places.{next, place-cons, with_last, place-append}
 use Rattle.lst_plain.specs.declared.versions.Pending.{Pending}
 use Rattle.lst_plain.specs.Rows.{Kept, fresh, keys_of, kept_of, settled, settled_row, settled_beside}
-
--- one place further
-abbrev pub next : Option ℕ → Option ℕ
-next None = None
-next (Some place) = Some (place + 1)
-
-pub place-cons : (x : ℕ) (xs : List ℕ) (q : ℕ) → place_of (x ∷ xs) q ≡ cond (x == q) (Some 0) (next (place_of xs q))
-place-cons x xs q = at_test (x == q) refl
-  where
-    found : (b : Bool) → nat_lt (position_or_len (λ other. other == q) xs) (length xs) ≡ b → cond (nat_lt (1 + position_or_len (λ other. other == q) xs) (suc (length xs))) (Some (1 + position_or_len (λ other. other == q) xs)) None ≡ next (cond b (Some (position_or_len (λ other. other == q) xs)) None)
-    found true is = grind arith
-    found false is = grind arith
-
-    at_test : (b : Bool) → (x == q) ≡ b → place_of (x ∷ xs) q ≡ cond b (Some 0) (next (place_of xs q))
-    at_test true is = grind arith
-    at_test false is = grind arith
-
--- the place of q once a key stands last
-abbrev pub with_last : Option ℕ → Bool → ℕ → Option ℕ
-with_last (Some place) same last = Some place
-with_last None same last = cond same (Some last) None
-
-with_last-next : (place : Option ℕ) (same : Bool) (last : ℕ) → next (with_last place same last) ≡ with_last (next place) same (suc last)
-with_last-next (Some place) same last = refl
-with_last-next None true last = ap Some (omega arith)
-with_last-next None false last = refl
-
-with_last-cond : (here : Bool) (place : Option ℕ) (same : Bool) (last : ℕ) → cond here (Some 0) (with_last place same last) ≡ with_last (cond here (Some 0) place) same last
-with_last-cond true place same last = refl
-with_last-cond false place same last = refl
-
-pub place-append : (xs : List ℕ) (key q : ℕ) → place_of (xs ++ key ∷ []) q ≡ with_last (place_of xs q) (key == q) (length xs)
-place-append [] key q = place-cons key [] q ∙ none (key == q)
-  where
-    none : (b : Bool) → cond b (Some 0) (next (place_of [] q)) ≡ with_last (place_of [] q) b 0
-    none true = refl
-    none false = refl
-place-append (x ∷ xs) key q =
-    place-cons x (xs ++ key ∷ []) q
-    ∙ ap (λ p. cond (x == q) (Some 0) (next p)) (place-append xs key q)
-    ∙ ap (cond (x == q) (Some 0)) (with_last-next (place_of xs q) (key == q) (length xs))
-    ∙ with_last-cond (x == q) (next (place_of xs q)) (key == q) (suc (length xs))
-    ∙ ap (λ p. with_last p (key == q) (suc (length xs))) (sym (place-cons x xs q))
 
 -- a key found at a place stands there, within the list
 pub at_place : (xs : List ℕ) (q i : ℕ) → place_of xs q ≡ Some i → (i < length xs) × (get_or xs i 0 ≡ q)

@@ -11,3 +11,4 @@ pub mod Faults
 pub mod Outcomes
 pub mod Printed
 pub mod Shapes
+pub mod Levels

@@ -6,7 +6,7 @@ use Rattle.lst_model.specs.Cells.{Cell}
 use Rattle.lst_model.specs.declared.replies.Reply.{Reply}
 use Rattle.lst_model.specs.declared.replies.Reply.TheVariants.{Begun, Done, Row, Absent, Committed, Ended, Aborted, Sum, Count, Rows, Keys, Refused, Merged, NothingNew, NoFrame, Silent}
 use Rattle.lst_model.specs.declared.replies.Cause.{Cause}
-use Rattle.lst_model.specs.declared.replies.Cause.TheVariants.{Idle, Active, ReadOnly, Spent, Future, Missing, Exists, TableFull, Latched, Newer, Unfinished, TailFull, NotIndexed}
+use Rattle.lst_model.specs.declared.replies.Cause.TheVariants.{Idle, Active, ReadOnly, Spent, Future, Missing, Exists, TableFull, Latched, Newer, Unfinished, TailFull, NotIndexed, Stale}
 use Rattle.lst_replies.specs.declared.reports.Stamp.{Stamp}
 use Rattle.lst_replies.specs.declared.reports.Report.{Report}
 use Rattle.lst_replies.specs.Texts.{cells_text, reply_word, reply_rest, cause_words, cause_numbers, entry_text, key_text}
@@ -43,6 +43,7 @@ cause_free (Newer time) fits = number_free time (omega arith)
 cause_free (Unfinished session number) fits = with_both_free (decimal session) (32 ∷ decimal number) (number_free session (omega (arith, fits.0))) (number_free number (omega (arith, fits.1)))
 cause_free TailFull fits = refl
 cause_free NotIndexed fits = refl
+cause_free (Stale time) fits = number_free time (omega arith)
 
 entries_free : (columns : ℕ) (list : List (ℕ × List Cell)) → All (EntryFits columns) list → IsFree (flat_map entry_text list)
 entries_free columns [] fits = refl

@@ -9,7 +9,7 @@ use Rattle.lst_model.specs.Cells.{Cell}
 use Rattle.lst_model.specs.declared.replies.Reply.{Reply}
 use Rattle.lst_model.specs.declared.replies.Reply.TheVariants.{Begun, Done, Row, Absent, Committed, Ended, Aborted, Sum, Count, Rows, Keys, Refused, Merged, NothingNew, NoFrame}
 use Rattle.lst_model.specs.declared.replies.Cause.{Cause}
-use Rattle.lst_model.specs.declared.replies.Cause.TheVariants.{Idle, Active, ReadOnly, Spent, Future, Missing, Exists, TableFull, Latched, Newer, Unfinished, TailFull, NotIndexed}
+use Rattle.lst_model.specs.declared.replies.Cause.TheVariants.{Idle, Active, ReadOnly, Spent, Future, Missing, Exists, TableFull, Latched, Newer, Unfinished, TailFull, NotIndexed, Stale}
 use Rattle.lst_replies.specs.Texts.{cell_text, cells_text}
 use Rattle.lst_replies.specs.ReportTexts.{reply_line, CauseFits, CellFits, RowFits, EntryFits, CallReplyFits, MergeReplyFits, ReplyFits}
 use Rattle.lst_replies.specs.Reading.{is_comma, is_colon, words_of, read_all, with_both, number_of, number64, number32, cell_of, cells_of, entry_at, entry_of, word_reply, refusal_named, fullness_named, cause_named, numbered_reply, timed_cause, open_cause, short_reply, list_reply, call_reply, merge_reply, told_by, reply_of}
@@ -184,8 +184,9 @@ timed_takes first second word =
     let spelled : (one two : List ℕ) (n : ℕ) → (bytes_eq first one && bytes_eq second two) ≡ true → word ≡ decimal n → first ∷ second ∷ word ∷ [] ≡ one ∷ two ∷ decimal n ∷ []
     = λ one two n e f. let both = and_parts _ _ e in ap (λ w. w ∷ second ∷ word ∷ []) (named first one both.0) ∙ ap (λ w. one ∷ w ∷ word ∷ []) (named second two both.1) ∙ ap (λ w. one ∷ two ∷ w ∷ []) f in
     reads_if P (bytes_eq first (codes "refused") && bytes_eq second (codes "future")) _ _ (λ e. reads_map P (λ n. Future n) (number64 word) (λ n f. let takes = takes64 word n f in record { words_are = spelled (codes "refused") (codes "future") n e takes.0; fits = takes.1 }))
-    (reads_if P (bytes_eq first (codes "conflict") && bytes_eq second (codes "newer")) _ None (λ e. reads_map P (λ n. Newer n) (number64 word) (λ n f. let takes = takes64 word n f in record { words_are = spelled (codes "conflict") (codes "newer") n e takes.0; fits = takes.1 }))
-    (reads_none P))
+    (reads_if P (bytes_eq first (codes "conflict") && bytes_eq second (codes "newer")) _ _ (λ e. reads_map P (λ n. Newer n) (number64 word) (λ n f. let takes = takes64 word n f in record { words_are = spelled (codes "conflict") (codes "newer") n e takes.0; fits = takes.1 }))
+    (reads_if P (bytes_eq first (codes "conflict") && bytes_eq second (codes "stale")) _ None (λ e. reads_map P (λ n. Stale n) (number64 word) (λ n f. let takes = takes64 word n f in record { words_are = spelled (codes "conflict") (codes "stale") n e takes.0; fits = takes.1 }))
+    (reads_none P)))
 
 open_takes : (first second third fourth : List ℕ) → Reads (IsCauseSpelled (first ∷ second ∷ third ∷ fourth ∷ [])) (open_cause first second third fourth)
 open_takes first second third fourth =

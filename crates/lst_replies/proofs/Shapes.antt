@@ -1,11 +1,14 @@
 -- Lines and replies, one after another.
 use Rattle.std.proofs.Common.{◌≡◌, ◌↔◌, ℕ, ◌+◌, ◌<◌, ◌≤◌, true, false, List, [], ◌∷◌, ◌++◌, length, drop, get_or, Option, refl, sym, ap, ◌∙◌, subst, add-one, drop-cons, arith}
+use Rattle.std.specs.List.{AllByRecursion}
 use Rattle.std.proofs.lemmas.List.{drop_all}
 use Rattle.lst_model.specs.declared.lines.Line.{Line}
 use Rattle.lst_model.specs.declared.lines.Line.TheVariants.{Phase, Merge, Call}
+use Rattle.lst_model.specs.declared.lines.Call.{Call as CallKind}
 use Rattle.lst_model.specs.declared.replies.Reply.{Reply}
-use Rattle.lst_replies.specs.Runs.{Answered, run_of, is_phase}
-use Rattle.lst_replies.specs.ReplyKinds.{AnswersLine, HaveReplyShape}
+use Rattle.lst_model.specs.declared.replies.Reply.TheVariants.{Silent}
+use Rattle.lst_replies.specs.Runs.{Answered, answered, run_of, is_phase, AtEachCall}
+use Rattle.lst_replies.specs.ReplyKinds.{AnswersLine, HaveReplyShape, can_answer, can_answer_merge}
 
 abbrev Told : Type 0
 Told = Option ℕ × Reply
@@ -77,3 +80,27 @@ module _ (lines : List Line) (replies : List (Option ℕ × Reply)) where
 
 pub record PairsOn (lines : List Line) (replies : List (Option ℕ × Reply)) (front : List Answered) (i : ℕ) (rest : List (Option ℕ × Reply)) : Type 0 where
   pub whole : run_of lines replies ≡ front ++ run_of (drop i lines) rest
+
+-- ---- the kinds of replies in a run of the right shape
+
+abbrev pub KindOf : Line → Reply → Type 0
+KindOf Phase reply = reply ≡ Silent
+KindOf (Merge range column) reply = can_answer_merge reply ≡ true
+KindOf (Call session call) reply = can_answer call reply ≡ true
+
+pub kinds_of : (lines : List Line) (replies : List (Option ℕ × Reply)) → HaveReplyShape lines replies → AllByRecursion (λ (one : Answered). KindOf one.line one.reply) (run_of lines replies)
+kinds_of [] replies shape = tt
+kinds_of (Phase ∷ lines) replies shape = (refl, kinds_of lines replies shape)
+kinds_of (Merge range column ∷ lines) [] shape = absurd shape
+kinds_of (Merge range column ∷ lines) (reply ∷ replies) shape = (shape.0.kind, kinds_of lines replies shape.1)
+kinds_of (Call session call ∷ lines) [] shape = absurd shape
+kinds_of (Call session call ∷ lines) (reply ∷ replies) shape = (shape.0.kind, kinds_of lines replies shape.1)
+
+kind_here : (before : List Answered) (session : ℕ) (call : CallKind) (reply : Reply) (after : List Answered) → AllByRecursion (λ (one : Answered). KindOf one.line one.reply) (before ++ answered (Call session call) reply ∷ after) → can_answer call reply ≡ true
+kind_here [] session call reply after all = all.0
+kind_here (one ∷ before) session call reply after all = kind_here before session call reply after all.1
+
+-- the reply to a call is of a kind that answers it
+pub kind_at : (lines : List Line) (replies : List (Option ℕ × Reply)) → HaveReplyShape lines replies → AtEachCall (λ before session call reply. can_answer call reply ≡ true) (run_of lines replies)
+kind_at lines replies shape before session call reply after e =
+    kind_here before session call reply after (subst (AllByRecursion (λ (one : Answered). KindOf one.line one.reply)) e (kinds_of lines replies shape))

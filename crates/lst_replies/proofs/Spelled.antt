@@ -4,7 +4,7 @@ use Rattle.std.specs.Prelude.{if◌then◌else◌}
 use Rattle.lst_model.specs.declared.replies.Reply.{Reply}
 use Rattle.lst_model.specs.declared.replies.Reply.TheVariants.{Begun, Done, Row, Absent, Committed, Ended, Aborted, Sum, Count, Rows, Keys, Refused, Merged, NothingNew, NoFrame, Silent}
 use Rattle.lst_model.specs.declared.replies.Cause.{Cause}
-use Rattle.lst_model.specs.declared.replies.Cause.TheVariants.{Idle, Active, ReadOnly, Spent, Future, Missing, Exists, TableFull, Latched, Newer, Unfinished, TailFull, NotIndexed}
+use Rattle.lst_model.specs.declared.replies.Cause.TheVariants.{Idle, Active, ReadOnly, Spent, Future, Missing, Exists, TableFull, Latched, Newer, Unfinished, TailFull, NotIndexed, Stale}
 use Rattle.lst_replies.specs.ReportTexts.{reply_line, CauseFits, EntryFits, CallReplyFits, MergeReplyFits, ReplyFits}
 use Rattle.lst_replies.specs.Texts.{cell_text}
 use Rattle.lst_replies.specs.Reading.{or_else, with_both, number64, number32, entry_of, short_reply, list_reply, call_reply, merge_reply, told_by, reply_of}
@@ -31,6 +31,7 @@ cause_again (Unfinished session number) fits =
     ∙ ap (λ o. option_map (λ cause. Refused cause) (with_both (λ j n. Unfinished j n) (Some session) o)) (again32 number fits.1)
 cause_again TailFull fits = refl
 cause_again NotIndexed fits = refl
+cause_again (Stale time) fits = ap (λ o. option_map (λ cause. Refused cause) (option_map (λ n. Stale n) o)) (again64 time fits)
 
 -- no reply of a few words begins with the name of a list
 row_long : (words : List (List ℕ)) → short_reply (codes "row" ∷ words) ≡ None

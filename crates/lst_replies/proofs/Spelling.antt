@@ -7,7 +7,7 @@ use Rattle.lst_model.specs.Cells.{Cell}
 use Rattle.lst_model.specs.declared.replies.Reply.{Reply}
 use Rattle.lst_model.specs.declared.replies.Reply.TheVariants.{Begun, Done, Row, Absent, Committed, Ended, Aborted, Sum, Count, Rows, Keys, Refused, Merged, NothingNew, NoFrame, Silent}
 use Rattle.lst_model.specs.declared.replies.Cause.{Cause}
-use Rattle.lst_model.specs.declared.replies.Cause.TheVariants.{Idle, Active, ReadOnly, Spent, Future, Missing, Exists, TableFull, Latched, Newer, Unfinished, TailFull, NotIndexed}
+use Rattle.lst_model.specs.declared.replies.Cause.TheVariants.{Idle, Active, ReadOnly, Spent, Future, Missing, Exists, TableFull, Latched, Newer, Unfinished, TailFull, NotIndexed, Stale}
 use Rattle.lst_replies.specs.Texts.{cell_text, cells_text, reply_word, reply_rest, entry_text, key_text}
 use Rattle.lst_replies.specs.ReportTexts.{reply_line, CauseFits, CellFits, EntryFits, CallReplyFits, MergeReplyFits, ReplyFits}
 use Rattle.lst_replies.specs.Reading.{words_of}
@@ -30,6 +30,7 @@ cause_words_of (Newer time) = codes "conflict" ∷ codes "newer" ∷ decimal tim
 cause_words_of (Unfinished session number) = codes "conflict" ∷ codes "open" ∷ decimal session ∷ decimal number ∷ []
 cause_words_of TailFull = codes "full" ∷ codes "tail" ∷ []
 cause_words_of NotIndexed = codes "refused" ∷ codes "noindex" ∷ []
+cause_words_of (Stale time) = codes "conflict" ∷ codes "stale" ∷ decimal time ∷ []
 
 abbrev pub words_in : Reply → List (List ℕ)
 words_in (Begun time) = codes "begun" ∷ decimal time ∷ []
@@ -95,6 +96,7 @@ cause-line (Newer time) = refl
 cause-line (Unfinished session number) = refl
 cause-line TailFull = refl
 cause-line NotIndexed = refl
+cause-line (Stale time) = refl
 
 ends : (xs : List ℕ) → xs ++ [] ≡ xs
 ends [] = refl
@@ -150,6 +152,7 @@ some_word columns (Refused cause) fits = cause_word cause
     cause_word (Unfinished session number) = omega arith
     cause_word TailFull = omega arith
     cause_word NotIndexed = omega arith
+    cause_word (Stale time) = omega arith
 some_word columns (Merged tps) fits = absurd fits
 some_word columns (NothingNew tps) fits = absurd fits
 some_word columns (NoFrame session) fits = absurd fits
@@ -231,6 +234,7 @@ causes-free (Newer time) fits = (refl, (refl, one_number time (omega arith)))
 causes-free (Unfinished session number) fits = (refl, (refl, ((one_number session (omega arith)).0, one_number number (omega arith))))
 causes-free TailFull fits = (refl, (refl, tt))
 causes-free NotIndexed fits = (refl, (refl, tt))
+causes-free (Stale time) fits = (refl, (refl, one_number time (omega arith)))
 
 words-free : (columns : ℕ) (reply : Reply) → CallReplyFits columns reply → AreFree 32 (words_in reply)
 words-free columns (Begun time) fits = (refl, one_number time (omega arith))

@@ -12,6 +12,7 @@ use Rattle.lst_model.specs.Soundness.{IsSound}
 use Rattle.lst_replies.specs.declared.reports.Stamp.{Stamp}
 use Rattle.lst_replies.specs.declared.reports.Report.{Report}
 use Rattle.lst_replies.specs.declared.states.Transaction.{Transaction}
+use Rattle.lst_replies.specs.declared.states.SessionState.{SessionState}
 use Rattle.lst_replies.specs.Runs.{Answered, run_of, AtEachCall, AtEachMerge, write_of, commit_time, commit_times}
 use Rattle.lst_replies.specs.ReplyKinds.{HaveReplyShape}
 use Rattle.lst_replies.specs.States.{state_of, commit_of, floor_of}
@@ -40,7 +41,8 @@ abbrev pub AtEachWrite : (List Answered → ℕ → Transaction → Write → Re
 AtEachWrite P run = AtEachCall (λ before session call reply.
     IfSome (state_of session before).current (λ transaction. IfSome (write_of call) (λ write. P before session transaction write reply))) run
 
-pub record IsLegal (limits : Limits) (lines : List Line) (report : Report) (history : List Commit) : Type 0 where
+-- the nine rules, with a relation of what a session's state tells of a call's reply
+pub record FollowsRules (Told : Limits → SessionState → CallKind → Reply → Type 0) (limits : Limits) (lines : List Line) (report : Report) (history : List Commit) : Type 0 where
   -- reply shape
   pub shape : HaveReplyShape lines report.replies
   -- the history matches the committed replies
@@ -50,7 +52,7 @@ pub record IsLegal (limits : Limits) (lines : List Line) (report : Report) (hist
   -- reads answer their snapshot
   pub reads : AtEachCall (λ before session call reply. ReadIsAnswered limits history (state_of session before).current call reply) (run_of lines report.replies)
   -- state refusals are exact
-  pub refusals : AtEachCall (λ before session call reply. StateIsTold limits (state_of session before) call reply) (run_of lines report.replies)
+  pub refusals : AtEachCall (λ before session call reply. Told limits (state_of session before) call reply) (run_of lines report.replies)
   -- write replies fit the snapshot
   pub writes : AtEachWrite (λ before session transaction write reply. WriteIsAnswered history transaction write reply) (run_of lines report.replies)
   -- latch and open-transaction conflicts are explained
@@ -59,6 +61,10 @@ pub record IsLegal (limits : Limits) (lines : List Line) (report : Report) (hist
   pub fullness : AtEachWrite (λ before session transaction write reply. FullnessIsExplained limits history (run_of lines report.replies) before session transaction write reply) (run_of lines report.replies)
   -- merge replies are consistent
   pub merges : AtEachMerge (λ before range column reply. MergeIsAnswered limits (run_of lines report.replies) before range column reply) (run_of lines report.replies)
+
+-- under snapshot isolation that relation is exact
+abbrev pub IsLegal : Limits → List Line → Report → List Commit → Type 0
+IsLegal limits lines report history = FollowsRules StateIsTold limits lines report history
 
 -- a report that a store with these limits may give to a script of these lines
 abbrev pub IsLegalReport : Limits → List Line → Report → Type 0

@@ -4,6 +4,7 @@ pub mod ReplyKinds
 pub mod States
 pub mod Explained
 pub mod Legal
+pub mod Levels
 pub mod ReportTexts
 pub mod Reading
 pub mod Seen

@@ -7,7 +7,7 @@ use Rattle.lst_model.specs.Cells.{Cell}
 use Rattle.lst_model.specs.declared.replies.Reply.{Reply}
 use Rattle.lst_model.specs.declared.replies.Reply.TheVariants.{Begun, Done, Row, Absent, Committed, Ended, Aborted, Sum, Count, Rows, Keys, Refused, Merged, NothingNew, NoFrame}
 use Rattle.lst_model.specs.declared.replies.Cause.{Cause}
-use Rattle.lst_model.specs.declared.replies.Cause.TheVariants.{Idle, Active, ReadOnly, Spent, Future, Missing, Exists, TableFull, Latched, Newer, Unfinished, TailFull, NotIndexed}
+use Rattle.lst_model.specs.declared.replies.Cause.TheVariants.{Idle, Active, ReadOnly, Spent, Future, Missing, Exists, TableFull, Latched, Newer, Unfinished, TailFull, NotIndexed, Stale}
 use Rattle.lst_replies.specs.declared.reports.Stamp.{Stamp}
 use Rattle.lst_replies.specs.declared.reports.Report.{Report}
 use Rattle.lst_replies.specs.declared.parse.ReportFault.{ReportFault}
@@ -121,6 +121,7 @@ abbrev pub timed_cause : List ℕ → List ℕ → List ℕ → Option Cause
 timed_cause first second word =
     if bytes_eq first (codes "refused") && bytes_eq second (codes "future") then option_map (λ n. Future n) (number64 word)
     else if bytes_eq first (codes "conflict") && bytes_eq second (codes "newer") then option_map (λ n. Newer n) (number64 word)
+    else if bytes_eq first (codes "conflict") && bytes_eq second (codes "stale") then option_map (λ n. Stale n) (number64 word)
     else None
 
 abbrev pub open_cause : List ℕ → List ℕ → List ℕ → List ℕ → Option Cause

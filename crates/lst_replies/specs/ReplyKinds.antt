@@ -8,7 +8,7 @@ use Rattle.lst_model.specs.declared.lines.Call.TheVariants.{Begin, AsOf, Get, In
 use Rattle.lst_model.specs.declared.replies.Reply.{Reply}
 use Rattle.lst_model.specs.declared.replies.Reply.TheVariants.{Begun, Done, Row, Absent, Committed, Ended, Aborted, Sum as SumReply, Count as CountReply, Rows, Keys, Refused, Merged, NothingNew, NoFrame}
 use Rattle.lst_model.specs.declared.replies.Cause.{Cause}
-use Rattle.lst_model.specs.declared.replies.Cause.TheVariants.{Idle, Active, ReadOnly, Spent, Future, Missing, Exists, TableFull, Latched, Newer, Unfinished, TailFull, NotIndexed}
+use Rattle.lst_model.specs.declared.replies.Cause.TheVariants.{Idle, Active, ReadOnly, Spent, Future, Missing, Exists, TableFull, Latched, Newer, Unfinished, TailFull, NotIndexed, Stale}
 use Rattle.lst_replies.specs.Runs.{speaker_of, write_of}
 
 -- what a begin is refused for, and an as-of too
@@ -39,6 +39,10 @@ abbrev pub is_not_indexed : Cause → Bool
 is_not_indexed NotIndexed = true
 is_not_indexed cause = false
 
+abbrev pub is_stale : Cause → Bool
+is_stale (Stale time) = true
+is_stale cause = false
+
 abbrev pub is_missing : Cause → Bool
 is_missing Missing = true
 is_missing cause = false
@@ -61,7 +65,7 @@ can_refuse (Sum column) cause = is_idle cause
 can_refuse Count cause = is_idle cause
 can_refuse Scan cause = is_idle cause
 can_refuse (Find column value) cause = is_idle cause || is_not_indexed cause
-can_refuse Commit cause = is_idle cause
+can_refuse Commit cause = is_idle cause || is_stale cause
 can_refuse Abort cause = is_idle cause
 
 abbrev pub begins : CallKind → Bool

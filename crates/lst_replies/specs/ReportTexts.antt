@@ -5,7 +5,7 @@ use Rattle.lst_model.specs.Cells.{Cell}
 use Rattle.lst_model.specs.declared.replies.Reply.{Reply}
 use Rattle.lst_model.specs.declared.replies.Reply.TheVariants.{Begun, Done, Row, Absent, Committed, Ended, Aborted, Sum, Count, Rows, Keys, Refused, Merged, NothingNew, NoFrame, Silent}
 use Rattle.lst_model.specs.declared.replies.Cause.{Cause}
-use Rattle.lst_model.specs.declared.replies.Cause.TheVariants.{Future, Newer, Unfinished}
+use Rattle.lst_model.specs.declared.replies.Cause.TheVariants.{Future, Newer, Unfinished, Stale}
 use Rattle.lst_replies.specs.declared.reports.Stamp.{Stamp}
 use Rattle.lst_replies.specs.declared.reports.Report.{Report}
 use Rattle.lst_replies.specs.Texts.{reply_word, reply_rest}
@@ -59,6 +59,7 @@ report_text report = flat_map told_text report.replies ++ ((history_line (length
 abbrev pub CauseFits : Cause → Type 0
 CauseFits (Future clock) = clock < 2 ^ 64
 CauseFits (Newer time) = time < 2 ^ 64
+CauseFits (Stale time) = time < 2 ^ 64
 CauseFits (Unfinished session number) = (session < 2 ^ 32) × (number < 2 ^ 32)
 CauseFits cause = Unit {0}
 

@@ -5,7 +5,7 @@ use Rattle.lst_model.specs.declared.lines.Line.TheVariants.{Phase, Merge, Call}
 use Rattle.lst_model.specs.declared.replies.Reply.{Reply}
 use Rattle.lst_model.specs.declared.replies.Reply.TheVariants.{Begun, Done, Row, Absent, Committed, Ended, Aborted, Sum, Count, Rows, Keys, Refused, Merged, NothingNew, NoFrame, Silent}
 use Rattle.lst_model.specs.declared.replies.Cause.{Cause}
-use Rattle.lst_model.specs.declared.replies.Cause.TheVariants.{Idle, Active, ReadOnly, Spent, Future, Missing, Exists, TableFull, Latched, Newer, Unfinished, TailFull, NotIndexed}
+use Rattle.lst_model.specs.declared.replies.Cause.TheVariants.{Idle, Active, ReadOnly, Spent, Future, Missing, Exists, TableFull, Latched, Newer, Unfinished, TailFull, NotIndexed, Stale}
 use Rattle.lst_model.specs.Cells.{Cell}
 
 -- a cell as it is written: its number, or the word for null
@@ -41,11 +41,13 @@ cause_words (Newer time) = codes "conflict newer "
 cause_words (Unfinished session number) = codes "conflict open "
 cause_words TailFull = codes "full tail"
 cause_words NotIndexed = codes "refused noindex"
+cause_words (Stale time) = codes "conflict stale "
 
 -- the numbers behind them
 abbrev pub cause_numbers : Cause → List ℕ
 cause_numbers (Future clock) = decimal clock
 cause_numbers (Newer time) = decimal time
+cause_numbers (Stale time) = decimal time
 cause_numbers (Unfinished session number) = decimal session ++ 32 ∷ decimal number
 cause_numbers cause = []
 

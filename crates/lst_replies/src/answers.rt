@@ -194,6 +194,7 @@ fn can_refuse(call: &Call, cause: &Cause) -> bool
         Call::Update { .. } | Call::Delete { .. } => is_write_cause(cause)
             || matches!(cause, Cause::Missing),
         Call::Find { .. } => matches!(cause, Cause::Idle | Cause::NotIndexed),
+        Call::Commit => matches!(cause, Cause::Idle | Cause::Stale { .. }),
         _ => matches!(cause, Cause::Idle),
     }
 }

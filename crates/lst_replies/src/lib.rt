@@ -14,7 +14,7 @@ mod states;
 mod words;
 
 pub use answers::{Answer, has_reply_shape, paired};
-pub use laws::printed_report_is_read;
+pub use laws::{level_one_is_no_stale, printed_report_is_read};
 pub use lines::{print_line, push_line};
 pub use parse::{ReportFault, parse_report};
 pub use print::print_report;

@@ -124,6 +124,7 @@ fn words_of(cause: &Cause) -> &'static [u8]
         Cause::Unfinished { .. } => b"conflict open ",
         Cause::TailFull => b"full tail",
         Cause::NotIndexed => b"refused noindex",
+        Cause::Stale { .. } => b"conflict stale ",
     }
 }
 
@@ -132,7 +133,7 @@ fn push_numbers(text: &mut Text, cause: &Cause) -> Result<(), OutOfMemory>
 {
     match cause {
         Cause::Future { clock } => push_number(text, u128::from(*clock)),
-        Cause::Newer { time } => push_number(text, u128::from(*time)),
+        Cause::Newer { time } | Cause::Stale { time } => push_number(text, u128::from(*time)),
         Cause::Unfinished { session, number } => {
             push_number(text, u128::from(*session))?;
             push_behind(text, b" ", u128::from(*number))

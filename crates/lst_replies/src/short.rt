@@ -92,6 +92,8 @@ fn timed_cause(first: &[u8], second: &[u8], word: &[u8]) -> Option<Cause>
         read_u64(word).map(|clock| Cause::Future { clock })
     } else if first == b"conflict".as_slice() && second == b"newer".as_slice() {
         read_u64(word).map(|time| Cause::Newer { time })
+    } else if first == b"conflict".as_slice() && second == b"stale".as_slice() {
+        read_u64(word).map(|time| Cause::Stale { time })
     } else {
         None
     }

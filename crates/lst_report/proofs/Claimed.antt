@@ -14,13 +14,14 @@ use Rattle.lst_replies.specs.Runs.{speaker_of}
 use Rattle.lst_replies.specs.ReportTexts.{is_newline, without_empty_end, IsReportText, IsFirstFault}
 use Rattle.lst_legal.specs.Judged.{AreSessionsBelow}
 use Rattle.lst_script.specs.declared.faults.FaultKind.{FaultKind}
-use Rattle.lst_script.specs.declared.faults.FaultKind.TheVariants.{LineTooLong, UnknownWord, BadNumber, BadSession, BadCount, BadRange, BadColumn, NothingToSet, NoReport, BadReport}
+use Rattle.lst_script.specs.declared.faults.FaultKind.TheVariants.{LineTooLong, UnknownWord, BadNumber, BadSession, BadCount, BadRange, BadColumn, NothingToSet, BadVersion, BadName, BadPair, RepeatedColumn, NoReport, BadReport}
 use Rattle.lst_script.specs.declared.faults.ScriptFault.{ScriptFault}
 use Rattle.lst_script.specs.declared.faults.ScriptFault.TheVariants as faults
 use Rattle.lst_script.specs.Texts.{text_lines, line_words}
+use Rattle.lst_script.specs.Columns.{Columns, count_of}
 use Rattle.lst_script.specs.Grammar.{IsLine}
 use Rattle.lst_script.specs.Scripts.{AreScript, IsScript, first_faulty, Explains as ExplainsScript, NamesFaultOfLine, IsFaultOfLine}
-use Rattle.lst_script.proofs.Scanning.{first_cases, lines_faultless}
+use Rattle.lst_script.proofs.Versions.{script_faultless, each_line}
 use Rattle.lst_report.specs.declared.claims.Claim.{Claim}
 use Rattle.lst_report.specs.declared.claims.Mark.{Mark}
 use Rattle.lst_report.specs.Claims.{script_lines, IsMarkAt, IsUnmarked, IsClaim, IsFaultAt, Explains, IsRead}
@@ -55,6 +56,10 @@ module _ (limits : Limits) (text : List ℕ) where
   script_fault line BadRange own is = is
   script_fault line BadColumn own is = is
   script_fault line NothingToSet own is = is
+  script_fault line BadVersion own is = is
+  script_fault line BadName own is = is
+  script_fault line BadPair own is = is
+  script_fault line RepeatedColumn own is = is
   script_fault line NoReport own is = absurd own
   script_fault line BadReport own is = absurd own
 
@@ -95,18 +100,22 @@ module _ (limits : Limits) (text : List ℕ) where
 
   -- ---- a claim has no fault
 
-  script_faultless : (line : ℕ) (kind : FaultKind) (claim : Claim) → IsClaim limits text claim → first_faulty limits 1 (script_lines text) ≡ Some (line, kind) → ⊥
-  script_faultless line kind claim is fault = none-some (line, kind) (sym (lines_faultless limits 1 (script_lines text) claim.script is.script) ∙ fault)
+  claim_faultless : (line : ℕ) (kind : FaultKind) (claim : Claim) → IsClaim limits text claim → first_faulty limits 1 (script_lines text) ≡ Some (line, kind) → ⊥
+  claim_faultless line kind claim is fault = none-some (line, kind) (sym (script_faultless limits 1 (script_lines text) is.script.0 claim.script is.script.1) ∙ fault)
 
   faultless : (line : ℕ) (kind : FaultKind) (claim : Claim) → IsClaim limits text claim → IsFaultAt limits text line kind → ⊥
-  faultless line LineTooLong claim is fault = script_faultless line LineTooLong claim is fault
-  faultless line UnknownWord claim is fault = script_faultless line UnknownWord claim is fault
-  faultless line BadNumber claim is fault = script_faultless line BadNumber claim is fault
-  faultless line BadSession claim is fault = script_faultless line BadSession claim is fault
-  faultless line BadCount claim is fault = script_faultless line BadCount claim is fault
-  faultless line BadRange claim is fault = script_faultless line BadRange claim is fault
-  faultless line BadColumn claim is fault = script_faultless line BadColumn claim is fault
-  faultless line NothingToSet claim is fault = script_faultless line NothingToSet claim is fault
+  faultless line LineTooLong claim is fault = claim_faultless line LineTooLong claim is fault
+  faultless line UnknownWord claim is fault = claim_faultless line UnknownWord claim is fault
+  faultless line BadNumber claim is fault = claim_faultless line BadNumber claim is fault
+  faultless line BadSession claim is fault = claim_faultless line BadSession claim is fault
+  faultless line BadCount claim is fault = claim_faultless line BadCount claim is fault
+  faultless line BadRange claim is fault = claim_faultless line BadRange claim is fault
+  faultless line BadColumn claim is fault = claim_faultless line BadColumn claim is fault
+  faultless line NothingToSet claim is fault = claim_faultless line NothingToSet claim is fault
+  faultless line BadVersion claim is fault = claim_faultless line BadVersion claim is fault
+  faultless line BadName claim is fault = claim_faultless line BadName claim is fault
+  faultless line BadPair claim is fault = claim_faultless line BadPair claim is fault
+  faultless line RepeatedColumn claim is fault = claim_faultless line RepeatedColumn claim is fault
   faultless line NoReport claim is fault = true≢false (sym is.marked ∙ fault.unmarked)
   faultless line BadReport claim is fault = fault.fault.whole claim.report is.report
 
@@ -120,19 +129,13 @@ module _ (limits : Limits) (text : List ℕ) where
 abbrev IsBelow : ℕ → Line → Type 0
 IsBelow sessions line = IfSome (speaker_of line) (λ session. session < sessions)
 
-line_below : (limits : Limits) (words : List (List ℕ)) (line : Line) → IsLine limits words line → IsBelow limits.sessions line
-line_below limits words lines.Phase is = tt
-line_below limits words (lines.Merge range column) is = tt
-line_below limits words (lines.Call session call) is = is.4
+line_below : (limits : Limits) (columns : Columns) (words : List (List ℕ)) (line : Line) → count_of columns ≡ limits.columns → IsLine limits columns words line → IsBelow limits.sessions line
+line_below limits columns words lines.Phase many is = tt
+line_below limits columns words (lines.Merge range column) many is = tt
+line_below limits columns words (lines.Call session call) many is = is.4
 
 pub script_below : (limits : Limits) (texts : List (List ℕ)) (script : List Line) → AreScript limits texts script → AreSessionsBelow limits.sessions script
-script_below limits [] script are = subst (λ (all : List Line). AreSessionsBelow limits.sessions all) (sym are) (All-nil (IsBelow limits.sessions))
-script_below limits (text ∷ texts) script are =
-    elim (first_cases limits text texts script are) [
-      | inl skipped ↦ script_below limits texts script skipped.1
-      | inr read ↦ subst (λ (all : List Line). AreSessionsBelow limits.sessions all) (sym read.1.parts)
-          (All-cons (IsBelow limits.sessions) read.1.first read.1.rest (line_below limits (line_words text) read.1.first read.1.is_line) (script_below limits texts read.1.rest read.1.is_rest))
-    ]
+script_below limits texts script are = each_line limits (IsBelow limits.sessions) (line_below limits) texts script are
 
 pub result_below : (limits : Limits) (text : List ℕ) (result : Result Claim ScriptFault) → IfOk result (IsClaim limits text) → IfOk result (λ claim. AreSessionsBelow limits.sessions claim.script)
 result_below limits text (Ok claim) is = script_below limits (script_lines text) claim.script is.script

@@ -34,7 +34,7 @@ struct Mark {
 /// `Bad` comes exactly where the text is none of this. A fault of the script comes first, by `parse`. Then, where no line is
 /// `report`, the kind is `NoReport` and the line the number behind the last. Then, where what is behind it is no report, the kind is
 /// `BadReport` and the line the first that can't stand in its place, or the number behind the last where the report ends too early.
-/// Lines are counted from 1 over the whole text. `OutOfMemory` comes only where a request for memory was refused.
+/// Lines are counted from 1 over the whole text. `OutOfMemory` is want of memory, of which no clause says where it comes.
 pub fn read_claim(alloc: Global, bytes: &[u8], limits: &Limits) -> Result<Claim, ScriptFault>
     requires { IsValid limits.now }
     ensures ok { IfOk result (λ claim. IsClaim limits.now bytes.now claim) }

@@ -32,7 +32,7 @@ fn a_report_is_read_and_printed_again(rt: HostRuntime) -> Result<(), Fail> {
     is_read_again(
         &rt,
         alloc,
-        "0 begun 0\n0 ok\n0 committed 1\n1 begun 1\n1 sum 10\n1 row 5 null\n1 rows 7:10,null 9:null,20\n1 conflict open 0 2\nmerged 3\n1 ended 1\nhistory 1\n1 0 1 0\n",
+        "0 begun 0\n0 ok\n0 committed 1\n1 begun 1\n1 sum 10\n1 row 5 null\n1 rows 7:10,null 9:null,20\n1 conflict open 0 2\n1 conflict stale 1\nmerged 3\n1 ended 1\nhistory 1\n1 0 1 0\n",
     )
 }
 
