@@ -1,3 +1,2 @@
-pub mod Withins
-pub mod Laws
-pub mod TailNumbers
+pub mod Columns
+pub mod Cases

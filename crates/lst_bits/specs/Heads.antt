@@ -4,7 +4,7 @@ use Rattle.lst_bits.specs.Packing.{IsPacking}
 
 -- twice the tail number of the head, and one more where the record is latched
 abbrev pub head_word : ℕ → Bool → ℕ
-head_word head latched = 2 * head + (if latched then 1 else 0)
+head_word head latched = if latched then 2 * head + 1 else 2 * head
 
 abbrev pub head_of : ℕ → ℕ
 head_of word = word / 2

@@ -1,6 +1,7 @@
 pub mod Encodings
 pub mod Heads
 pub mod Logs
+pub mod Names
 pub mod Numbers
 pub mod Packing
 pub mod Postings

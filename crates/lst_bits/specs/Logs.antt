@@ -2,14 +2,20 @@
 use Rattle.std.specs.Prelude.{ℕ, ◌+◌, ◌*◌, ◌/◌, ◌%◌, ◌^◌, ◌<◌, ◌≤◌, ◌==◌, if◌then◌else◌}
 use Rattle.lst_bits.specs.declared.logs.Log.{Log}
 use Rattle.lst_bits.specs.declared.logs.Log.TheVariants.{Empty, By}
+use Rattle.lst_bits.specs.Names.{name_of, session_of, number_of}
 use Rattle.lst_bits.specs.Packing.{IsPacking}
 
 abbrev pub log_word : Log → ℕ
 log_word Empty = 0
-log_word (By session number) = 16 * number + session
+log_word (By session number) = name_of session number
 
 abbrev pub log_of : ℕ → Log
-log_of word = if word == 0 then Empty else By (word % 16) (word / 16)
+log_of word = if word == 0 then Empty else By (session_of word) (number_of word)
+
+-- the entry fits its word
+abbrev pub FitsLog : Log → Type 0
+FitsLog Empty = Unit {0}
+FitsLog (By session number) = (session < 16) × (number < 2 ^ 32)
 
 -- a session is below 16, and a transaction's number is at least 1
 abbrev pub IsLog : Log → Type 0

@@ -1,6 +1,6 @@
 //! The encoding word of a tail record.
 ghost use Rattle.std.specs.Prelude.{◌≡◌, ◌<◌, ◌≤◌, ◌-◌, ◌^◌, ◌↔◌, IsTrue};
-ghost use Rattle.lst_bits.specs.Encodings.{encoding_word, encoding_of, IsEncoding, IsEncodingWord, IsEncodingFor, IsMaskOf, HasColumn, AreWithin, EncodingsArePacked};
+ghost use Rattle.lst_bits.specs.Encodings.{encoding_word, encoding_of, IsEncoding, IsEncodingWord, HasColumn, AreWithin, slot_of, has_number, EncodingsArePacked};
 
 /// What kind of write a tail record holds.
 #[derive(Clone, Copy, PartialEq, Eq, Debug)]
@@ -59,47 +59,6 @@ pub fn unpack_encoding(word: u64) -> Encoding
     }
 }
 
-/// Whether a word is the encoding of a write to a table with this many columns: a put of all of
-/// them, a set of at least one, or a delete, which holds none.
-pub fn is_encoding(word: u64, columns: u32) -> bool
-    requires { columns ≤ 8 }
-    ensures { IsTrue result ↔ IsEncodingFor columns word }
-{
-    if !is_encoding_word(word) {
-        return false;
-    }
-    let e = unpack_encoding(word);
-    is_mask_of(columns, e.kind, e.mask)
-}
-
-/// Whether a word is the encoding of some write, to a table with any number of columns.
-pub fn is_encoding_word(word: u64) -> bool
-    ensures { IsTrue result ↔ IsEncodingWord word }
-{
-    let code = word / 256 % 256;
-    word < 1 << 32 && 0 < code && code <= 3 && are_within(word / 16_777_216, word % 256)
-}
-
-/// Whether each bit of `nulls` is one of the mask, both below 256.
-fn are_within(nulls: u64, mask: u64) -> bool
-    requires { nulls < 256 }
-    ensures { IsTrue result ↔ AreWithin nulls mask }
-{
-    nulls & mask == nulls
-}
-
-/// Whether a mask fits the kind of a write to a table with this many columns.
-pub fn is_mask_of(columns: u32, kind: Kind, mask: u8) -> bool
-    requires { columns ≤ 8 }
-    ensures { IsTrue result ↔ IsMaskOf columns kind mask }
-{
-    match kind {
-        Kind::Put => mask == full_mask(columns),
-        Kind::Set => 0 < mask && mask <= full_mask(columns),
-        Kind::Del => mask == 0,
-    }
-}
-
 /// The mask that holds each of this many columns.
 pub fn full_mask(columns: u32) -> u8
     requires { columns ≤ 8 }
@@ -114,6 +73,23 @@ pub fn has_column(mask: u8, column: u32) -> bool
     ensures { IsTrue result ↔ HasColumn mask column }
 {
     mask >> column & 1 == 1
+}
+
+/// The slot that an encoding word tells.
+#[inline(always)]
+pub fn slot(word: u64) -> u32
+    ensures { result ≡ slot_of word }
+{
+    (word / 65_536 % 256) as u32
+}
+
+/// Whether a tail record with this encoding word holds a column with a number: its mask has the column, which isn't null.
+#[inline(always)]
+pub fn holds_number(word: u64, column: u32) -> bool
+    requires { column < 8 }
+    ensures { result ≡ has_number word column }
+{
+    (word % 256) >> column & 1 == 1 && (word / 16_777_216) >> column & 1 != 1
 }
 
 /// Packing and unpacking undo one another.

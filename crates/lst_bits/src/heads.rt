@@ -1,14 +1,24 @@
 //! The indirection word.
-ghost use Rattle.std.specs.Prelude.{◌≡◌};
+ghost use Rattle.std.specs.Prelude.{◌≡◌, ◌<◌, ◌^◌, true};
 ghost use Rattle.lst_bits.specs.Heads.{head_word, head_of, is_latched, IsHeadWord, HeadsArePacked};
 
 /// The indirection word of a record whose newest tail record is `head` (0 where it has none),
 /// and which is latched or not.
-pub fn pack_head(head: u32, latched: bool) -> u64
+#[inline(always)]
+pub fn pack_head(head: u64, latched: bool) -> u64
+    requires { head < 2 ^ 32 }
     ensures word { result ≡ head_word head latched }
     ensures image { IsHeadWord result }
 {
-    2 * head as u64 + latched as u64
+    2 * head + latched as u64
+}
+
+/// An indirection word with its latch set, whether or not it was.
+#[inline(always)]
+pub fn latched(word: u64) -> u64
+    ensures { result ≡ head_word (head_of word) true }
+{
+    2 * (word / 2) + 1
 }
 
 /// The head and the latch of an indirection word.

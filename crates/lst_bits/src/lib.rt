@@ -14,16 +14,16 @@ mod states;
 mod times;
 
 pub use encodings::{
-    Encoding, Kind, encodings_are_packed, full_mask, has_column, is_encoding, is_encoding_word,
-    is_mask_of, pack_encoding, unpack_encoding,
+    Encoding, Kind, encodings_are_packed, full_mask, has_column, holds_number, pack_encoding, slot,
+    unpack_encoding,
 };
-pub use heads::{heads_are_packed, pack_head, unpack_head};
+pub use heads::{heads_are_packed, latched, pack_head, unpack_head};
 pub use logs::{Log, logs_are_packed, pack_log, unpack_log};
 pub use numbers::{
     numbers_are_packed, pack_begin, pack_index, pack_pin, pack_turn, unpack_begin, unpack_index,
-    unpack_pin, unpack_turn,
+    unpack_pin,
 };
-pub use postings::{Tail, pack_posting, postings_are_packed, unpack_posting};
+pub use postings::{pack_posting, postings_are_packed, unpack_posting};
 pub use starts::{Start, pack_start, starts_are_packed, unpack_start};
 pub use states::{State, pack_state, states_are_packed, unpack_state};
 pub use times::{pack_time, times_are_packed, unpack_time};
@@ -65,6 +65,7 @@ mod tests {
         assert_eq!(rt; pack_head(5, true), 11);
         assert_eq!(rt; unpack_head(11), (5, true));
         assert_eq!(rt; unpack_head(10), (5, false));
+        assert_eq!(rt; latched(10), 11);
     }
 
     #[test]
@@ -77,8 +78,6 @@ mod tests {
         };
         assert_eq!(rt; pack_encoding(encoding), 459_266);
         assert_eq!(rt; unpack_encoding(459_266), encoding);
-        assert!(rt; is_encoding(459_266, 2));
-        assert!(rt; !is_encoding(459_266, 1));
         assert!(rt; has_column(encoding.mask, 1));
         assert_eq!(rt; full_mask(8), 255);
     }
@@ -93,9 +92,9 @@ mod tests {
         };
         assert_eq!(rt; pack_encoding(encoding), 34_013_698);
         assert_eq!(rt; unpack_encoding(34_013_698), encoding);
-        assert!(rt; is_encoding(34_013_698, 2));
-        assert!(rt; !is_encoding_word(34_013_697));
-        assert!(rt; !is_encoding_word(17_236_482));
+        assert_eq!(rt; slot(34_013_698), 7);
+        assert!(rt; !holds_number(34_013_698, 1));
+        assert!(rt; holds_number(459_266, 1));
     }
 
     #[test]
@@ -105,15 +104,14 @@ mod tests {
         assert_eq!(rt; pack_begin(None), 0);
         assert_eq!(rt; unpack_begin(1), Some(0));
         assert_eq!(rt; pack_turn(Some(2)), 3);
-        assert_eq!(rt; unpack_turn(0), None);
         assert_eq!(rt; pack_index(Some(9)), 10);
         assert_eq!(rt; unpack_index(10), Some(9));
     }
 
     #[test]
-    fn tails_are_numbered_range_after_range(rt: HostRuntime) {
-        let tail = Some(Tail { range: 1, tail: 1 });
-        assert_eq!(rt; pack_posting(4096, tail), 4097);
-        assert_eq!(rt; unpack_posting(4096, 4097), tail);
+    fn the_tail_record_4097_has_posting_word_4097(rt: HostRuntime) {
+        assert_eq!(rt; pack_posting(Some(4097)), 4097);
+        assert_eq!(rt; unpack_posting(4097), Some(4097));
+        assert_eq!(rt; unpack_posting(0), None);
     }
 }

@@ -1,6 +1,6 @@
 //! The word of the log.
 ghost use Rattle.std.specs.Prelude.{◌≡◌};
-ghost use Rattle.lst_bits.specs.Logs.{log_word, log_of, IsLog, IsLogWord, LogsArePacked};
+ghost use Rattle.lst_bits.specs.Logs.{log_word, log_of, FitsLog, IsLog, IsLogWord, LogsArePacked};
 
 /// What the log says of a time.
 #[derive(Clone, Copy, PartialEq, Eq, Debug)]
@@ -12,10 +12,11 @@ pub enum Log {
 }
 
 /// The log's word: 0, or the name of the transaction that committed.
+#[inline(always)]
 pub fn pack_log(log: Log) -> u64
-    requires { IsLog log }
+    requires { FitsLog log }
     ensures word { result ≡ log_word log }
-    ensures image { IsLogWord result }
+    ensures image { IsLog log → IsLogWord result }
 {
     match log {
         Log::Empty => 0,

@@ -4,6 +4,7 @@ ghost use Rattle.std.specs.Prelude.{◌≡◌, ◌-◌, ◌^◌};
 ghost use Rattle.lst_bits.specs.Numbers.{number_word, number_of, IsBelow, IsNumberWord, NumbersArePacked};
 
 /// The begin word of a transaction: 0 not begun, else one above its begin time.
+#[inline(always)]
 pub fn pack_begin(begin: Option<u64>) -> u64
     requires { IsBelow (2 ^ 64 - 1) begin }
     ensures { result ≡ number_word begin }
@@ -15,6 +16,7 @@ pub fn pack_begin(begin: Option<u64>) -> u64
 }
 
 /// The begin time that a begin word tells, if the transaction has begun.
+#[inline(always)]
 pub fn unpack_begin(word: u64) -> Option<u64>
     ensures begin { result ≡ number_of word }
     ensures word { number_word result ≡ word }
@@ -23,6 +25,7 @@ pub fn unpack_begin(word: u64) -> Option<u64>
 }
 
 /// The pin word of a session: 0 none, else one above the epoch.
+#[inline(always)]
 pub fn pack_pin(epoch: Option<u64>) -> u64
     requires { IsBelow (2 ^ 64 - 1) epoch }
     ensures { result ≡ number_word epoch }
@@ -34,6 +37,7 @@ pub fn pack_pin(epoch: Option<u64>) -> u64
 }
 
 /// The epoch of a pin word, if the session has one pinned.
+#[inline(always)]
 pub fn unpack_pin(word: u64) -> Option<u64>
     ensures epoch { result ≡ number_of word }
     ensures word { number_word result ≡ word }
@@ -42,6 +46,7 @@ pub fn unpack_pin(word: u64) -> Option<u64>
 }
 
 /// The commit word: 0 free, else one above the session that has the turn to commit.
+#[inline(always)]
 pub fn pack_turn(session: Option<u32>) -> u64
     ensures word { result ≡ number_word session }
     ensures image { IsNumberWord (2 ^ 32) result }
@@ -52,20 +57,8 @@ pub fn pack_turn(session: Option<u32>) -> u64
     }
 }
 
-/// The session that has the turn to commit, if one has.
-pub fn unpack_turn(word: u64) -> Option<u32>
-    requires { IsNumberWord (2 ^ 32) word }
-    ensures session { result ≡ number_of word }
-    ensures word { number_word result ≡ word }
-{
-    if word == 0 {
-        None
-    } else {
-        Some((word - 1) as u32)
-    }
-}
-
 /// The word of a position of the primary index: 0 empty, else one above the record.
+#[inline(always)]
 pub fn pack_index(rec: Option<u32>) -> u64
     ensures word { result ≡ number_word rec }
     ensures image { IsNumberWord (2 ^ 32) result }
@@ -77,6 +70,7 @@ pub fn pack_index(rec: Option<u32>) -> u64
 }
 
 /// The record at a position of the primary index, if there is one.
+#[inline(always)]
 pub fn unpack_index(word: u64) -> Option<u32>
     requires { IsNumberWord (2 ^ 32) word }
     ensures rec { result ≡ number_of word }

@@ -2,42 +2,27 @@
 ghost use Rattle.std.specs.Prelude.{◌≡◌, ◌<◌};
 ghost use Rattle.lst_bits.specs.Postings.{posting_word, posting_of, IsPosting, IsPostingWord, PostingsArePacked};
 
-/// A tail record: its range, and its number in the range, from 1 on.
-#[derive(Clone, Copy, PartialEq, Eq, Debug)]
-pub struct Tail {
-    pub range: u32,
-    pub tail: u32,
-}
-
-/// The word of a posting in a store with `tails` tail records in a range: 0 empty, else the
-/// identifier of the tail record, which counts those of all ranges.
-pub fn pack_posting(tails: u32, posting: Option<Tail>) -> u64
-    requires { IsPosting tails posting }
-    ensures word { result ≡ posting_word tails posting }
-    ensures image { IsPostingWord tails result }
+/// The word of a posting: 0 empty, else the identifier of the tail record, which counts those of all ranges from 1 on.
+#[inline(always)]
+pub fn pack_posting(tail: Option<u32>) -> u64
+    ensures word { result ≡ posting_word tail }
+    ensures image { IsPostingWord result }
 {
-    match posting {
+    match tail {
         None => 0,
-        Some(Tail { range, tail }) => range as u64 * tails as u64 + tail as u64,
+        Some(tail) => tail as u64,
     }
 }
 
-/// The tail record of a posting, if there is one.
-pub fn unpack_posting(tails: u32, word: u64) -> Option<Tail>
-    requires some { 0 < tails }
-    requires image { IsPostingWord tails word }
-    ensures posting { result ≡ posting_of tails word }
-    ensures range { IsPosting tails result }
-    ensures word { posting_word tails result ≡ word }
+/// The identifier of a posting's tail record, if there is one.
+#[inline(always)]
+pub fn unpack_posting(word: u64) -> Option<u32>
+    requires { IsPostingWord word }
+    ensures posting { result ≡ posting_of word }
+    ensures range { IsPosting result }
+    ensures word { posting_word result ≡ word }
 {
-    if word == 0 {
-        return None;
-    }
-    let tails = tails as u64;
-    Some(Tail {
-        range: ((word - 1) / tails) as u32,
-        tail: ((word - 1) % tails) as u32 + 1,
-    })
+    if word == 0 { None } else { Some(word as u32) }
 }
 
 /// Packing and unpacking undo one another.

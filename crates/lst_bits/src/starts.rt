@@ -1,6 +1,6 @@
 //! The start word of a tail record.
 ghost use Rattle.std.specs.Prelude.{◌≡◌};
-ghost use Rattle.lst_bits.specs.Starts.{start_word, start_of, IsStart, IsStartWord, StartsArePacked};
+ghost use Rattle.lst_bits.specs.Starts.{start_word, start_of, FitsStart, IsStart, IsStartWord, StartsArePacked};
 
 /// What the start word of a tail record says.
 #[derive(Clone, Copy, PartialEq, Eq, Debug)]
@@ -14,8 +14,9 @@ pub enum Start {
 }
 
 /// The start word: 0, an odd word that names a transaction, or an even one that tells a time.
+#[inline(always)]
 pub fn pack_start(start: Start) -> u64
-    requires { IsStart start }
+    requires { FitsStart start }
     ensures word { result ≡ start_word start }
     ensures image { IsStartWord result }
 {

@@ -14,6 +14,7 @@ pub enum State {
 }
 
 /// The state word: 0 active, 1 closed, else one above the time of the commit.
+#[inline(always)]
 pub fn pack_state(state: State) -> u64
     requires { IsState state }
     ensures { result ≡ state_word state }
@@ -26,6 +27,7 @@ pub fn pack_state(state: State) -> u64
 }
 
 /// What a state word says.
+#[inline(always)]
 pub fn unpack_state(word: u64) -> State
     ensures state { result ≡ state_of word }
     ensures range { IsState result }

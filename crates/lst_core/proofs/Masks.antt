@@ -1,7 +1,8 @@
 -- The mask of all places of a cell but its start word, and the bits of an encoding word.
 use Rattle.std.proofs.Common.{◌≡◌, ◌≢◌, ℕ, ◌+◌, ◌*◌, ◌/◌, ◌%◌, ◌^◌, ◌<◌, ◌≤◌, Bool, false, not, eqb, sym, ap, ◌∙◌, arith, eq-eqb, ne_eqb, ◌&&◌}
 use Rattle.std.proofs.Math.Nat.{pow-le-pow_right, mod-eq_of_lt}
-use Rattle.lst_core_state.specs.Cells.{has_bit, has_number, mask_of, nulls_of}
+use Rattle.lst_bits.specs.Encodings.{has_number}
+use Rattle.lst_core_state.specs.Cells.{has_bit, mask_of, nulls_of}
 
 pub mask_bounds : (c : ℕ) → c ≤ 8 → (2 ≤ 2 ^ (3 + c)) × (2 ^ (3 + c) ≤ 2048)
 mask_bounds c few = (pow-le-pow_right {n = 2} (omega arith) {i = 1} {j = 3 + c} (omega arith), pow-le-pow_right {n = 2} (omega arith) {i = 3 + c} {j = 11} (omega arith))

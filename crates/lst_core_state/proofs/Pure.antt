@@ -31,7 +31,7 @@ module _ (c : Core) (sound : Sound c) where
   w = c.words
 
   -- a transaction is in the first b commits exactly where its state word says a time of at most b
-  names_until : (b x : ℕ) → b ≤ w.clock → Names (history b w.log w.begins (writes_of c.limits w)) (x % 16) (x / 16) → is_until b (entry w.states x) ≡ true
+  pub names_until : (b x : ℕ) → b ≤ w.clock → Names (history b w.log w.begins (writes_of c.limits w)) (x % 16) (x / 16) → is_until b (entry w.states x) ≡ true
   unfolding history
   names_until zero x high i = absurd i
   names_until (suc b) x high i = ⊎_elim
@@ -39,7 +39,7 @@ module _ (c : Core) (sound : Sound c) where
       (λ (j : (w.log (suc b) % 16 ≡ x % 16) × (w.log (suc b) / 16 ≡ x / 16)). let n = (sound.times.named (suc b) (omega arith) high).state in let e : entry w.states (w.log (suc b)) ≡ entry w.states x = (λ i. w.states (j.0 i) (j.1 i)) in until_holds (suc b) (entry w.states x) (omega arith) (omega arith))
       (names_cases (history b w.log w.begins (writes_of c.limits w)) (commit_at w.log w.begins (writes_of c.limits w) (suc b)) (x % 16) (x / 16) i)
 
-  until_names : (b x : ℕ) → b ≤ w.clock → x % 16 < c.limits.sessions → is_until b (entry w.states x) ≡ true → Names (history b w.log w.begins (writes_of c.limits w)) (x % 16) (x / 16)
+  pub until_names : (b x : ℕ) → b ≤ w.clock → x % 16 < c.limits.sessions → is_until b (entry w.states x) ≡ true → Names (history b w.log w.begins (writes_of c.limits w)) (x % 16) (x / 16)
   unfolding history
   until_names zero x high low e = let q = until_says 0 (entry w.states x) e in let h = q.0 in let g = q.1 in absurd (omega arith)
   until_names (suc b) x high low e = let few = sound.sized.sessions.1 in let q = until_says (suc b) (entry w.states x) e in let some = q.0 in let most = q.1 in dite (ℕ_discrete (entry w.states x) (suc b + 1))

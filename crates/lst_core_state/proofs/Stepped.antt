@@ -102,7 +102,7 @@ module _ (c : Core) (sound : Sound c) where
   shows (Begin s b r) low within ok = refl
   shows (Take s) low within ok = refl
   shows (Log s) low within ok = let e = seen_all s low (omega arith) in λ i. record w { log = put w.log (e i + 1) (name_of s (K s).number) }
-  shows (State s) low within ok = let e = seen_all s low (omega arith) in λ i. record w { states = put_in w.states s (K s).number (e i + 2) }
+  shows (State s) low within ok = let e = seen_all s low (omega arith) in let next : length (K s).seen + 1 + 1 ≡ w.clock + 2 = omega arith in λ i. record w { states = put_in w.states s (K s).number (next i) }
   shows (Clock s) low within ok = let e = seen_all s low (omega arith) in λ i. record w { clock = e i + 1 }
   shows (Give s) low within ok = refl
   shows (Close s) low within ok = refl

@@ -1,7 +1,10 @@
 -- The words of a tail, and what they say. A tail's number counts the tails of its range, from 1 on; its identifier counts through
--- all ranges: range * tails + number.
+-- all ranges.
 use Rattle.std.specs.Prelude.{◌≡◌, ◌⊎◌, ℕ, zero, suc, ◌+◌, ◌-◌, ◌*◌, ◌/◌, ◌%◌, ◌^◌, ◌<◌, List, [], ◌∷◌, Bool, true, false, cond, not, eqb, ◌&&◌}
 use Rattle.lst_layout.specs.declared.limits.Limits.{Limits}
+use Rattle.lst_layout.specs.Addresses.{tail_identifier}
+pub use Rattle.lst_bits.specs.Encodings.{mask_of, slot_of, nulls_of, has_number}
+use Rattle.lst_bits.specs.Encodings.{code_of}
 use Rattle.lst_model.specs.declared.acts.Act.{Act}
 use Rattle.lst_model.specs.declared.acts.Act.TheVariants.{Put, Set, Del}
 pub use Rattle.lst_model.specs.Cells.{has_bit, patched}
@@ -24,24 +27,11 @@ tail_range tails t = (t - 1) / tails
 
 -- the identifier of the tail with this number in the range, and 0 for 0
 unfoldable pub tail_at : ℕ → ℕ → ℕ → ℕ
-tail_at tails range n = cond (eqb n 0) 0 (range * tails + n)
+tail_at tails range n = cond (eqb n 0) 0 (tail_identifier tails range n)
 
--- an encoding word is mask + 256 * kind + 65536 * slot + 16777216 * nulls
-abbrev pub mask_of : ℕ → ℕ
-mask_of e = e % 256
-
+-- the code of the kind in an encoding word: 1 a put, 2 a set, 3 a delete
 abbrev pub kind_of : ℕ → ℕ
-kind_of e = e / 256 % 256
-
-abbrev pub slot_of : ℕ → ℕ
-slot_of e = e / 65536 % 256
-
-abbrev pub nulls_of : ℕ → ℕ
-nulls_of e = e / 16777216
-
--- under an encoding word the column is set, to a number
-unfoldable pub has_number : ℕ → ℕ → Bool
-has_number e c = has_bit (mask_of e) c && not (has_bit (nulls_of e) c)
+kind_of e = code_of e
 
 -- n words from a place on
 abbrev pub listed : (ℕ → ℕ) → ℕ → ℕ → List ℕ

@@ -1,5 +1,5 @@
 -- The numbers of what a session knows, and each step on them.
-use Rattle.std.specs.Prelude.{◌≡◌, None, ℕ, zero, suc, ◌+◌, ◌-◌, ◌*◌, ◌/◌, ◌%◌, ◌^◌, ◌<◌, ◌≤◌, List, [], ◌∷◌, Bool, true, false, ◌&&◌, ◌||◌, cond, eqb, nat_lt, length, bit_or, replicate, slice_index_or, slice_set}
+use Rattle.std.specs.Prelude.{◌≡◌, None, Some, ℕ, zero, suc, ◌+◌, ◌-◌, ◌*◌, ◌/◌, ◌%◌, ◌^◌, ◌<◌, ◌≤◌, List, [], ◌∷◌, Bool, true, false, ◌&&◌, ◌||◌, cond, eqb, nat_lt, length, bit_or, replicate, slice_index_or, slice_set}
 use Rattle.lst_layout.specs.declared.limits.Limits.{Limits}
 use Rattle.lst_layout.specs.declared.place.Place.{Place}
 use Rattle.lst_layout.specs.declared.place.Place.TheVariants.{ClockWord, CommitWord, RecordCounter, LogWord, BeginWord, StateWord, KeyWord, IndexWord, HeadWord, TailCounter, CellWord, PostingWord}
@@ -14,6 +14,15 @@ use Rattle.lst_core_state.specs.declared.known.Stage.TheVariants.{Away, Taken, L
 use Rattle.lst_core_state.specs.Cells.{record_count, range_of}
 use Rattle.lst_core_state.specs.State.{rank, name_of, no_hold}
 use Rattle.lst_core_state.specs.Step.{refreshed, number_in}
+use Rattle.lst_bits.specs.Heads.{head_word, head_of}
+use Rattle.lst_bits.specs.Logs.{log_word}
+use Rattle.lst_bits.specs.Numbers.{number_word}
+use Rattle.lst_bits.specs.Postings.{posting_word}
+use Rattle.lst_bits.specs.Starts.{start_word}
+use Rattle.lst_bits.specs.States.{state_word}
+use Rattle.lst_bits.specs.declared.logs.Log.TheVariants.{By}
+use Rattle.lst_bits.specs.declared.starts.Start.TheVariants.{At}
+use Rattle.lst_bits.specs.declared.states.State.TheVariants.{Closed, Committed}
 
 -- whether a load serves a draw, by counter, for n counters
 abbrev pub flags : ℕ → List Counter → List Bool
@@ -87,26 +96,26 @@ place_for l n (Release s) = HeadWord (n.hold.latch - 1)
 place_for l n (Stamp s range t) = CellWord (range * l.tails + t) 0
 place_for l n (Post s c q) = PostingWord c q
 
--- what a step makes of the word that it finds; a stamp stores `time`
+-- what a step makes of the word that it finds; a stamp stores `time`. The record in hand is known by its index word
 abbrev pub written_of : Limits → Numbers → ℕ → Event → ℕ → ℕ
 written_of l n time (Look s a) x = x
-written_of l n time (Begin s b r) x = b + 1
-written_of l n time (Take s) x = cond (eqb x 0) (s + 1) x
-written_of l n time (Log s) x = 16 * n.number + s
-written_of l n time (State s) x = n.seen + 2
+written_of l n time (Begin s b r) x = number_word (Some b)
+written_of l n time (Take s) x = cond (eqb x 0) (number_word (Some s)) x
+written_of l n time (Log s) x = log_word (By s n.number)
+written_of l n time (State s) x = state_word (Committed (n.seen + 1))
 written_of l n time (Clock s) x = n.seen + 1
-written_of l n time (Give s) x = 0
-written_of l n time (Close s) x = 1
+written_of l n time (Give s) x = number_word None
+written_of l n time (Close s) x = state_word Closed
 written_of l n time (DrawRecord s) x = (x + 1) % 2 ^ 64
 written_of l n time (StoreKey s k) x = k
 written_of l n time (Claim s q) x = cond (eqb x 0) n.hand x
-written_of l n time (Latch s r) x = 2 * (x / 2) + 1
+written_of l n time (Latch s r) x = head_word (head_of x) true
 written_of l n time (DrawTail s range) x = (x + 1) % 2 ^ 64
 written_of l n time (StoreCell s p y) x = y
-written_of l n time (Install s) x = 2 * number_in l (n.hold.latch - 1) n.hold.tail
-written_of l n time (Release s) x = 2 * n.hold.head
-written_of l n time (Stamp s range t) x = 2 * time
-written_of l n time (Post s c q) x = cond (eqb x 0) n.hold.tail x
+written_of l n time (Install s) x = head_word (number_in l (n.hold.latch - 1) n.hold.tail) false
+written_of l n time (Release s) x = head_word n.hold.head false
+written_of l n time (Stamp s range t) x = start_word (At time)
+written_of l n time (Post s c q) x = cond (eqb x 0) (posting_word (Some n.hold.tail)) x
 
 -- the record in hand is given up by a load of the record's key word x
 abbrev pub gives_up : Numbers → ℕ → ℕ → Bool

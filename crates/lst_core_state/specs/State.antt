@@ -2,6 +2,9 @@
 use Rattle.std.specs.Prelude.{None, ℕ, zero, suc, ◌+◌, ◌-◌, ◌*◌, ◌/◌, ◌%◌, List, [], ◌∷◌, ◌++◌, Bool, false, cond, eqb, nat_lt, ◌&&◌, ◌||◌, take, replicate, slice_index_or}
 use Rattle.lst_layout.specs.declared.limits.Limits.{Limits}
 pub use Rattle.lst_layout.specs.Words.{Words}
+pub use Rattle.lst_bits.specs.Names.{name_of}
+use Rattle.lst_bits.specs.Names as names
+use Rattle.lst_bits.specs.Heads as heads
 use Rattle.lst_layout.specs.Words.{shown}
 use Rattle.lst_model.specs.declared.acts.Act.{Act}
 use Rattle.lst_model.specs.declared.acts.Write.{Write}
@@ -84,13 +87,9 @@ counter_of v range = slice_index_or v.counters range no_counter
 
 -- ---- transactions
 
--- the name of a transaction is its log word
-abbrev pub name_of : ℕ → ℕ → ℕ
-name_of s n = 16 * n + s
-
 -- a word of the transaction of that name
 abbrev pub entry : (ℕ → ℕ → ℕ) → ℕ → ℕ
-entry f x = f (x % 16) (x / 16)
+entry f x = f (names.session_of x) (names.number_of x)
 
 -- the transaction that a start word names, by itself or by the log
 unfoldable pub writer : (ℕ → ℕ) → ℕ → ℕ
@@ -117,7 +116,7 @@ abbrev pub back_in : Limits → (ℕ → ℕ → ℕ) → ℕ → ℕ
 back_in l cells t = tail_at l.tails (tail_range l.tails t) (cells t 2)
 
 abbrev pub head_of : Limits → ℕ → ℕ → ℕ
-head_of l r word = tail_at l.tails (range_of r) (word / 2)
+head_of l r word = tail_at l.tails (range_of r) (heads.head_of word)
 
 -- the tails of a record, newest first
 abbrev pub line : Limits → Words → ℕ → List ℕ

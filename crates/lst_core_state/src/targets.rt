@@ -9,9 +9,14 @@ ghost use Rattle.lst_core_state.specs.Step as step;
 ghost use Rattle.lst_core_state.specs.State as state;
 ghost use Rattle.lst_core_state.specs.Numbers as spec;
 ghost use Rattle.lst_core_state.specs.Bounds.{IsWritable};
+ghost use Rattle.lst_bits.specs.Heads.{head_word};
 
 use crate::Event;
 use crate::numbers::Numbers;
+use lst_bits::{
+    Log, Start, State, latched, pack_begin, pack_head, pack_index, pack_log, pack_posting,
+    pack_start, pack_state, pack_turn,
+};
 use lst_layout::{Layout, Limits};
 
 /// The address of the word that a step is on.
@@ -85,19 +90,22 @@ pub fn written(limits: &Limits, now: &Numbers, time: u64, event: Event, found: u
             session: _,
             begin,
             read_only: _,
-        } => begin + 1,
+        } => pack_begin(Some(begin)),
         Event::Take { session } => {
             if found == 0 {
-                session as u64 + 1
+                pack_turn(Some(session))
             } else {
                 found
             }
         }
-        Event::Log { session } => 16 * now.number as u64 + session as u64,
-        Event::State { session: _ } => now.seen + 2,
+        Event::Log { session } => pack_log(Log::By {
+            session,
+            number: now.number,
+        }),
+        Event::State { session: _ } => pack_state(State::Committed { time: now.seen + 1 }),
         Event::Clock { session: _ } => now.seen + 1,
-        Event::Give { session: _ } => 0,
-        Event::Close { session: _ } => 1,
+        Event::Give { session: _ } => pack_turn(None),
+        Event::Close { session: _ } => pack_state(State::Closed),
         Event::DrawRecord { session: _ }
         | Event::DrawTail {
             session: _,
@@ -107,27 +115,33 @@ pub fn written(limits: &Limits, now: &Numbers, time: u64, event: Event, found: u
         Event::Claim {
             session: _,
             position: _,
-        } => { if found == 0 { now.hand as u64 } else { found } }
-        Event::Latch { session: _, rec: _ } => 2 * (found / 2) + 1,
+        } => {
+            if found == 0 {
+                pack_index(now.hand.checked_sub(1))
+            } else {
+                found
+            }
+        }
+        Event::Latch { session: _, rec: _ } => latched(found),
         Event::StoreCell {
             session: _,
             place: _,
             value,
         } => value,
         Event::Install { session: _ } => installed(limits, now),
-        Event::Release { session: _ } => 2 * now.hold.head,
+        Event::Release { session: _ } => pack_head(now.hold.head, false),
         Event::Stamp {
             session: _,
             range: _,
             number: _,
-        } => 2 * time,
+        } => pack_start(Start::At { time }),
         Event::Post {
             session: _,
             column: _,
             position: _,
         } => {
             if found == 0 {
-                now.hold.tail as u64
+                pack_posting(Some(now.hold.tail))
             } else {
                 found
             }
@@ -140,8 +154,8 @@ fn installed(limits: &Limits, now: &Numbers) -> u64
     requires sized { IsValid limits.now }
     requires hold { (0 < now.now.hold.latch) × (now.now.hold.latch ≤ record_count limits.now) }
     requires above { (now.now.hold.latch - 1) / 256 * limits.now.tails < now.now.hold.tail }
-    ensures { result ≡ 2 * step.number_in limits.now (now.now.hold.latch - 1) now.now.hold.tail }
+    ensures { result ≡ head_word (step.number_in limits.now (now.now.hold.latch - 1) now.now.hold.tail) false }
 {
     let range = (now.hold.latch - 1) / 256;
-    2 * (now.hold.tail - range * limits.tails) as u64
+    pack_head((now.hold.tail - range * limits.tails) as u64, false)
 }

@@ -18,9 +18,9 @@ use Rattle.lst_rule.specs.Rule.{knows, hosts}
 use Rattle.lst_rule.specs.Learned.{Kept}
 use Rattle.lst_rule.specs.Stores.{IsSeatOf}
 use Rattle.lst_rule.specs.Statuses.{IsNamed, Answers, StatusOf}
-use Rattle.lst_sights.specs.Watching.{Watches, Watched}
-use Rattle.lst_sights.proofs.Watching.{watched_same}
-use Rattle.lst_sights.proofs.Asking.{status_watched}
+use Rattle.lst_rule.specs.Watching.{Watches, Watched}
+use Rattle.lst_rule.proofs.Watching.{watched_same}
+use Rattle.lst_rule.proofs.AskingWatched.{status_watched}
 use Rattle.lst_history.specs.Peeks.{Peeked, IsReader, Reads}
 use Rattle.lst_history.proofs.Looks.{still}
 

@@ -30,8 +30,8 @@ use Rattle.lst_rule.proofs.Learning.{learns_on, learns_same, kept_same, kept_on}
 use Rattle.lst_rule.specs.declared.store.Store.{Store}
 use Rattle.lst_rule.specs.Seats.{Sitting}
 use Rattle.lst_rule.specs.Stores.{IsSeatOf, Looked}
-use Rattle.lst_sights.specs.Watching.{IsNotFull}
-use Rattle.lst_sights.proofs.Watching.{clock_not_full}
+use Rattle.lst_rule.specs.Watching.{IsNotFull}
+use Rattle.lst_rule.proofs.Watching.{clock_not_full}
 use Rattle.lst_history.specs.Peeks.{Peeked, Peeks, words_in, IsReader, Reads}
 
 -- ---- several looks

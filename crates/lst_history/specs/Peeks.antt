@@ -16,7 +16,7 @@ use Rattle.lst_rule.specs.declared.store.Store.{Store}
 use Rattle.lst_rule.specs.Seats.{Sitting}
 use Rattle.lst_rule.specs.Stores.{IsSeatOf}
 use Rattle.lst_rule.specs.Surveys.{Surveyed}
-use Rattle.lst_sights.specs.Watching.{IsNotFull}
+use Rattle.lst_rule.specs.Watching.{IsNotFull}
 
 -- v is u with more facts, finds and commits seen, other words loaded last, and maybe pages taken in hand. No counter was found full, and the pin is
 -- the same

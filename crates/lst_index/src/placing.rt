@@ -13,6 +13,7 @@ ghost use Rattle.lst_index.specs.Visits.{one, Holds, HasOne, Uses, Shows, Draws,
 
 use crate::positions::position;
 use crate::visits::{compare, look};
+use lst_bits::unpack_index;
 use lst_model::Key;
 use lst_rule::{
     RecordId, Seat, Store, load_record_counter, step_claim, step_draw_record, step_store_key,
@@ -121,12 +122,10 @@ fn claim(
     };
     seat.consider();
     let word = step_claim(store, seat, s, position);
-    if word == 0 {
-        return Ok(RecordId { number });
+    match unpack_index(word) {
+        None => Ok(RecordId { number }),
+        Some(other) => Err(Lost { number: other }),
     }
-    Err(Lost {
-        number: (word - 1) as u32,
-    })
 }
 
 /// Brings the record in hand to the position, or finds that another session's record stands there: then it is the key's, and the one
@@ -196,8 +195,9 @@ pub(crate) fn visit(
 }
 
 /// The record of a key, which is drawn and placed if the key has none. At most one record is drawn, and none is in hand afterwards. A
-/// record that was drawn while another session placed the key stays drawn in vain. Where one is drawn, looks alone
-/// after the call's begin found that the key's run ended without it; that they came before the draw is read in the body.
+/// record that was drawn while another session placed the key stays drawn in vain. Where one is drawn, looks lead from what was known at the
+/// call's begin to a view that allows a state in which the key's run ends without it; that a load of this call found it so, before the draw, is
+/// read in the body.
 ///
 /// TableFull comes exactly where the key was found without a record and then the record counter at its limit; no record is drawn
 /// then.

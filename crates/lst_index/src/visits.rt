@@ -11,6 +11,7 @@ ghost use Rattle.lst_index.specs.Searches.{IsPlaced, Works, Keeps};
 ghost use Rattle.lst_index.specs.Placings.{HasRecord};
 ghost use Rattle.lst_index.specs.Visits.{Holds, Shows, Ends};
 
+use lst_bits::unpack_index;
 use lst_model::Key;
 use lst_rule::{RecordId, Seat, Store, load_index, load_key};
 
@@ -28,10 +29,7 @@ pub(crate) fn look(store: &Store, seat: &mut Seat, s: u32, position: u32) -> Opt
     ensures none { IfNone result (Ends store.now.layout.limits seat.old.view seat.new.view s position) }
 {
     let word = load_index(store, seat, s, position);
-    if word == 0 {
-        return None;
-    }
-    Some((word - 1) as u32)
+    unpack_index(word)
 }
 
 /// The record, which stands at a position of the index, if it has this key. A record in hand for the key is given up then.

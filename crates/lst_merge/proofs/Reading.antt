@@ -22,8 +22,8 @@ use Rattle.lst_rule.specs.Rule.{knows, hosts, Allowed}
 use Rattle.lst_rule.specs.Stores.{Looked}
 use Rattle.lst_rule.proofs.Knowing.{is_fact}
 use Rattle.lst_rule.specs.Learned.{Possible}
-use Rattle.lst_sights.proofs.Copying.{listed_at, length-listed}
-use Rattle.lst_sights.proofs.Encoded.{cell_encoded}
+use Rattle.lst_rule.proofs.Copying.{listed_at, length-listed}
+use Rattle.lst_rule.proofs.Encoded.{cell_encoded}
 use Rattle.lst_merge.specs.Inspections.{merger_of, Inspects}
 use Rattle.lst_merge.specs.Runs.{KnowsSettled, HasSettled, IsEncodedAs}
 use Rattle.lst_merge.proofs.Inspecting.{inspects_cell, facts_stay}

@@ -33,9 +33,9 @@ use Rattle.lst_rule.specs.Stores.{IsSeatOf, Looked}
 use Rattle.lst_rule.proofs.Asking.{looked_words, found_later}
 use Rattle.lst_rule.proofs.Knowing.{is_fact, knows_merger, whole_words}
 use Rattle.lst_rule.proofs.Stating.{asked_state}
-use Rattle.lst_sights.specs.Copies.{Version, fact_of}
-use Rattle.lst_sights.specs.Laws.{TailFound}
-use Rattle.lst_sights.proofs.Finding.{tails_are_found}
+use Rattle.lst_rule.specs.Copies.{Version, fact_of}
+use Rattle.lst_rule.specs.Laws.{TailFound}
+use Rattle.lst_rule.proofs.Finding.{tails_are_found}
 use Rattle.lst_merge.specs.Inspections.{merger_of, Inspects}
 use Rattle.lst_merge.specs.declared.tails.Tail.{Tail}
 use Rattle.lst_merge.specs.Tails.{IsTail}

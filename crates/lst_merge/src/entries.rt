@@ -6,7 +6,7 @@ ghost use Rattle.lst_pack.specs.Forms.{IsPacked};
 ghost use Rattle.lst_pages.specs.Frames.{packed_in};
 ghost use Rattle.lst_merge.specs.Pages.{entry_of, AreValuesIn, AreNumbers, IsWith};
 
-use lst_bits::pack_time;
+use lst_bits::{pack_time, unpack_time};
 use lst_layout::{FRAME_NULLS, FRAME_TIMES, FRAME_VALUES, FRAME_WORDS};
 use lst_pack::unpack;
 use lst_pages::Entry;
@@ -41,7 +41,8 @@ fn packed_words(words: &[u64; WORDS]) -> &[u64]
 fn present_value(stamp: u64, value: u64) -> u64
     ensures { result ≡ cond (is_present stamp) value 0 }
 {
-    if stamp % 2 == 1 { value } else { 0 }
+    let (_, is_present) = unpack_time(stamp);
+    if is_present { value } else { 0 }
 }
 
 /// Writes an entry into a page in hand. The value of one that is absent or null is 0.

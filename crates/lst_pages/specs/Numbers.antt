@@ -1,6 +1,7 @@
 -- The numbers of what the merger and a session know, and each step on them.
 use Rattle.std.specs.Prelude.{◌≡◌, ◌≢◌, ℕ, ◌+◌, ◌<◌, ◌^◌, Option, Some, None}
 use Rattle.lst_layout.specs.Words.{word_at, with_word}
+use Rattle.lst_bits.specs.Numbers.{number_word}
 use Rattle.lst_pages.specs.declared.events.PageEvent.{PageEvent}
 use Rattle.lst_pages.specs.declared.events.PageEvent.TheVariants.{Pin, Unpin, LookPage, LookPin, StoreFrame, Swap, Raise}
 use Rattle.lst_core_state.specs.declared.pages.MergerFrames.{MergerFrames}
@@ -13,8 +14,8 @@ numbers_of m = record { epoch = m.epoch; built = m.built }
 
 -- what a step makes of the word that it finds
 abbrev pub written_of : MergerNumbers → PageEvent → ℕ → ℕ
-written_of n (Pin s e) x = e + 1
-written_of n (Unpin s) x = 0
+written_of n (Pin s e) x = number_word (Some e)
+written_of n (Unpin s) x = number_word None
 written_of n (LookPage s r c) x = x
 written_of n (LookPin s) x = x
 written_of n (StoreFrame f i y) x = y

@@ -7,6 +7,7 @@ ghost use Rattle.lst_pages.specs.Step as step;
 ghost use Rattle.lst_pages.specs.Step.{IsWithin, place_of};
 
 use crate::events::PageEvent;
+use lst_bits::pack_pin;
 use lst_layout::Layout;
 
 /// What a running merger needs of what it knows.
@@ -49,8 +50,8 @@ pub fn written(now: MergerNumbers, event: PageEvent, found: u64) -> u64
     ensures { result ≡ spec.written_of now event found }
 {
     match event {
-        PageEvent::Pin { session: _, epoch } => epoch + 1,
-        PageEvent::Unpin { session: _ } => 0,
+        PageEvent::Pin { session: _, epoch } => pack_pin(Some(epoch)),
+        PageEvent::Unpin { session: _ } => pack_pin(None),
         PageEvent::LookPage {
             session: _,
             range: _,

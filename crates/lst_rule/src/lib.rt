@@ -10,6 +10,7 @@ mod acts;
 mod any;
 mod frames;
 mod joins;
+mod laws;
 mod loads;
 mod moves;
 mod open;
@@ -18,6 +19,7 @@ mod page_loads;
 mod page_steps;
 mod parts;
 mod records;
+mod resolutions;
 mod rule;
 mod runs;
 mod seat;
@@ -27,6 +29,7 @@ mod steps;
 mod store;
 mod surveys;
 mod table_seats;
+mod versions;
 mod view;
 mod writes;
 
@@ -34,6 +37,10 @@ pub use actions::Action;
 pub use any::load;
 pub use frames::{load_frame_from, load_frame_words, store_frame_words};
 pub use joins::{hear_note, join_seat};
+pub use laws::{
+    chains_are_copied, statuses_tell, versions_are_seen, watchers_keep, words_are_found,
+    writers_are_judged,
+};
 pub use loads::{
     load_cell, load_cell_from, load_clock, load_head, load_index, load_key, load_record_counter,
     load_state, load_tail_counter,
@@ -49,6 +56,7 @@ pub use page_steps::{
 };
 pub use parts::{Binds, Chooses, Confirms, Hears, Notes, Parts, Unites};
 pub use records::RecordId;
+pub use resolutions::{Resolution, resolve, resolve_from};
 pub use rule::{Adds, Exchanges, Loads, Means, SetsBits, StoreRule, Stores};
 pub use runs::{Run, load_heads, load_times, load_values};
 pub use seat::Seat;
@@ -58,6 +66,7 @@ pub use steps::{step_begin, step_clock, step_close, step_give, step_log, step_st
 pub use store::Store;
 pub use surveys::survey;
 pub use table_seats::{confirm, hear_told, note_seat, split_seat, unite_seats};
+pub use versions::{is_own, tail_of, version_below};
 pub use view::View;
 pub use writes::{
     step_claim, step_draw_record, step_draw_tail, step_install, step_latch, step_post,

@@ -2,6 +2,7 @@
 ghost use Rattle.std.specs.Prelude.{◌≡◌, ◌+◌, MatchOption};
 
 use crate::TableSeat;
+use lst_bits::unpack_pin;
 use lst_core_state::{Event, Numbers};
 use lst_layout::Limits;
 use lst_pages::{MergerNumbers, PageEvent};
@@ -147,7 +148,7 @@ impl Seat {
         requires { hosts self.now.view s ≡ true }
         ensures { MatchOption result ((knows self.now.view s).pages.session.pin ≡ 0) (λ epoch. (knows self.now.view s).pages.session.pin ≡ epoch + 1) }
     {
-        epoch_of(self.numbers[s as usize].pin)
+        unpack_pin(self.numbers[s as usize].pin)
     }
 
     /// The record in hand of a session.
@@ -189,11 +190,4 @@ fn one_less(number: u32) -> Option<u32>
     ensures { MatchOption result (number ≡ 0) (λ less. number ≡ less + 1) }
 {
     number.checked_sub(1)
-}
-
-/// The epoch that a pin word tells, where it is pinned.
-fn epoch_of(pin: u64) -> Option<u64>
-    ensures { MatchOption result (pin ≡ 0) (λ epoch. pin ≡ epoch + 1) }
-{
-    pin.checked_sub(1)
 }

@@ -10,7 +10,7 @@ ghost use Rattle.lst_rule.specs.Statuses.{IsNamed, SaysCommitted, Answers, Statu
 use crate::loads::{load_clock, load_state};
 use crate::seat::Seat;
 use crate::store::Store;
-use lst_bits::{Start, unpack_start};
+use lst_bits::{Start, State, unpack_start, unpack_state};
 
 /// The status of a version.
 #[derive(Clone, Copy, PartialEq, Eq, Debug)]
@@ -71,10 +71,10 @@ pub fn transaction_status(
     ensures status { Answers seat.old.view seat.new.view s session number result }
     ensures asked { Asked seat.old.view seat.new.view s }
 {
-    match load_state(store, seat, s, session, number) {
-        0 => Status::Unfinished { session, number },
-        1 => Status::Closed,
-        state => commit_status(store, seat, s, session, number, state - 1),
+    match unpack_state(load_state(store, seat, s, session, number)) {
+        State::Active => Status::Unfinished { session, number },
+        State::Closed => Status::Closed,
+        State::Committed { time } => commit_status(store, seat, s, session, number, time),
     }
 }
 

@@ -26,7 +26,7 @@ use Rattle.lst_rule.specs.Rule.{knows, hosts, Allowed}
 use Rattle.lst_rule.proofs.Knowing.{is_fact, is_seen, knows_own}
 use Rattle.lst_second.specs.Candidates.{puts_number, HasPut, KnownToHold, Holds}
 use Rattle.lst_second.specs.Gathers.{AreCounted}
-use Rattle.lst_second.proofs.Standing.{encoding_is, value_is, stands_is}
+use Rattle.lst_rule.proofs.PostingFacts.{encoding_is, value_is, stands_is}
 use Rattle.lst_second.proofs.Puts.{act_says}
 
 -- an act of a chain is that of one of its tails

@@ -17,13 +17,13 @@ use Rattle.lst_rule.specs.Learned.{Met, CanStand, Possible}
 use Rattle.lst_rule.specs.declared.store.Store.{Store}
 use Rattle.lst_rule.specs.Seats.{Sitting}
 use Rattle.lst_rule.specs.Stores.{IsSeatOf, Looked}
-use Rattle.lst_second.specs.Shown.{HasWords, KnownOther, StandsAt, Passed, IsShown}
-use Rattle.lst_second.specs.Posting.{HasTail, ColumnIsPosted, AllPosted, Posts}
+use Rattle.lst_rule.specs.Shown.{HasWords, KnownOther, StandsAt, Passed, IsShown}
+use Rattle.lst_rule.specs.Posting.{HasTail, ColumnIsPosted, AllPosted, Posts}
 use Rattle.lst_second.specs.Visits.{IsEntry, MayPost, Visits, Columns}
 use Rattle.lst_second.specs.declared.visits.Entry.{Entry}
-use Rattle.lst_second.proofs.Views.{posts_on, posts_facts, posts_hold, posts_host, posts_own}
+use Rattle.lst_rule.proofs.PostingViews.{posts_on, posts_facts, posts_hold, posts_host, posts_own}
 use Rattle.lst_second.proofs.Passing.{words_more, stands_more, passed_more, passed_next, passed_none, shown_at, entry_on, held_words, tail_on, column_on, entry_posted}
-use Rattle.lst_second.proofs.Standing.{held_some, held_few, held_latch}
+use Rattle.lst_rule.proofs.PostingFacts.{held_some, held_few, held_latch}
 use Rattle.lst_second.proofs.Looks as looks
 use Rattle.lst_second.proofs.Exchanges as exchanges
 

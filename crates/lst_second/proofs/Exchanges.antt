@@ -21,13 +21,13 @@ use Rattle.lst_rule.specs.declared.view.View.{View}
 use Rattle.lst_rule.specs.Rule.{knows, hosts}
 use Rattle.lst_rule.specs.Learned.{Learns, Met, CanStand}
 use Rattle.lst_rule.proofs.Knowing.{is_fact, knows_own}
-use Rattle.lst_second.specs.Shown.{StandsAt, Passed, IsShown}
-use Rattle.lst_second.specs.Posting.{IsTailLoad, ChangesPostings, Posts}
+use Rattle.lst_rule.specs.Shown.{StandsAt, Passed, IsShown}
+use Rattle.lst_rule.specs.Posting.{IsTailLoad, ChangesPostings, Posts}
 use Rattle.lst_second.specs.Visits.{IsEntry, MayPost}
 use Rattle.lst_second.specs.declared.visits.Entry.{Entry}
-use Rattle.lst_second.proofs.Views.{changes_to, learnt, posts_facts}
+use Rattle.lst_rule.proofs.PostingViews.{changes_to, learnt, posts_facts}
 use Rattle.lst_second.proofs.Passing.{passed_more, words_more, shown_at}
-use Rattle.lst_second.proofs.Standing.{value_is, held_some, held_here}
+use Rattle.lst_rule.proofs.PostingFacts.{value_is, held_some, held_here}
 
 -- the words allow the posting after positions that are known to be taken
 pub can_post : (v : View) (s n : ℕ) (e : Entry) (q : ℕ) → hosts v s ≡ true → s < v.limits.sessions → IsEntry v.limits (knows v s) e → MayPost (knows v s) e.column → n < postings_size v.limits → q ≡ value_position v.limits e.value n → Passed v.limits (knows v s).facts e.column e.rec e.value n → CanStand v (Post s e.column q)

@@ -18,7 +18,7 @@ use Rattle.lst_rule.specs.Learned.{Possible}
 use Rattle.lst_rule.specs.Seats.{Sitting}
 use Rattle.lst_rule.specs.Stores.{IsSeatOf, Looked}
 use Rattle.lst_rule.proofs.Knowing.{whole_words}
-use Rattle.lst_second.specs.Shown.{HasWords, StandsAt, Taken}
+use Rattle.lst_rule.specs.Shown.{HasWords, StandsAt, Taken}
 use Rattle.lst_second.specs.Candidates.{Holds, KnownToHold, AreHolders, Probes}
 use Rattle.lst_second.specs.Gathers.{IsCounted, AreCounted, Seeks, Gathers, EndsAt}
 use Rattle.lst_second.specs.declared.gathering.Sought.{Sought}

@@ -27,14 +27,14 @@ use Rattle.lst_rule.specs.Rule.{knows, hosts}
 use Rattle.lst_rule.specs.Learned.{Learns}
 use Rattle.lst_rule.specs.Stores.{Looked}
 use Rattle.lst_rule.proofs.Knowing.{knows_own}
-use Rattle.lst_second.specs.Shown.{HasWords, KnownOther, StandsAt, Passed}
-use Rattle.lst_second.specs.Posting.{IsTailLoad, Posts}
+use Rattle.lst_rule.specs.Shown.{HasWords, KnownOther, StandsAt, Passed}
+use Rattle.lst_rule.specs.Posting.{IsTailLoad, Posts}
 use Rattle.lst_second.specs.Visits.{IsEntry, MayPost}
 use Rattle.lst_second.specs.Candidates.{Probes}
 use Rattle.lst_second.specs.Gathers.{EndsAt}
 use Rattle.lst_second.specs.declared.visits.Entry.{Entry}
-use Rattle.lst_second.proofs.Views.{kept_words, learnt}
-use Rattle.lst_second.proofs.Standing.{encoding_is, value_is, stands_is, stored_is, passes, held_some}
+use Rattle.lst_rule.proofs.PostingViews.{kept_words, learnt}
+use Rattle.lst_rule.proofs.PostingFacts.{encoding_is, value_is, stands_is, stored_is, passes, held_some}
 
 -- ---- a word of a tail, not its start word
 

@@ -12,11 +12,11 @@ use Rattle.lst_core_state.specs.Cells.{has_number}
 use Rattle.lst_core_state.specs.Postings.{postings_size, value_position}
 use Rattle.lst_rule.specs.declared.view.View.{View}
 use Rattle.lst_rule.specs.Rule.{knows}
-use Rattle.lst_second.specs.Shown.{HasWords, KnownAlike, KnownOther, StandsAt, Taken, Passed, IsShown}
-use Rattle.lst_second.specs.Posting.{HasTail, ColumnIsPosted, AllPosted, Posts}
+use Rattle.lst_rule.specs.Shown.{HasWords, KnownAlike, KnownOther, StandsAt, Taken, Passed, IsShown}
+use Rattle.lst_rule.specs.Posting.{HasTail, ColumnIsPosted, AllPosted, Posts}
 use Rattle.lst_second.specs.Visits.{IsEntry}
 use Rattle.lst_second.specs.declared.visits.Entry.{Entry}
-use Rattle.lst_second.proofs.Views.{posts_facts, posts_hold}
+use Rattle.lst_rule.proofs.PostingViews.{posts_facts, posts_hold}
 
 module _ (l : Limits) (fs gs : List Fact) (more : (f : Fact) → Contains fs f → Contains gs f) where
   pub words_more : (tail encoding : ℕ) (values : List ℕ) → HasWords fs tail encoding values → HasWords gs tail encoding values

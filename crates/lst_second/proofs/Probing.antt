@@ -8,9 +8,9 @@ use Rattle.lst_rule.specs.declared.view.View.{View}
 use Rattle.lst_rule.specs.Rule.{knows, hosts}
 use Rattle.lst_rule.specs.Learned.{Learns}
 use Rattle.lst_rule.proofs.Learning.{learns_on, learns_same, kept_same, kept_on}
-use Rattle.lst_second.specs.Posting.{IsTailLoad}
+use Rattle.lst_rule.specs.Posting.{IsTailLoad}
 use Rattle.lst_second.specs.Candidates.{Probes}
-use Rattle.lst_second.proofs.Views.{learnt}
+use Rattle.lst_rule.proofs.PostingViews.{learnt}
 
 -- nothing changed
 pub probes_none : (v : View) (s : ℕ) → Probes v v s

@@ -5,9 +5,10 @@ use Rattle.std.specs.Option.{option_flatten}
 use Rattle.lst_model.specs.declared.acts.Act.TheVariants.{Put, Set, Del}
 use Rattle.lst_model.specs.Cells.{Cell, cells_of, has_bit, is_number, patched}
 use Rattle.lst_model.specs.CellLaws.{cell_at, get-patched}
-use Rattle.lst_core_state.specs.Cells.{act_of, has_number, kind_of, mask_of, nulls_of, IsCell}
+use Rattle.lst_bits.specs.Encodings.{has_number}
+use Rattle.lst_core_state.specs.Cells.{act_of, kind_of, mask_of, nulls_of, IsCell}
 use Rattle.lst_second.specs.Candidates.{puts_number}
-use Rattle.lst_second.proofs.Bits.{full_has}
+use Rattle.lst_rule.proofs.PostingBits.{full_has}
 
 -- a cell with this number isn't null
 cell_number : (b : Bool) (number value : ℕ) → is_number number (cond b None (Some value)) ≡ true → (b ≡ false) × (value ≡ number)

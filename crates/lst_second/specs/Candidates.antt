@@ -21,8 +21,8 @@ use Rattle.lst_rule.specs.declared.view.View.{View}
 use Rattle.lst_rule.specs.Rule.{knows}
 use Rattle.lst_rule.specs.Learned.{Learns, Kept}
 use Rattle.lst_rule.specs.Seats.{Sitting}
-use Rattle.lst_second.specs.Shown.{HasWords}
-use Rattle.lst_second.specs.Posting.{IsTailLoad}
+use Rattle.lst_rule.specs.Shown.{HasWords}
+use Rattle.lst_rule.specs.Posting.{IsTailLoad}
 use Rattle.lst_second.specs.declared.listing.CandidateFault.{CandidateFault}
 use Rattle.lst_second.specs.declared.listing.CandidateFault.TheVariants.{NotIndexed, OutOfMemory}
 

@@ -14,7 +14,7 @@ use Rattle.lst_rule.specs.Rule.{knows, hosts}
 use Rattle.lst_rule.specs.Learned.{Possible}
 use Rattle.lst_rule.specs.Seats.{Sitting}
 use Rattle.lst_rule.specs.Stores.{IsSeatOf}
-use Rattle.lst_second.specs.Shown.{HasWords, StandsAt}
+use Rattle.lst_rule.specs.Shown.{HasWords, StandsAt}
 use Rattle.lst_second.specs.Candidates.{KnownToHold}
 use Rattle.lst_second.specs.declared.gathering.Sought.{Sought}
 

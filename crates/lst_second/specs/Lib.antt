@@ -1,5 +1,3 @@
-pub mod Shown
-pub mod Posting
 pub mod Visits
 pub mod Candidates
 pub mod Gathers

@@ -8,8 +8,8 @@ use Rattle.lst_rule.specs.Rule.{knows, hosts}
 use Rattle.lst_rule.specs.declared.store.Store.{Store}
 use Rattle.lst_rule.specs.Seats.{Sitting}
 use Rattle.lst_rule.specs.Stores.{IsSeatOf}
-use Rattle.lst_second.specs.Shown.{HasWords, Passed}
-use Rattle.lst_second.specs.Posting.{ColumnIsPosted, HasTail}
+use Rattle.lst_rule.specs.Shown.{HasWords, Passed}
+use Rattle.lst_rule.specs.Posting.{ColumnIsPosted, HasTail}
 use Rattle.lst_second.specs.declared.visits.Entry.{Entry}
 
 -- the tail in hand is whole, it is of the entry's record, and it holds the entry's value in an indexed column, with a number

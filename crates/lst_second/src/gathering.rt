@@ -5,11 +5,12 @@ ghost use Rattle.lst_core_state.specs.Cells.{record_count, tail_count};
 ghost use Rattle.lst_core_state.specs.Postings.{postings_size, value_position};
 ghost use Rattle.lst_rule.specs.Rule.{knows};
 ghost use Rattle.lst_rule.specs.Stores.{IsSeatOf};
-ghost use Rattle.lst_second.specs.Shown.{StandsAt};
+ghost use Rattle.lst_rule.specs.Shown.{StandsAt};
 ghost use Rattle.lst_second.specs.Candidates.{KnownToHold, AreHolders, Probes};
 ghost use Rattle.lst_second.specs.Gathers.{IsCounted, Seeks, Gathers, EndsAt};
 
 use crate::positions::{position, record_of};
+use lst_bits::unpack_posting;
 use lst_model::OutOfMemory;
 use lst_rule::{RecordId, Seat, Store, load_cell, load_posting};
 use std::alloc::Global;
@@ -32,10 +33,7 @@ fn tail_at(store: &Store, seat: &mut Seat, s: u32, sought: Sought, offset: u32) 
 {
     let at = position(store.layout(), sought.value, offset);
     let word = load_posting(store, seat, s, sought.column, at);
-    if word == 0 {
-        return None;
-    }
-    Some(word as u32)
+    unpack_posting(word)
 }
 
 /// The record of a tail that stands at a position of the number's run, where the tail's number in the column is the one that is looked for. Its

@@ -22,7 +22,7 @@ pub enum CandidateFault {
 /// given the number by an act that the session has seen committed, or by an own one; a record whose number was replaced since stays one of
 /// them, and so does one whose writer was aborted.
 ///
-/// `NotIndexed` comes exactly where the layout names no index on the column. Only looks are made, and of the run through the index each position once.
+/// `NotIndexed` comes exactly where the layout names no index on the column. Only looks are made.
 pub fn candidates(
     alloc: Global,
     store: &Store,

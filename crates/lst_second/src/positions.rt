@@ -1,8 +1,9 @@
 //! The positions of a number's run through the postings of a column, and what an encoding word says of a tail.
 ghost use Rattle.std.specs.Prelude.{◌≡◌, ◌<◌, ◌≤◌, ◌^◌};
-ghost use Rattle.lst_core_state.specs.Cells.{record_of, has_number, tail_count};
+ghost use Rattle.lst_core_state.specs.Cells.{record_of, tail_count};
 ghost use Rattle.lst_core_state.specs.Postings.{postings_size, value_position};
 
+use lst_bits::slot;
 use lst_layout::Layout;
 use lst_probe::start;
 
@@ -22,13 +23,5 @@ pub(crate) fn record_of(layout: &Layout, tail: u32, encoding: u64) -> u32
     requires few { tail ≤ tail_count layout.now.limits }
     ensures { result ≡ record_of layout.now.limits.tails tail encoding }
 {
-    (tail - 1) / layout.limits.tails * 256 + (encoding / 65_536 % 256) as u32
-}
-
-/// Whether a tail with this encoding word holds a column with a number.
-pub(crate) fn holds_number(encoding: u64, column: u32) -> bool
-    requires { column < 8 }
-    ensures { result ≡ has_number encoding column }
-{
-    (encoding % 256) >> column & 1 == 1 && (encoding / 16_777_216) >> column & 1 != 1
+    (tail - 1) / layout.limits.tails * 256 + slot(encoding)
 }

@@ -3,12 +3,12 @@ ghost use Rattle.std.specs.Prelude.{◌≡◌, ◌+◌, ◌<◌, true, IfSome, I
 ghost use Rattle.lst_layout.specs.Areas.{IsIndexed};
 ghost use Rattle.lst_rule.specs.Rule.{knows, hosts};
 ghost use Rattle.lst_rule.specs.Stores.{IsSeatOf};
-ghost use Rattle.lst_second.specs.Shown.{IsShown};
-ghost use Rattle.lst_second.specs.Posting.{HasTail, ColumnIsPosted, AllPosted, Posts};
+ghost use Rattle.lst_rule.specs.Shown.{IsShown};
+ghost use Rattle.lst_rule.specs.Posting.{HasTail, ColumnIsPosted, AllPosted, Posts};
 ghost use Rattle.lst_second.specs.Visits.{IsEntry, Visits, Columns};
 
-use crate::positions::holds_number;
 use crate::visits::{Entry, visit};
+use lst_bits::holds_number;
 use lst_rule::{Seat, Store, load_cell};
 
 /// What is to be posted in an indexed column, if the tail in hand holds it with a number.

@@ -1,6 +1,7 @@
 //! The positions of a run, and what an encoding word says.
 
-use crate::positions::{holds_number, position, record_of};
+use crate::positions::{position, record_of};
+use lst_bits::holds_number;
 use lst_layout::Limits;
 use std::test::Fail;
 

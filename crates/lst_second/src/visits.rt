@@ -4,11 +4,12 @@ ghost use Rattle.lst_core_state.specs.Cells.{tail_count};
 ghost use Rattle.lst_core_state.specs.Postings.{postings_size, value_position};
 ghost use Rattle.lst_rule.specs.Rule.{knows, hosts};
 ghost use Rattle.lst_rule.specs.Stores.{IsSeatOf};
-ghost use Rattle.lst_second.specs.Shown.{StandsAt, Taken, Passed, IsShown};
-ghost use Rattle.lst_second.specs.Posting.{Posts};
+ghost use Rattle.lst_rule.specs.Shown.{StandsAt, Taken, Passed, IsShown};
+ghost use Rattle.lst_rule.specs.Posting.{Posts};
 ghost use Rattle.lst_second.specs.Visits.{IsEntry, MayPost, Visits};
 
 use crate::positions::{position, record_of};
+use lst_bits::unpack_posting;
 use lst_rule::{Seat, Store, load_cell, load_posting, step_post};
 
 /// What is to be posted: the number that the tail in hand holds in an indexed column, and the record of that tail.
@@ -40,10 +41,7 @@ pub(crate) fn look(
 {
     let _ = offset;
     let word = load_posting(store, seat, s, entry.column, position);
-    if word == 0 {
-        return None;
-    }
-    Some(word as u32)
+    unpack_posting(word)
 }
 
 /// Posts the tail in hand at a position, where the number's run was found to end. None comes where it is posted, and else the tail
@@ -68,10 +66,7 @@ pub(crate) fn try_post(
 {
     let _ = offset;
     let word = step_post(store, seat, s, entry.column, position);
-    if word == 0 {
-        return None;
-    }
-    Some(word as u32)
+    unpack_posting(word)
 }
 
 /// Whether the tail that stands at a position of the number's run is of the entry's record and has its value: then the entry is

@@ -18,8 +18,8 @@ use Rattle.lst_pages.specs.Tails.{touches_column}
 use Rattle.lst_walk.specs.Pages.{touches_by}
 use Rattle.lst_core_state.specs.Cells.{act_with}
 use Rattle.lst_rule.specs.declared.view.View.{View}
-use Rattle.lst_sights.specs.Copies.{Version}
-use Rattle.lst_sights.specs.Seen.{act_by}
+use Rattle.lst_rule.specs.Copies.{Version}
+use Rattle.lst_rule.specs.Seen.{act_by}
 use Rattle.lst_walk.specs.Readers.{IsAt}
 use Rattle.lst_walk.specs.Patches.{merged, cell_in}
 use Rattle.lst_walk.specs.Walks.{Acted, Told}

@@ -11,8 +11,8 @@ use Rattle.lst_model.specs.Histories.{row_after, row_from}
 use Rattle.lst_model.specs.Soundness.{Fits, FitInTurn}
 use Rattle.lst_model.proofs.Folds.{row_from-append}
 use Rattle.lst_core_state.specs.declared.known.Known.{Known}
-use Rattle.lst_sights.specs.Copies.{Version, AreVersionsOf}
-use Rattle.lst_sights.specs.Seen.{sees, act_by, seen_acts}
+use Rattle.lst_rule.specs.Copies.{Version, AreVersionsOf}
+use Rattle.lst_rule.specs.Seen.{sees, act_by, seen_acts}
 use Rattle.lst_walk.specs.Patches.{seen_after, IsWide}
 use Rattle.lst_pages.specs.Rows.{cell_at, column_of}
 use Rattle.lst_walk.proofs.Lists.{row_all, cell_same}

@@ -28,9 +28,9 @@ use Rattle.lst_pages.specs.Settled.{tail_in, is_settled, settled_tails}
 use Rattle.lst_pages.specs.StateLaws.{AreNumbered}
 use Rattle.lst_pages.proofs.Growing.{settled_says}
 use Rattle.lst_pages.proofs.Numbering.{settled_are_numbered}
-use Rattle.lst_sights.specs.Copies.{Version, tails_of, Leads}
-use Rattle.lst_sights.specs.Seen.{is_early, sees, seen_acts}
-use Rattle.lst_sights.proofs.Copying.{versions_at, length-listed}
+use Rattle.lst_rule.specs.Copies.{Version, tails_of, Leads}
+use Rattle.lst_rule.specs.Seen.{is_early, sees, seen_acts}
+use Rattle.lst_rule.proofs.Copying.{versions_at, length-listed}
 use Rattle.lst_walk.specs.Pages.{touches_by, NoneTold}
 use Rattle.lst_walk.proofs.Tails.{numbers, numbers-append, has_tail, has_number, has_part, has_left, tails_of-append, AreFacts, facts_left, facts_right, versions_split, numbers_link, seen_acts-append, none_more, none_seen, none_told_at, numbered_acts}
 

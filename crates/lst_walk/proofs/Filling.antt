@@ -10,13 +10,14 @@ use Rattle.lst_model.specs.Cells.{Cell}
 use Rattle.lst_rule.specs.declared.view.View.{View}
 use Rattle.lst_rule.specs.declared.store.Store.{Store}
 use Rattle.lst_rule.specs.Seats.{Sitting}
-use Rattle.lst_sights.specs.Copies.{Version}
-use Rattle.lst_sights.specs.Watching.{Watched}
-use Rattle.lst_walk.specs.Readers.{IsReader, IsAt, LoadsTail}
+use Rattle.lst_rule.specs.Copies.{Version}
+use Rattle.lst_rule.specs.Watching.{Watched}
+use Rattle.lst_rule.specs.TailLoads.{LoadsTail}
+use Rattle.lst_walk.specs.Readers.{IsReader, IsAt}
 use Rattle.lst_walk.specs.Walks.{Fills, Merges}
-use Rattle.lst_sights.proofs.Watching.{watched_same}
+use Rattle.lst_rule.proofs.Watching.{watched_same}
 use Rattle.lst_walk.proofs.Reading.{watched_on}
-use Rattle.lst_walk.proofs.Finds.{loads_none, loads_join}
+use Rattle.lst_rule.proofs.Finds.{loads_none, loads_join}
 use Rattle.lst_walk.proofs.Lists.{take_more, take_whole}
 
 module _ {A : Type 0} (store : Store) (s tail : ℕ) (target : Version → List A) where

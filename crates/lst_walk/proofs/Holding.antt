@@ -11,7 +11,7 @@ use Rattle.lst_rule.specs.Rule.{knows, hosts}
 use Rattle.lst_rule.specs.Learned.{Possible}
 use Rattle.lst_rule.specs.PageSteps.{PageLooked, FrameLoaded}
 use Rattle.lst_rule.proofs.Paging.{hand_is_readable}
-use Rattle.lst_sights.specs.Watching.{HasInHand}
+use Rattle.lst_rule.specs.Watching.{HasInHand}
 use Rattle.lst_walk.specs.Packed.{Skims, skims_on}
 use Rattle.lst_walk.specs.Taken.{Keeps}
 use Rattle.lst_walk.proofs.Loading.{page_skims, frame_skims, frame_knows, frame_word}

@@ -1,9 +1,9 @@
 pub mod Reading
-pub mod Finds
 pub mod Meanings
 pub mod Lists
 pub mod Chains
 pub mod Stamping
+pub mod Standing
 pub mod Filling
 pub mod Walking
 pub mod Acting
@@ -17,3 +17,4 @@ pub mod Paging
 pub mod Holding
 pub mod Rowing
 pub mod Straight
+pub mod Newest

@@ -13,8 +13,8 @@ use Rattle.lst_pages.specs.Frames.{packed_in}
 use Rattle.lst_rule.specs.declared.view.View.{View}
 use Rattle.lst_rule.specs.Rule.{knows, hosts}
 use Rattle.lst_rule.specs.PageSteps.{PageLooked, FrameLoaded}
-use Rattle.lst_sights.specs.Watching.{HasInHand, Watched}
-use Rattle.lst_sights.proofs.Watching.{pages_watch}
+use Rattle.lst_rule.specs.Watching.{HasInHand, Watched}
+use Rattle.lst_rule.proofs.Watching.{pages_watch}
 use Rattle.lst_walk.specs.Packed.{packed_of, Skims}
 use Rattle.lst_walk.proofs.Reading.{looked_watched}
 

@@ -14,11 +14,11 @@ use Rattle.lst_core_state.specs.Cells.{record_count, range_of, act_with, nulls_o
 use Rattle.lst_rule.specs.declared.view.View.{View}
 use Rattle.lst_rule.specs.Rule.{knows, hosts}
 use Rattle.lst_rule.specs.Stores.{Looked}
-use Rattle.lst_sights.specs.Copies.{Version, IsVersionOf, Leads}
-use Rattle.lst_sights.specs.Seen.{act_by}
-use Rattle.lst_sights.specs.Loads.{ChainFound, WordFound}
-use Rattle.lst_sights.proofs.Encoded.{cell_encoded, act_is}
-use Rattle.lst_sights.proofs.Finding.{loads_find_chains}
+use Rattle.lst_rule.specs.Copies.{Version, IsVersionOf, Leads}
+use Rattle.lst_rule.specs.Seen.{act_by}
+use Rattle.lst_rule.specs.Loads.{ChainFound, WordFound}
+use Rattle.lst_rule.proofs.Encoded.{cell_encoded, act_is}
+use Rattle.lst_rule.proofs.Finding.{loads_find_chains}
 use Rattle.lst_walk.specs.Readers.{IsAt}
 use Rattle.lst_walk.specs.Patches.{cells_by}
 

@@ -27,18 +27,19 @@ use Rattle.lst_rule.specs.Seats.{Sitting}
 use Rattle.lst_rule.specs.Stores.{Looked}
 use Rattle.lst_rule.specs.PageSteps.{PageLooked, FrameLoaded}
 use Rattle.lst_rule.proofs.Paging.{hand_is_readable}
-use Rattle.lst_sights.specs.Copies.{Version, Leads}
-use Rattle.lst_sights.specs.Seen.{seen_acts}
-use Rattle.lst_sights.specs.Watching.{HasInHand, Watched}
-use Rattle.lst_sights.proofs.Watching.{watched_same, same_pins}
-use Rattle.lst_walk.specs.Readers.{IsReader, IsAt, LoadsOf, LoadsTail, Resolves}
+use Rattle.lst_rule.specs.Copies.{Version, Leads}
+use Rattle.lst_rule.specs.Seen.{seen_acts}
+use Rattle.lst_rule.specs.Watching.{HasInHand, Watched}
+use Rattle.lst_rule.proofs.Watching.{watched_same, same_pins}
+use Rattle.lst_rule.specs.TailLoads.{LoadsOf, LoadsTail}
+use Rattle.lst_walk.specs.Readers.{IsReader, IsAt, Resolves}
 use Rattle.lst_walk.specs.Patches.{cell_in}
 use Rattle.lst_walk.specs.Packed.{packed_words, Skims, skims_on}
 use Rattle.lst_walk.specs.Pages.{is_told, IsPageOf, MayUse, ReadsPage, Takes, IsAbove, SavesCell}
 use Rattle.lst_walk.specs.declared.pages.Entry.{Entry}
 use Rattle.lst_walk.specs.Walks.{IsSightOf, IsCellOf, WalksCell, Tells, CellWalk, Serves, PageWalk}
 use Rattle.lst_walk.proofs.Reading.{watched_on}
-use Rattle.lst_walk.proofs.Finds.{loads_none, loads_join, loads_past, loads_tail}
+use Rattle.lst_rule.proofs.Finds.{loads_none, loads_join, loads_past, loads_tail}
 use Rattle.lst_walk.proofs.Resolving.{copy_later, passes_later}
 use Rattle.lst_walk.proofs.Walking.{cell_next, cell_stays, copy_same, stays_same}
 use Rattle.lst_walk.proofs.Loading.{page_skims, frame_skims, frame_word, hand_stays, packed_same}

@@ -16,13 +16,13 @@ use Rattle.lst_rule.proofs.Learning.{possible_after}
 use Rattle.lst_rule.specs.declared.store.Store.{Store}
 use Rattle.lst_rule.specs.Seats.{Sitting}
 use Rattle.lst_rule.specs.Stores.{IsSeatOf, Looked}
-use Rattle.lst_sights.specs.Copies.{Version, fact_of, IsVersionOf, Includes}
-use Rattle.lst_sights.specs.Seen.{sees}
-use Rattle.lst_sights.specs.Loads.{WordFound, StartFound}
-use Rattle.lst_sights.specs.Watching.{Watched, IsWatched}
-use Rattle.lst_sights.proofs.Watching.{looks_watch, watchers_keep, watches_join}
-use Rattle.lst_sights.proofs.Finding.{words_are_found, starts_are_found}
-use Rattle.lst_sights.proofs.Seeing.{same_sees}
+use Rattle.lst_rule.specs.Copies.{Version, fact_of, IsVersionOf, Includes}
+use Rattle.lst_rule.specs.Seen.{sees}
+use Rattle.lst_rule.specs.Loads.{WordFound, StartFound}
+use Rattle.lst_rule.specs.Watching.{Watched, IsWatched}
+use Rattle.lst_rule.proofs.Watching.{looks_watch, watchers_keep, watches_join}
+use Rattle.lst_rule.proofs.Finding.{words_are_found, starts_are_found}
+use Rattle.lst_rule.proofs.Seeing.{same_sees}
 use Rattle.lst_walk.specs.Readers.{IsReader, IsAt, HasVersion}
 
 pub watched_on : (u v w : View) (s : ℕ) → Watched u v s → Watched v w s → Watched u w s

@@ -21,11 +21,11 @@ use Rattle.lst_rule.specs.Learned.{Made}
 use Rattle.lst_rule.specs.Stores.{Looked}
 use Rattle.lst_rule.proofs.Asking.{looked_words}
 use Rattle.lst_core_state.proofs.CellsKept.{put_in_here}
-use Rattle.lst_sights.proofs.Stamps.{made_words}
-use Rattle.lst_sights.specs.Copies.{Version, IsCopy}
-use Rattle.lst_sights.specs.Seen.{sees, act_by, seen_acts}
-use Rattle.lst_sights.specs.Watching.{Watched}
-use Rattle.lst_sights.proofs.Copying.{copies_stay}
+use Rattle.lst_rule.proofs.Stamps.{made_words}
+use Rattle.lst_rule.specs.Copies.{Version, IsCopy}
+use Rattle.lst_rule.specs.Seen.{sees, act_by, seen_acts}
+use Rattle.lst_rule.specs.Watching.{Watched}
+use Rattle.lst_rule.proofs.Copying.{copies_stay}
 use Rattle.lst_walk.specs.Readers.{IsAt, IsNotCommitted, Resolves, IsResolved}
 use Rattle.lst_walk.specs.Patches.{seen_after}
 use Rattle.lst_walk.specs.Walks.{IsStampedIn, Passes}

@@ -22,21 +22,22 @@ use Rattle.lst_rule.specs.declared.store.Store.{Store}
 use Rattle.lst_rule.specs.Rule.{knows, hosts}
 use Rattle.lst_rule.specs.Seats.{Sitting}
 use Rattle.lst_rule.specs.Stores.{Looked}
-use Rattle.lst_sights.specs.Copies.{Version, Leads}
-use Rattle.lst_sights.specs.Seen.{seen_acts}
-use Rattle.lst_sights.specs.Watching.{Watched}
-use Rattle.lst_sights.proofs.Watching.{same_pins}
-use Rattle.lst_walk.specs.Readers.{IsReader, IsAt, LoadsOf, LoadsTail, Resolves}
+use Rattle.lst_rule.specs.Copies.{Version, Leads}
+use Rattle.lst_rule.specs.Seen.{seen_acts}
+use Rattle.lst_rule.specs.Watching.{Watched}
+use Rattle.lst_rule.proofs.Watching.{same_pins}
+use Rattle.lst_rule.specs.TailLoads.{LoadsOf, LoadsTail}
+use Rattle.lst_walk.specs.Readers.{IsReader, IsAt, Resolves}
 use Rattle.lst_walk.specs.Packed.{packed_words, Skims, skims_same, skims_on}
-use Rattle.lst_walk.specs.Pages.{is_told, MayUse, UsesPage, Takes, IsAbove, SavesRow}
+use Rattle.lst_walk.specs.Pages.{is_told, MayUse, UsesPage, Takes, IsAbove, SavesByPages}
 use Rattle.lst_walk.specs.Taking.{entry_at, no_entry, TakesAll}
 use Rattle.lst_walk.specs.declared.pages.Entry.{Entry}
 use Rattle.lst_walk.specs.declared.rows.Visit.TheVariants.{Older}
 use Rattle.lst_walk.specs.Walks.{IsSightOf, IsRowOf, WalksRow, UsedPage, MakeColumn, Visited, Leaves, RowWalk, Serves}
 use Rattle.lst_walk.specs.Filling.{IsPast, SavingRow, RowPages, GoesOn, HasNoRow, FillWalk, SetsColumn}
-use Rattle.lst_sights.proofs.Copying.{chain_stays}
+use Rattle.lst_rule.proofs.Copying.{chain_stays}
 use Rattle.lst_walk.proofs.Reading.{watched_on, facts_on}
-use Rattle.lst_walk.proofs.Finds.{loads_none, loads_join, loads_weaker, loads_tail, loads_past}
+use Rattle.lst_rule.proofs.Finds.{loads_none, loads_join, loads_weaker, loads_tail, loads_past}
 use Rattle.lst_walk.proofs.Resolving.{copy_later, passes_later}
 use Rattle.lst_walk.proofs.Chains.{wide_row, whole_decided}
 use Rattle.lst_walk.proofs.Walking.{used_on, row_next, row_copy_same, row_stays, row_stays_same}
@@ -143,10 +144,10 @@ serves_from store v h e s rec n patch walk column entry t some = record {
 
 -- ---- the walk begins
 
-pub rows_start : (store : Store) (v d : View) (h e : Sitting) (s rec head : ℕ) (entries : List Entry) (patch : List (Option Cell)) → hosts v s ≡ true → (knows v s).is_open ≡ true → RowWalk store v h s rec head patch → (word : ℕ) → Looked v d s (HeadWord rec) word → head ≡ word / 2 → Skims d h.view s
+pub rows_start : (store : Store) (v d : View) (h e : Sitting) (s rec head : ℕ) (entries : List Entry) (patch : List (Option Cell)) → hosts v s ≡ true → (knows v s).is_open ≡ true → RowWalk store v h s rec head patch → (word : ℕ) → Looked v d s (HeadWord rec) word → head ≡ word / 2 → 0 < head → Skims d h.view s
     → TakesAll store h.view e s rec store.layout.limits.columns entries → RowPages store v e s rec head entries patch
 unfolding takes_earlier
-rows_start store v d h e s rec head entries patch host opened walk word looked head_is later all = let still : RowWalk store v e s rec head patch = row_stays store v h e s rec head patch walk all.skims.watched all.reader in
+rows_start store v d h e s rec head entries patch host opened walk word looked head_is some later all = let still : RowWalk store v e s rec head patch = row_stays store v h e s rec head patch walk all.skims.watched all.reader in
     let columns_is : v.limits.columns ≡ store.layout.limits.columns = ap (λ (l : Limits). l.columns) (sym walk.watched.learns.limits ∙ walk.reader.seat_of.limits) in
     let pin = (same_pins (knows v s) (knows h.view s) walk.watched.watches).pin in record {
       host = host;
@@ -160,6 +161,7 @@ rows_start store v d h e s rec head entries patch host opened walk word looked h
         headed = d;
         word = word;
         head = looked;
+        some = let e = head_is in omega arith;
         page = λ column low. (takes_earlier d h.view e.view s rec column (entry_at entries column) later.watched (all.takes (omega arith) column (omega arith))).reads;
         until = λ column low early. (all.takes (omega arith) column (omega arith)).timely (subst (λ (n : ℕ). time_of (all.takes (omega arith) column (omega arith)).reads.stamp ≤ n) (sym same_begin) early);
         past = loads_none (IsPast v rec entries) v e.view s (all.skims.finds ∙ (later.finds ∙ ap (λ (k : Known). k.finds) looked.view.now));
@@ -177,6 +179,7 @@ saving_later v w x s rec n entries more same q = record {
   headed = q.headed;
   word = q.word;
   head = q.head;
+  some = q.some;
   page = λ column low. reads_later q.headed w x s rec column more (q.page column low);
   until = q.until;
   past = loads_join (IsPast v rec entries) v w x s q.past (loads_none (IsPast v rec entries) w x s same);
@@ -220,6 +223,7 @@ rows_next store v a b d s rec n range t m some range_is tail_is entries patch mo
         headed = q.headed;
         word = q.word;
         head = q.head;
+        some = q.some;
         page = λ column low. reads_later q.headed a.view d.view s rec column ad (q.page column low);
         until = q.until;
         past = loads_join (IsPast v rec entries) v a.view d.view s q.past (loads_past a.view d.view s t (IsPast v rec entries) (past_here store v a s rec n range t range_is tail_is entries patch p high) (loads_tail a.view b.view d.view s u t same looks below));
@@ -238,22 +242,24 @@ module _ (store : Store) (v : View) (a : Sitting) (b : View) (s rec n : ℕ) (en
   soon_by q past = loads_weaker (IsPast v rec entries) (λ t. (column : ℕ) × (low : column < v.limits.columns) × (time_of (q.page column low).stamp ≤ (knows v s).begin → IsAbove v rec (q.page column low).tps t))
       (λ t is. (is.0, is.1, λ early. subst (λ (m : ℕ). IsAbove v rec m t) (q.until is.0 is.1 early) is.2)) v b s past
 
-  pub rows_saved : (knows b s).finds ≡ (knows a.view s).finds → 0 < (knows v s).pages.session.pin → SavesRow v b s rec
+  pub rows_saved : (knows b s).finds ≡ (knows a.view s).finds → 0 < (knows v s).pages.session.pin → SavesByPages v b s rec
   rows_saved same pinned = let q = p.saves pinned in record {
     headed = q.headed;
     word = q.word;
     head = q.head;
+    some = q.some;
     page = λ column low. reads_later q.headed a.view b s rec column ab (q.page column low);
     soon = soon_by q (loads_join (IsPast v rec entries) v a.view b s q.past (loads_none (IsPast v rec entries) a.view b s same));
     quiet = λ all. ⊎_elim (λ (h : (n ≡ q.word / 2) × ((knows a.view s).finds ≡ (knows v s).finds)). same ∙ h.1)
         (λ (h : (column : ℕ) × (column < v.limits.columns) × ((entry_at entries column).until < q.word / 2)). refused q h.0 h.1 h.2 (all h.0 h.1).0 (all h.0 h.1).1) q.quiet;
   }
 
-  pub rows_held : ((column : ℕ) × (column < v.limits.columns) × ((entry_at entries column).until < n)) → (range t : ℕ) → range ≡ rec / 256 → t ≡ range * store.layout.limits.tails + n → LoadsTail a.view b s t → 0 < (knows v s).pages.session.pin → SavesRow v b s rec
+  pub rows_held : ((column : ℕ) × (column < v.limits.columns) × ((entry_at entries column).until < n)) → (range t : ℕ) → range ≡ rec / 256 → t ≡ range * store.layout.limits.tails + n → LoadsTail a.view b s t → 0 < (knows v s).pages.session.pin → SavesByPages v b s rec
   rows_held high range t range_is tail_is looks pinned = let q = p.saves pinned in record {
     headed = q.headed;
     word = q.word;
     head = q.head;
+    some = q.some;
     page = λ column low. reads_later q.headed a.view b s rec column ab (q.page column low);
     soon = soon_by q (loads_join (IsPast v rec entries) v a.view b s q.past (loads_past a.view b s t (IsPast v rec entries) (past_here store v a s rec n range t range_is tail_is entries patch p high) looks));
     quiet = λ all. ⊎_elim (λ (h : (n ≡ q.word / 2) × ((knows a.view s).finds ≡ (knows v s).finds)). refused q high.0 high.1 (let e = h.0 in let g = high.2 in omega arith) (all high.0 high.1).0 (all high.0 high.1).1)

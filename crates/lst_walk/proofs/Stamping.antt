@@ -25,14 +25,14 @@ use Rattle.lst_rule.specs.Seats.{Sitting}
 use Rattle.lst_rule.specs.Stores.{Looked}
 use Rattle.lst_rule.specs.declared.status.Status.TheVariants.{Unfinished}
 use Rattle.lst_rule.specs.Statuses.{Answers, FoundSince, KnownCommitted}
-use Rattle.lst_sights.specs.Copies.{Version}
-use Rattle.lst_sights.specs.Seen.{is_early, sees}
-use Rattle.lst_sights.specs.Watching.{Watched}
-use Rattle.lst_sights.specs.Laws.{TailFound, Statuses}
-use Rattle.lst_sights.proofs.Finding.{tails_are_found}
-use Rattle.lst_sights.proofs.Telling.{statuses_tell}
-use Rattle.lst_sights.proofs.Committed.{committed_may_be_stamped}
-use Rattle.lst_sights.proofs.Watching.{stamps_watch, watched_same}
+use Rattle.lst_rule.specs.Copies.{Version}
+use Rattle.lst_rule.specs.Seen.{is_early, sees}
+use Rattle.lst_rule.specs.Watching.{Watched}
+use Rattle.lst_rule.specs.Laws.{TailFound, Statuses}
+use Rattle.lst_rule.proofs.Finding.{tails_are_found}
+use Rattle.lst_rule.proofs.StatusTelling.{statuses_tell}
+use Rattle.lst_rule.proofs.Committed.{committed_may_be_stamped}
+use Rattle.lst_rule.proofs.Watching.{stamps_watch, watched_same}
 use Rattle.lst_walk.specs.Readers.{IsReader, IsAt, HasVersion, IsNotCommitted, Timed, Untimed, Stamped, OwnFound, Resolves, Concludes}
 use Rattle.lst_walk.proofs.Reading.{watched_on, at_on, facts_on, sees_on, start_found, looked_possible}
 

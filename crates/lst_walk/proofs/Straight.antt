@@ -16,8 +16,8 @@ use Rattle.lst_rule.specs.declared.store.Store.{Store}
 use Rattle.lst_rule.specs.Rule.{knows, hosts}
 use Rattle.lst_rule.specs.Seats.{Sitting}
 use Rattle.lst_rule.specs.Stores.{Looked}
-use Rattle.lst_sights.specs.Watching.{HasInHand, Watched}
-use Rattle.lst_sights.proofs.Watching.{watched_same}
+use Rattle.lst_rule.specs.Watching.{HasInHand, Watched}
+use Rattle.lst_rule.proofs.Watching.{watched_same}
 use Rattle.lst_walk.specs.Readers.{IsReader}
 use Rattle.lst_walk.specs.Packed.{packed_words, Skims, skims_same, skims_on}
 use Rattle.lst_walk.specs.Pages.{ReadsPage, Takes}
@@ -27,7 +27,7 @@ use Rattle.lst_walk.specs.Filling.{RowPages}
 use Rattle.lst_walk.specs.Walks.{RowWalk, Serves}
 use Rattle.lst_walk.specs.Whole.{TellsCell, PagedRow, PagedBy, PagedWalk}
 use Rattle.lst_walk.proofs.Reading.{watched_on}
-use Rattle.lst_walk.proofs.Finds.{loads_none}
+use Rattle.lst_rule.proofs.Finds.{loads_none}
 use Rattle.lst_walk.proofs.Lists.{column_some}
 use Rattle.lst_walk.proofs.Walking.{row_stays}
 use Rattle.lst_walk.proofs.Paging.{reads_later}
@@ -61,8 +61,8 @@ taken_packs v w s rec column entry t = subst (λ (ws : List ℕ). Packs ws t.pag
 
 -- ---- one column after the other
 
-pub paged_start : (store : Store) (v : View) (h : Sitting) (s rec n word : ℕ) → hosts v s ≡ true → (knows v s).is_open ≡ true → RowWalk store v h s rec n (replicate store.layout.limits.columns None) → Looked v h.view s (HeadWord rec) word → n ≡ word / 2 → PagedRow store v h s rec n 0 []
-paged_start store v h s rec n word host opened walk looked is = record {
+pub paged_start : (store : Store) (v : View) (h : Sitting) (s rec n word : ℕ) → hosts v s ≡ true → (knows v s).is_open ≡ true → RowWalk store v h s rec n (replicate store.layout.limits.columns None) → Looked v h.view s (HeadWord rec) word → n ≡ word / 2 → 0 < n → PagedRow store v h s rec n 0 []
+paged_start store v h s rec n word host opened walk looked is some = record {
   host = host;
   opened = opened;
   rest = store.layout.limits.columns;
@@ -76,6 +76,7 @@ paged_start store v h s rec n word host opened walk looked is = record {
   word = word;
   head = looked;
   is_head = is;
+  some = some;
   later = watched_same h.view s;
   quiet = ap (λ (k : Known). k.finds) looked.view.now;
   reads = λ column low. absurd (omega arith);
@@ -103,6 +104,7 @@ paged_more store v a b s rec n k rest cells cell some few p e t reader skims =
       word = p.word;
       head = p.head;
       is_head = p.is_head;
+      some = some;
       later = watched_on p.headed a.view b.view s p.later skims.watched;
       quiet = skims.finds ∙ p.quiet;
       reads = λ column low. dite (ℕ_discrete column k)
@@ -132,6 +134,7 @@ paged_whole store v b s rec n k cells some high p =
         headed = p.headed;
         word = p.word;
         head = p.head;
+        some = let e = p.is_head in let n = p.some in omega arith;
         page = λ column low. p.reads column (omega arith);
         soon = loads_none _ v b.view s p.quiet;
         quiet = λ early. p.quiet;
@@ -169,6 +172,7 @@ paged_stays store v a b s rec n p skims reader = record {
   word = p.word;
   head = p.head;
   is_head = p.is_head;
+  some = p.some;
   later = watched_on p.headed a.view b.view s p.later skims.watched;
   quiet = skims.finds ∙ p.quiet;
   reads = λ column low. absurd (omega arith);
@@ -178,7 +182,7 @@ pub walked_start : (store : Store) (v : View) (a b : Sitting) (s rec n : ℕ) (e
 walked_start store v a b s rec n entries patch is p all =
     let all_none : p.rest ≡ store.layout.limits.columns = (let c = p.columns in omega arith) in
     let same : p.patch ≡ patch = p.is ∙ (ap (λ (m : ℕ). replicate m None) all_none ∙ sym is) in
-    rows_start store v p.headed a b s rec n entries patch p.host p.opened (subst (λ (q : List (Option Cell)). RowWalk store v a s rec n q) same p.walk) p.word p.head p.is_head
+    rows_start store v p.headed a b s rec n entries patch p.host p.opened (subst (λ (q : List (Option Cell)). RowWalk store v a s rec n q) same p.walk) p.word p.head p.is_head p.some
     (record { watched = p.later; finds = p.quiet ∙ sym (ap (λ (k : Known). k.finds) p.head.view.now) }) all
 
 -- ---- a cell that a page tells

@@ -16,9 +16,9 @@ use Rattle.lst_core_state.specs.State.{Words, writer_at}
 use Rattle.lst_core_state.specs.Sound.{FactsOf}
 use Rattle.lst_pages.specs.Rows.{act_of}
 use Rattle.lst_pages.specs.Settled.{tail_in}
-use Rattle.lst_sights.specs.Copies.{Version, fact_of, tails_of, AreKnown, Leads}
-use Rattle.lst_sights.specs.Seen.{sees, act_by, seen_acts}
-use Rattle.lst_sights.proofs.Copying.{version_at, versions_at}
+use Rattle.lst_rule.specs.Copies.{Version, fact_of, tails_of, AreKnown, Leads}
+use Rattle.lst_rule.specs.Seen.{sees, act_by, seen_acts}
+use Rattle.lst_rule.proofs.Copying.{version_at, versions_at}
 use Rattle.lst_walk.specs.Pages.{touches_by, NoneTold}
 
 -- ---- numbers

@@ -25,16 +25,16 @@ use Rattle.lst_rule.specs.declared.view.View.{View}
 use Rattle.lst_rule.specs.Rule.{knows, hosts}
 use Rattle.lst_rule.specs.Learned.{Possible}
 use Rattle.lst_rule.proofs.Knowing.{is_fact}
-use Rattle.lst_sights.specs.Copies.{Version, tails_of}
-use Rattle.lst_sights.specs.Seen.{names, is_early, seen_acts, HasKey}
-use Rattle.lst_sights.specs.Watching.{Watched}
-use Rattle.lst_sights.specs.Laws.{KeptBy}
-use Rattle.lst_sights.proofs.Copying.{versions_at}
-use Rattle.lst_sights.proofs.Seeing.{same_acts, same_sight, line_sight, line_keyed, index_holds}
-use Rattle.lst_sights.proofs.Keying.{one_key, one_record, recorded}
-use Rattle.lst_sights.proofs.Turns.{sights_fit}
-use Rattle.lst_sights.proofs.Telling as telling
-use Rattle.lst_sights.proofs.Watching.{watchers_keep}
+use Rattle.lst_rule.specs.Copies.{Version, tails_of}
+use Rattle.lst_rule.specs.Seen.{names, is_early, seen_acts, HasKey}
+use Rattle.lst_rule.specs.Watching.{Watched}
+use Rattle.lst_rule.specs.Laws.{KeptBy}
+use Rattle.lst_rule.proofs.Copying.{versions_at}
+use Rattle.lst_rule.proofs.Seeing.{same_acts, same_sight, line_sight, line_keyed, index_holds}
+use Rattle.lst_rule.proofs.Keying.{one_key, one_record, recorded}
+use Rattle.lst_rule.proofs.Turns.{sights_fit}
+use Rattle.lst_rule.proofs.StatusTelling as telling
+use Rattle.lst_rule.proofs.Watching.{watchers_keep}
 use Rattle.lst_walk.specs.Patches.{cell_in}
 use Rattle.lst_walk.specs.Pages.{MayUse}
 use Rattle.lst_walk.specs.Walks.{IsSightOf}

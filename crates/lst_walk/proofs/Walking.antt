@@ -20,16 +20,16 @@ use Rattle.lst_rule.specs.Learned.{Possible}
 use Rattle.lst_rule.specs.declared.store.Store.{Store}
 use Rattle.lst_rule.specs.Seats.{Sitting}
 use Rattle.lst_pages.specs.Rows.{column_of}
-use Rattle.lst_sights.specs.Copies.{Version, IsVersionOf, IsChainFrom, IsCopy, IsLinked}
-use Rattle.lst_sights.specs.Seen.{sees, act_by, seen_acts, HasKey}
-use Rattle.lst_sights.specs.Loads.{ChainFound, IsBack}
-use Rattle.lst_sights.specs.Watching.{Watched}
-use Rattle.lst_sights.specs.Laws.{FromNumber, KeptBy}
-use Rattle.lst_sights.proofs.Copying.{chains_are_walked, chain_stays}
-use Rattle.lst_sights.proofs.Seeing.{same_acts, same_sight}
-use Rattle.lst_sights.proofs.Keying.{one_record, recorded}
-use Rattle.lst_sights.proofs.Turns.{sights_fit}
-use Rattle.lst_sights.proofs.Watching.{watchers_keep}
+use Rattle.lst_rule.specs.Copies.{Version, IsVersionOf, IsChainFrom, IsCopy, IsLinked}
+use Rattle.lst_rule.specs.Seen.{sees, act_by, seen_acts, HasKey}
+use Rattle.lst_rule.specs.Loads.{ChainFound, IsBack}
+use Rattle.lst_rule.specs.Watching.{Watched}
+use Rattle.lst_rule.specs.Laws.{FromNumber, KeptBy}
+use Rattle.lst_rule.proofs.Copying.{chains_are_walked, chain_stays}
+use Rattle.lst_rule.proofs.Seeing.{same_acts, same_sight}
+use Rattle.lst_rule.proofs.Keying.{one_record, recorded}
+use Rattle.lst_rule.proofs.Turns.{sights_fit}
+use Rattle.lst_rule.proofs.Watching.{watchers_keep}
 use Rattle.lst_walk.specs.Readers.{IsReader, IsAt, HasVersion, Resolves, IsResolved}
 use Rattle.lst_walk.specs.Patches.{seen_after, cell_in, IsWide}
 use Rattle.lst_walk.specs.Pages.{touches_by, is_told, NoneTold, UsesPage}
@@ -196,6 +196,11 @@ module _ (store : Store) (v : View) (seat : Sitting) (s rec head : ℕ) (p : Pos
     left = tt;
   }
 
+  -- at the head none was passed
+  pub start_passed : (column : ℕ) → (cell_start column).passed ≡ []
+  unfolding cell_start
+  start_passed column = refl
+
 -- one more that isn't seen, or leaves the column
 none_told_next : (k : Known) (s column : ℕ) (above : List Version) (c : Version) → NoneTold k s column above → is_told k s column c ≡ false → NoneTold k s column (above ++ c ∷ [])
 none_told_next k s column [] c none e = (e, tt)
@@ -240,7 +245,7 @@ module _ (store : Store) (v : View) (a b d : Sitting) (s rec n range t m : ℕ) 
       (resolved_stamped a.view b.view s range n reader.host known c (at_same a.view s t (range * a.view.limits.tails + n) c (tail_is ∙ ap (λ (l : Limits). range * l.tails + n) (sym reader.seat_of.limits)) at) resolves))
 
   -- and passed
-  passed_here : (passed : List Version) (c : Version) (rest versions : List Version) → versions ≡ c ∷ rest → IsReader store a s → Watched v a.view s → Passes v a.view s rec passed versions → IsAt a.view s t c
+  pub passed_here : (passed : List Version) (c : Version) (rest versions : List Version) → versions ≡ c ∷ rest → IsReader store a s → Watched v a.view s → Passes v a.view s rec passed versions → IsAt a.view s t c
       → Watched a.view b.view s → Resolves a.view b.view s range n → Watched b.view d.view s → Passes v d.view s rec (passed ++ c ∷ []) rest
   passed_here passed c rest versions is reader watched passes at ab resolves bd = passes_next v a.view d.view s rec passed (watched_on a.view b.view d.view s ab bd) c rest
       (subst (λ (cs : List Version). Passes v a.view s rec passed cs) is passes) (resolved_here c reader watched at resolves bd) (stamped_here c reader watched at resolves bd)
@@ -366,6 +371,12 @@ module _ (store : Store) (v : View) (a b d : Sitting) (s rec n range t m : ℕ) 
     whole = walk.whole ∙ (ap (λ (cs : List Version). seen_acts (knows v s) s (walk.passed ++ cs)) q.2 ∙ ap (seen_acts (knows v s) s) (sym (append_assoc walk.passed (q.0 ∷ []) q.1)));
     left = none_told_next (knows v s) s column walk.passed q.0 walk.left (told_same column walk.possible walk.watched q.0 ∙ leaves q.0 q.3);
   }
+
+  -- it is the last one that was passed
+  pub next_passed : (column : ℕ) (walk : CellWalk store v a s rec column n) (ab : Watched a.view b.view s) (tells : (c : Version) → IsAt a.view s t c → Tells (knows a.view s) s c store.layout.limits.columns column None) (resolves : Resolves a.view b.view s range n) (reader : IsReader store d s) (bd : Watched b.view d.view s)
+      (back : (c : Version) → IsAt a.view s t c → m ≡ c.back) (leaves : (c : Version) → IsAt a.view s t c → is_told (knows a.view s) s column c ≡ false) → (cell_next column walk ab tells resolves reader bd back leaves).passed ≡ walk.passed ++ (at_number store a s rec n walk.reader walk.versions walk.chain some range t range_is tail_is).0 ∷ []
+  unfolding cell_next
+  next_passed column walk ab tells resolves reader bd back leaves = refl
 
   -- the copy is the same
   pub copy_same : (column : ℕ) (walk : CellWalk store v a s rec column n) (ab : Watched a.view b.view s) (tells : (c : Version) → IsAt a.view s t c → Tells (knows a.view s) s c store.layout.limits.columns column None) (resolves : Resolves a.view b.view s range n) (reader : IsReader store d s) (bd : Watched b.view d.view s)

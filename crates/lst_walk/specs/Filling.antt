@@ -12,7 +12,8 @@ use Rattle.lst_rule.specs.Seats.{Sitting}
 use Rattle.lst_rule.specs.Stores.{Looked}
 use Rattle.lst_walk.specs.Pages.{ReadsPage, IsAbove}
 use Rattle.lst_walk.specs.Taking.{entry_at}
-use Rattle.lst_walk.specs.Readers.{IsReader, LoadsOf}
+use Rattle.lst_rule.specs.TailLoads.{LoadsOf}
+use Rattle.lst_walk.specs.Readers.{IsReader}
 use Rattle.lst_walk.specs.Packed.{Skims}
 use Rattle.lst_walk.specs.Walks.{IsRowOf, WalksRow, RowWalk, Serves}
 use Rattle.lst_walk.specs.declared.pages.Entry.{Entry}
@@ -29,6 +30,7 @@ pub record SavingRow (v w : View) (s rec n : ℕ) (entries : List Entry) : Type 
   pub headed : View
   pub word : ℕ
   pub head : Looked v headed s (HeadWord rec) word
+  pub some : 0 < word / 2
   pub page : (column : ℕ) → column < v.limits.columns → ReadsPage headed w s rec column
   pub until : (column : ℕ) (low : column < v.limits.columns) → time_of (page column low).stamp ≤ (knows v s).begin → (entry_at entries column).until ≡ (page column low).tps
   pub past : LoadsOf v w s (IsPast v rec entries)

@@ -1,4 +1,5 @@
 pub mod Readers
+pub mod Stamping
 pub mod Patches
 pub mod Pages
 pub mod Packed
@@ -9,3 +10,4 @@ pub mod Chains
 pub mod Filling
 pub mod Taken
 pub mod Whole
+pub mod Newest

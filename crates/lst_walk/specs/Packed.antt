@@ -11,8 +11,8 @@ use Rattle.lst_rule.specs.declared.view.View.{View}
 use Rattle.lst_rule.specs.declared.store.Store.{Store}
 use Rattle.lst_rule.specs.Rule.{knows}
 use Rattle.lst_rule.specs.Seats.{Sitting}
-use Rattle.lst_sights.specs.Watching.{Watched}
-use Rattle.lst_sights.proofs.Watching.{watched_same, watches_join}
+use Rattle.lst_rule.specs.Watching.{Watched}
+use Rattle.lst_rule.proofs.Watching.{watched_same, watches_join}
 use Rattle.lst_walk.specs.Readers.{IsReader}
 
 -- of a page in hand, by the words that are kept with it

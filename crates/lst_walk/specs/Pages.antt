@@ -19,10 +19,10 @@ use Rattle.lst_rule.specs.Rule.{knows}
 use Rattle.lst_rule.specs.Learned.{Possible}
 use Rattle.lst_rule.specs.Stores.{Looked}
 use Rattle.lst_rule.specs.PageSteps.{PageLooked, FrameLoaded}
-use Rattle.lst_sights.specs.Copies.{Version, Leads, IsCopy}
-use Rattle.lst_sights.specs.Seen.{sees}
-use Rattle.lst_sights.specs.Watching.{HasInHand, Watched}
-use Rattle.lst_walk.specs.Readers.{LoadsOf}
+use Rattle.lst_rule.specs.Copies.{Version, Leads, IsCopy}
+use Rattle.lst_rule.specs.Seen.{sees}
+use Rattle.lst_rule.specs.Watching.{HasInHand, Watched}
+use Rattle.lst_rule.specs.TailLoads.{LoadsOf}
 use Rattle.lst_walk.specs.declared.pages.Entry.{Entry}
 
 -- ---- where a page may be used
@@ -139,12 +139,23 @@ pub record Saving (v w : View) (s rec column n : ℕ) (entry : Entry) : Type 0 w
   pub past : LoadsOf v w s (IsAbove v rec entry.until)
   pub quiet : ((n ≡ word / 2) × ((knows w s).finds ≡ (knows v s).finds)) ⊎ (entry.until < word / 2)
 
--- the same of a row, with the pages of all columns: each tail record of which it loaded words is above the TPS of the page of some column, if that
--- entry's time is at most the begin
-pub record SavesRow (v w : View) (s rec : ℕ) : Type 0 where
+-- the call from v to w loaded the indirection word, which names no tail record, and no other word
+pub record LoadsHead (v w : View) (s rec : ℕ) : Type 0 where
+  pub word : ℕ
+  pub head : Looked v w s (HeadWord rec) word
+  pub none : word / 2 ≡ 0
+
+-- the same of a row with a version, with the pages of all columns: each tail record of which it loaded words is above the TPS of the page of some
+-- column, if that entry's time is at most the begin
+pub record SavesByPages (v w : View) (s rec : ℕ) : Type 0 where
   pub headed : View
   pub word : ℕ
   pub head : Looked v headed s (HeadWord rec) word
+  pub some : 0 < word / 2
   pub page : (column : ℕ) → column < v.limits.columns → ReadsPage headed w s rec column
   pub soon : LoadsOf v w s (λ t. (column : ℕ) × (low : column < v.limits.columns) × (time_of (page column low).stamp ≤ (knows v s).begin → IsAbove v rec (page column low).tps t))
   pub quiet : ((column : ℕ) (low : column < v.limits.columns) → (word / 2 ≤ (page column low).tps) × (time_of (page column low).stamp ≤ (knows v s).begin)) → (knows w s).finds ≡ (knows v s).finds
+
+-- of a record without a version no page is looked at
+abbrev pub SavesRow : View → View → ℕ → ℕ → Type 0
+SavesRow v w s rec = LoadsHead v w s rec ⊎ SavesByPages v w s rec

@@ -5,8 +5,8 @@ use Rattle.lst_model.specs.Cells.{Cell, number_at, cells_of}
 use Rattle.lst_model.specs.Histories.{row_after}
 use Rattle.lst_core_state.specs.Cells.{nulls_of}
 use Rattle.lst_core_state.specs.declared.known.Known.{Known}
-use Rattle.lst_sights.specs.Copies.{Version}
-use Rattle.lst_sights.specs.Seen.{sees, act_by}
+use Rattle.lst_rule.specs.Copies.{Version}
+use Rattle.lst_rule.specs.Seen.{sees, act_by}
 
 -- the cells that the words of a version stand for
 abbrev pub cells_by : Version → List Cell

@@ -1,10 +1,8 @@
 -- A session that reads, and what its calls tell.
-use Rattle.std.specs.Prelude.{◌≡◌, ◌⊎◌, ℕ, ◌+◌, ◌*◌, ◌/◌, ◌%◌, ◌<◌, List, ◌++◌, true}
+use Rattle.std.specs.Prelude.{◌≡◌, ◌⊎◌, ℕ, ◌+◌, ◌*◌, ◌/◌, ◌%◌, ◌<◌, true}
 use Rattle.std.specs.List.{Contains}
 use Rattle.lst_layout.specs.declared.place.Place.TheVariants.{CellWord}
 use Rattle.lst_core_state.specs.declared.events.Event.TheVariants.{Stamp}
-use Rattle.lst_core_state.specs.declared.facts.Find.{Find}
-use Rattle.lst_core_state.specs.declared.facts.Find.TheVariants.{TailLoad}
 use Rattle.lst_core_state.specs.State.{name_of}
 use Rattle.lst_rule.specs.declared.view.View.{View}
 use Rattle.lst_rule.specs.Rule.{knows, hosts}
@@ -12,8 +10,8 @@ use Rattle.lst_rule.specs.Learned.{Made}
 use Rattle.lst_rule.specs.declared.store.Store.{Store}
 use Rattle.lst_rule.specs.Seats.{Sitting}
 use Rattle.lst_rule.specs.Stores.{IsSeatOf, Looked}
-use Rattle.lst_sights.specs.Copies.{Version, fact_of, IsVersionOf}
-use Rattle.lst_sights.specs.Watching.{Watched}
+use Rattle.lst_rule.specs.Copies.{Version, fact_of, IsVersionOf}
+use Rattle.lst_rule.specs.Watching.{Watched}
 use Rattle.lst_rule.specs.declared.status.Status.TheVariants.{Unfinished, Closed}
 use Rattle.lst_rule.specs.Statuses.{Answers}
 
@@ -34,16 +32,6 @@ pub record IsAt (v : View) (s tail : ℕ) (c : Version) : Type 0 where
 -- there is one
 abbrev pub HasVersion : View → ℕ → ℕ → Type 0
 HasVersion v s tail = (c : Version) × IsAt v s tail c
-
--- between v and w the session s loaded words of no other tail records than such
-pub record LoadsOf (v w : View) (s : ℕ) (P : ℕ → Type 0) : Type 0 where
-  pub more : List Find
-  pub finds : (knows w s).finds ≡ (knows v s).finds ++ more
-  pub each : (t : ℕ) → Contains more (TailLoad t) → P t
-
--- of this tail record alone
-abbrev pub LoadsTail : View → View → ℕ → ℕ → Type 0
-LoadsTail v w s tail = LoadsOf v w s (λ t. t ≡ tail)
 
 -- the session s asked for the status of the transaction, number n of the session j, and found it closed or unfinished
 abbrev pub IsNotCommitted : View → View → ℕ → ℕ → ℕ → Type 0

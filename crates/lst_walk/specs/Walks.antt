@@ -19,10 +19,11 @@ use Rattle.lst_rule.specs.Rule.{knows}
 use Rattle.lst_rule.specs.Learned.{Possible}
 use Rattle.lst_rule.specs.declared.store.Store.{Store}
 use Rattle.lst_rule.specs.Seats.{Sitting}
-use Rattle.lst_sights.specs.Copies.{Version, IsChainFrom, IsCopy}
-use Rattle.lst_sights.specs.Seen.{sees, act_by, seen_acts, HasKey}
-use Rattle.lst_sights.specs.Watching.{HasInHand, Watched}
-use Rattle.lst_walk.specs.Readers.{IsReader, IsAt, IsResolved, LoadsTail}
+use Rattle.lst_rule.specs.Copies.{Version, IsChainFrom, IsCopy}
+use Rattle.lst_rule.specs.Seen.{sees, act_by, seen_acts, HasKey}
+use Rattle.lst_rule.specs.Watching.{HasInHand, Watched}
+use Rattle.lst_rule.specs.TailLoads.{LoadsTail}
+use Rattle.lst_walk.specs.Readers.{IsReader, IsAt, IsResolved}
 use Rattle.lst_walk.specs.Patches.{seen_after, cell_in, IsWide}
 use Rattle.lst_walk.specs.Pages.{NoneTold, UsesPage, IsPageOf, IsEntryOf, Saving}
 use Rattle.lst_walk.specs.declared.pages.Entry.{Entry}

@@ -10,11 +10,11 @@ use Rattle.lst_rule.specs.declared.store.Store.{Store}
 use Rattle.lst_rule.specs.Rule.{knows, hosts}
 use Rattle.lst_rule.specs.Seats.{Sitting}
 use Rattle.lst_rule.specs.Stores.{Looked}
-use Rattle.lst_sights.specs.Watching.{Watched}
+use Rattle.lst_rule.specs.Watching.{Watched}
 use Rattle.lst_walk.specs.Patches.{AreSet}
 use Rattle.lst_walk.specs.Readers.{IsReader}
 use Rattle.lst_walk.specs.Packed.{Skims}
-use Rattle.lst_walk.specs.Pages.{Takes, ReadsPage, SavesRow}
+use Rattle.lst_walk.specs.Pages.{Takes, ReadsPage, SavesByPages}
 use Rattle.lst_walk.specs.declared.pages.Entry.{Entry}
 use Rattle.lst_walk.specs.Filling.{RowPages}
 use Rattle.lst_walk.specs.Walks.{IsRowOf, WalksRow, RowWalk}
@@ -43,6 +43,7 @@ pub record PagedRow (store : Store) (v : View) (seat : Sitting) (s rec n k : ℕ
   pub word : ℕ
   pub head : Looked v headed s (HeadWord rec) word
   pub is_head : n ≡ word / 2
+  pub some : 0 < n
   pub later : Watched headed seat.view s
   pub quiet : (knows seat.view s).finds ≡ (knows v s).finds
   pub reads : (column : ℕ) → column < k → ReadsPage headed seat.view s rec column
@@ -51,7 +52,7 @@ pub record PagedRow (store : Store) (v : View) (seat : Sitting) (s rec n k : ℕ
 pub record PagedBy (v w : View) (s rec : ℕ) (cells : List Cell) : Type 0 where
   pub row : IsRowOf v s rec (Some cells)
   pub walk : WalksRow v w s rec (Some cells)
-  pub saves : SavesRow v w s rec
+  pub saves : SavesByPages v w s rec
 
 -- the pages of the columns below k were taken
 pub record PagedWalk (store : Store) (a seat : Sitting) (s rec n k : ℕ) (cells : List Cell) : Type 0 where
@@ -65,7 +66,7 @@ pub record RowBy (v w : View) (s rec : ℕ) (found : Option (List Cell)) : Type 
   pub watched : Watched v w s
   pub row : IsRowOf v s rec found
   pub walk : WalksRow v w s rec found
-  pub saves : 0 < (knows v s).pages.session.pin → SavesRow v w s rec
+  pub saves : 0 < (knows v s).pages.session.pin → SavesByPages v w s rec
 
 -- the row that a call put in its place, where it answers that there is one
 abbrev pub row_where : Bool → List Cell → Option (List Cell)

@@ -3,19 +3,19 @@ ghost use Rattle.std.specs.Prelude.{◌≡◌, ℕ, ◌+◌, ◌*◌, ◌<◌, �
 ghost use Rattle.lst_core_state.specs.Cells.{record_count};
 ghost use Rattle.lst_rule.specs.Rule.{knows, hosts};
 ghost use Rattle.lst_rule.specs.Stores.{IsSeatOf};
-ghost use Rattle.lst_sights.specs.Copies.{Version};
-ghost use Rattle.lst_sights.specs.Watching.{Watched};
-ghost use Rattle.lst_walk.specs.Readers.{IsReader, IsAt, HasVersion, LoadsTail, Resolves};
+ghost use Rattle.lst_rule.specs.Copies.{Version};
+ghost use Rattle.lst_rule.specs.Watching.{Watched};
+ghost use Rattle.lst_rule.specs.TailLoads.{LoadsTail};
+ghost use Rattle.lst_walk.specs.Readers.{IsReader, IsAt, HasVersion, Resolves};
 ghost use Rattle.lst_walk.specs.Chains.{SavesChain};
 ghost use Rattle.lst_walk.specs.Pages.{touches_by, is_told, SavesCell};
 ghost use Rattle.lst_walk.specs.Walks.{IsCellOf, WalksCell, Tells, Told};
 
 use crate::pages::{entry_of, number_of};
 use crate::stamps::is_seen;
-use crate::words::{below, encoding, head, value};
+use crate::words::{encoding, head, value};
 use lst_bits::{Kind, has_column};
-use lst_rule::{RecordId, Seat, Store};
-use lst_sights::tail_of;
+use lst_rule::{RecordId, Seat, Store, tail_of, version_below};
 
 /// The number in a column, 0 for null, of the row that the open transaction sees of a record: of the snapshot at its begin, with its own
 /// writes on it. None comes exactly where it sees no row, of a record without a seen key too. The walk goes along the chain from the newest
@@ -47,7 +47,7 @@ pub fn column(store: &Store, seat: &mut Seat, s: u32, rec: RecordId, c: u32) -> 
         if let Some(held) = held(store, seat, s, range, number, c) {
             return held;
         }
-        number = below(store, seat, s, tail_of(store, range, number));
+        number = version_below(store, seat, s, tail_of(store, range, number));
     }
     None
 }
@@ -71,7 +71,7 @@ pub fn column_by_chain(store: &Store, seat: &mut Seat, s: u32, rec: RecordId, c:
         if let Some(held) = held(store, seat, s, range, number, c) {
             return held;
         }
-        number = below(store, seat, s, tail_of(store, range, number));
+        number = version_below(store, seat, s, tail_of(store, range, number));
     }
     None
 }

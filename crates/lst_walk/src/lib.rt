@@ -8,11 +8,13 @@
 mod columns;
 mod packed;
 mod pages;
+mod presence;
 mod rows;
 mod stamps;
 mod whole;
 mod words;
 
 pub use columns::{column, column_by_chain};
+pub use presence::has_row;
 pub use rows::{put_row, row};
 pub use stamps::stamp;

@@ -10,7 +10,7 @@ ghost use Rattle.lst_walk.specs.Readers.{IsReader};
 ghost use Rattle.lst_walk.specs.Packed.{packed_words, Skims};
 ghost use Rattle.lst_walk.specs.Pages.{Takes, LooksAt};
 ghost use Rattle.lst_walk.specs.Taking.{TakesAll, entry_at};
-ghost use Rattle.lst_sights.specs.Watching.{HasInHand};
+ghost use Rattle.lst_rule.specs.Watching.{HasInHand};
 ghost use Rattle.lst_model.specs.Cells.{has_bit, number_of};
 ghost use Rattle.lst_layout.specs.Frames.{null_place, null_bit};
 ghost use Rattle.lst_pages.specs.Frames.{cell_in};

@@ -6,9 +6,10 @@ ghost use Rattle.lst_core_state.specs.Cells.{record_count};
 ghost use Rattle.lst_rule.specs.declared.view.View.{View};
 ghost use Rattle.lst_rule.specs.Rule.{knows, hosts};
 ghost use Rattle.lst_rule.specs.Stores.{IsSeatOf};
-ghost use Rattle.lst_sights.specs.Copies.{Version};
-ghost use Rattle.lst_sights.specs.Watching.{Watched};
-ghost use Rattle.lst_walk.specs.Readers.{IsReader, IsAt, HasVersion, LoadsTail, Resolves};
+ghost use Rattle.lst_rule.specs.Copies.{Version};
+ghost use Rattle.lst_rule.specs.Watching.{Watched};
+ghost use Rattle.lst_rule.specs.TailLoads.{LoadsTail};
+ghost use Rattle.lst_walk.specs.Readers.{IsReader, IsAt, HasVersion, Resolves};
 ghost use Rattle.lst_walk.specs.Patches.{merged, AreSet};
 ghost use Rattle.lst_walk.specs.Packed.{Skims};
 ghost use Rattle.lst_walk.specs.Taking.{entry_at};
@@ -20,12 +21,11 @@ ghost use Rattle.lst_walk.specs.Filling.{RowPages, GoesOn, Fills, SetsAll, Fills
 use crate::pages::{Entry, cell_of, entries_of, newest};
 use crate::stamps::is_seen;
 use crate::whole::paged;
-use crate::words::{below, cell, encoding, head};
+use crate::words::{cell, encoding, head};
 use arrayvec::ArrayVec;
 use lst_bits::{Encoding, Kind, has_column};
 use lst_model::Row;
-use lst_rule::{RecordId, Seat, Store};
-use lst_sights::tail_of;
+use lst_rule::{RecordId, Seat, Store, tail_of, version_below};
 
 /// What a visit of a version comes to.
 pub(crate) enum Visit {
@@ -52,7 +52,8 @@ pub(crate) enum Filled {
 /// seen or until each column is set. It resolves each version that it passes, this last one included: where it finds the transaction committed
 /// and the start word not stamped, it stores the commit time there. Where the session has a pin, the pages of all columns are taken in hand first,
 /// and at each number that the walk comes to, each column that isn't set yet is filled by its page's entry, if the number is at most the
-/// page's TPS, and the entry's time at most the begin. Where that holds of every column at the head, no word of a tail record is loaded.
+/// page's TPS, and the entry's time at most the begin. Where that holds of every column at the head, no word of a tail record is loaded. Of a record
+/// without a version no page is looked at.
 #[inline(always)]
 pub fn row(store: &Store, seat: &mut Seat, s: u32, rec: RecordId) -> Option<Row>
     requires seat { IsSeatOf store.now seat.old }
@@ -91,6 +92,9 @@ pub fn put_row(store: &Store, seat: &mut Seat, s: u32, rec: RecordId, row: &mut 
 {
     seat.consider();
     let number = head(store, seat, s, rec);
+    if number == 0 {
+        return false;
+    }
     if paged(store, seat, s, rec, number, row) {
         return true;
     }
@@ -148,7 +152,7 @@ fn walked(store: &Store, seat: &mut Seat, s: u32, rec: RecordId, number: u32) ->
         match look(store, seat, s, range, number, patch, &mut set) {
             Visit::Row { nulls } => return Some(row_under(store, seat, s, tail, nulls, patch)),
             Visit::NoRow => return None,
-            Visit::Older => number = below(store, seat, s, tail),
+            Visit::Older => number = version_below(store, seat, s, tail),
         }
     }
     None

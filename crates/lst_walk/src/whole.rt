@@ -14,8 +14,8 @@ use lst_bits::unpack_time;
 use lst_model::Row;
 use lst_rule::{RecordId, Seat, Store};
 
-/// The cell that the page of a column tells of a record at this number, where there is a row. None comes where there is no version (the number is 0),
-/// and where the page doesn't tell it to the open transaction, which has this begin. The directory word of the range's first page has the address `pages`.
+/// The cell that the page of a column tells of a record at the number of a version, where there is a row. None comes where the page doesn't tell it to
+/// the open transaction, which has this begin. The directory word of the range's first page has the address `pages`.
 #[inline(always)]
 fn page_cell(
     store: &Store,
@@ -30,18 +30,17 @@ fn page_cell(
     requires reader { IsReader store.now seat.old s }
     requires pinned { 0 < (knows seat.old.view s).pages.session.pin }
     requires rec { rec.number < record_count store.now.layout.limits }
+    requires number { 0 < number }
     requires column { column < store.now.layout.limits.columns }
     requires pages { pages ≡ address store.now.layout.limits (DirectoryWord (rec.number / 256) 0) }
     requires begin { begin ≡ (knows seat.old.view s).begin }
     ensures reader { IsReader store.now seat.new s }
     ensures skims { Skims seat.old.view seat.new.view s }
-    ensures some { IfSome result (λ cell. 0 < number) }
     ensures told { IfSome result (λ cell. TellsCell seat.old.view seat.new.view s rec.number number column cell) }
 {
     let found = look(store, seat, s, rec, column, pages);
     let (time, is_present) = unpack_time(found.stamp);
-    // A number of 0 becomes one above each TPS.
-    if (number as u64).wrapping_sub(1) < found.tps && is_present && time <= begin {
+    if number as u64 <= found.tps && is_present && time <= begin {
         let slot = rec.number % 256;
         Some(numbered_cell(store, seat, s, found.frame, found.first, slot))
     } else {
@@ -62,6 +61,7 @@ pub(crate) fn paged(
 ) -> bool
     requires reader { IsReader store.now seat.old s }
     requires rec { rec.number < record_count store.now.layout.limits }
+    requires number { 0 < number }
     requires empty { row.old ≡ [] }
     requires walk { (v : View) × PagedRow store.now v seat.old s rec.number number 0 [] }
     ensures reader { IsReader store.now seat.new s }

@@ -5,11 +5,12 @@ ghost use Rattle.lst_core_state.specs.Cells.{record_count, act_with, nulls_of};
 ghost use Rattle.lst_rule.specs.Rule.{knows, hosts};
 ghost use Rattle.lst_rule.specs.Learned.{Possible};
 ghost use Rattle.lst_rule.specs.Stores.{IsSeatOf, Looked};
-ghost use Rattle.lst_sights.specs.Copies.{Version, IsLinked};
-ghost use Rattle.lst_sights.specs.Seen.{act_by};
-ghost use Rattle.lst_sights.specs.Loads.{ChainFound, WordFound, IsBack};
-ghost use Rattle.lst_sights.specs.Watching.{Watched};
-ghost use Rattle.lst_walk.specs.Readers.{IsReader, IsAt, HasVersion, LoadsTail};
+ghost use Rattle.lst_rule.specs.Copies.{Version};
+ghost use Rattle.lst_rule.specs.Seen.{act_by};
+ghost use Rattle.lst_rule.specs.Loads.{ChainFound, WordFound};
+ghost use Rattle.lst_rule.specs.Watching.{Watched};
+ghost use Rattle.lst_rule.specs.TailLoads.{LoadsTail};
+ghost use Rattle.lst_walk.specs.Readers.{IsReader, IsAt, HasVersion};
 ghost use Rattle.lst_bits.specs.Encodings.{kind_code, encoding_of};
 ghost use Rattle.lst_model.specs.Cells.{cell_of, cells_of};
 
@@ -40,19 +41,6 @@ pub(crate) fn word(store: &Store, seat: &mut Seat, s: u32, tail: u32, place: u32
     ensures word { (c : Version) → IsAt seat.old.view s tail c → WordFound store.now.layout.limits c place result }
 {
     load_cell(store, seat, s, tail, place)
-}
-
-/// The number in its range of the version below one, or 0.
-pub(crate) fn below(store: &Store, seat: &mut Seat, s: u32, tail: u32) -> u32
-    requires seat { IsSeatOf store.now seat.old }
-    requires host { hosts seat.old.view s ≡ true }
-    requires version { IsLinked seat.old.view.limits (knows seat.old.view s).facts tail }
-    ensures seat { IsSeatOf store.now seat.new }
-    ensures watched { Watched seat.old.view seat.new.view s }
-    ensures loads { LoadsTail seat.old.view seat.new.view s tail }
-    ensures back { IsBack seat.old.view.limits (knows seat.old.view s).facts tail result }
-{
-    load_cell(store, seat, s, tail, 2) as u32
 }
 
 /// What a version does, by its encoding word.

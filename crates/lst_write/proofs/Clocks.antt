@@ -10,9 +10,9 @@ use Rattle.lst_rule.specs.declared.view.View.{View}
 use Rattle.lst_rule.specs.Rule.{knows, hosts}
 use Rattle.lst_rule.proofs.Knowing.{is_fact}
 use Rattle.lst_rule.specs.Stores.{Clocked}
-use Rattle.lst_sights.specs.Copies.{Version}
-use Rattle.lst_sights.specs.Loads.{StartFound}
-use Rattle.lst_sights.proofs.Finding.{unfinished_is_about}
+use Rattle.lst_rule.specs.Copies.{Version}
+use Rattle.lst_rule.specs.Loads.{StartFound}
+use Rattle.lst_rule.proofs.Finding.{unfinished_is_about}
 use Rattle.lst_write.specs.Standings.{IsStamp}
 
 -- the words of a name

@@ -21,13 +21,13 @@ use Rattle.lst_rule.specs.Learned.{Learns, Kept, CanStand, Met}
 use Rattle.lst_rule.proofs.Knowing.{knows_own}
 use Rattle.lst_rule.proofs.Learning.{learns_on}
 use Rattle.lst_rule.specs.Stores.{Looked}
-use Rattle.lst_sights.specs.Copies.{Version, IsChainFrom, Includes}
-use Rattle.lst_sights.specs.Seen.{sees, SeesAlike}
-use Rattle.lst_sights.specs.Judging.{IsClosed, IsJudged}
-use Rattle.lst_sights.proofs.Copying.{copies_stay}
-use Rattle.lst_sights.proofs.Seeing.{same_sees}
-use Rattle.lst_sights.proofs.Stamps.{made_words}
-use Rattle.lst_sights.proofs.Writing.{judged_may_draw}
+use Rattle.lst_rule.specs.Copies.{Version, IsChainFrom, Includes}
+use Rattle.lst_rule.specs.Seen.{sees, SeesAlike}
+use Rattle.lst_rule.specs.Judging.{IsClosed, IsJudged}
+use Rattle.lst_rule.proofs.Copying.{copies_stay}
+use Rattle.lst_rule.proofs.Seeing.{same_sees}
+use Rattle.lst_rule.proofs.Stamps.{made_words}
+use Rattle.lst_rule.proofs.Writing.{judged_may_draw}
 use Rattle.lst_write.specs.Holding.{HasLatch, latch_of}
 use Rattle.lst_write.specs.Judgements.{HasJudged}
 use Rattle.lst_write.specs.Appending.{with_count, known_words, Counts, FindsFull, Draws}

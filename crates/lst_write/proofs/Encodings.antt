@@ -14,7 +14,7 @@ use Rattle.lst_model.specs.CellLaws.{row_is_own, bits_where-below, no_bits, null
 use Rattle.lst_model.proofs.Cells.{no_bit_above, null_is_set, patch_is_patched, number_left_out, number_of_null}
 use Rattle.lst_bits.specs.Encodings.{AreWithin}
 use Rattle.lst_core_state.specs.Cells.{mask_of, kind_of, slot_of, nulls_of, listed, act_of, act_with, IsCell}
-use Rattle.lst_second.proofs.Bits.{full_bit, full_has}
+use Rattle.lst_rule.proofs.PostingBits.{full_bit, full_has}
 use Rattle.lst_write.specs.Cells.{IsActFor, encoding_of, value_of}
 
 -- ---- masks of patches

@@ -14,13 +14,13 @@ use Rattle.lst_rule.specs.Rule.{knows, hosts}
 use Rattle.lst_rule.specs.Learned.{Possible}
 use Rattle.lst_rule.proofs.Knowing.{is_fact, clock_is}
 use Rattle.lst_rule.specs.Stores.{Looked}
-use Rattle.lst_sights.specs.Copies.{Version, fact_of, IsVersionOf}
-use Rattle.lst_sights.specs.Seen.{is_early}
-use Rattle.lst_sights.specs.Loads.{StartFound}
-use Rattle.lst_sights.specs.Watching.{Watched}
-use Rattle.lst_sights.proofs.Finding.{starts_are_found}
-use Rattle.lst_sights.proofs.Watching.{looks_watch}
-use Rattle.lst_sights.proofs.Telling.{low, is_known}
+use Rattle.lst_rule.specs.Copies.{Version, fact_of, IsVersionOf}
+use Rattle.lst_rule.specs.Seen.{is_early}
+use Rattle.lst_rule.specs.Loads.{StartFound}
+use Rattle.lst_rule.specs.Watching.{Watched}
+use Rattle.lst_rule.proofs.Finding.{starts_are_found}
+use Rattle.lst_rule.proofs.Watching.{looks_watch}
+use Rattle.lst_rule.proofs.StatusTelling.{low, is_known}
 use Rattle.lst_write.specs.declared.standing.Standing.{Standing}
 use Rattle.lst_write.specs.declared.standing.Standing.TheVariants.{Seen}
 use Rattle.lst_write.specs.Standings.{IsVersion, IsStamp, IsOther, Stands, StandsAt, StandsBy}

@@ -18,9 +18,9 @@ use Rattle.lst_rule.specs.declared.view.View.{View}
 use Rattle.lst_rule.specs.Rule.{knows, hosts, Allowed}
 use Rattle.lst_rule.specs.Learned.{Learns, CanStand, Made}
 use Rattle.lst_rule.proofs.Knowing.{is_fact, knows_own}
-use Rattle.lst_second.specs.Posting.{AllPosted}
-use Rattle.lst_second.proofs.Standing.{all_posted}
-use Rattle.lst_sights.specs.Seen.{HasKey}
+use Rattle.lst_rule.specs.Posting.{AllPosted}
+use Rattle.lst_rule.proofs.PostingFacts.{all_posted}
+use Rattle.lst_rule.specs.Seen.{HasKey}
 use Rattle.lst_write.specs.Appending.{HasWhole, Installs}
 
 one_less : (r : ℕ) → r + 1 - 1 ≡ r

@@ -10,8 +10,8 @@ use Rattle.lst_core_state.specs.State.{rank}
 use Rattle.lst_core_state.specs.Step.{refreshed}
 use Rattle.lst_rule.specs.declared.view.View.{View}
 use Rattle.lst_rule.specs.Rule.{knows, hosts}
-use Rattle.lst_sights.specs.Copies.{Includes}
-use Rattle.lst_sights.specs.Watching.{Watches, Watched}
+use Rattle.lst_rule.specs.Copies.{Includes}
+use Rattle.lst_rule.specs.Watching.{Watches, Watched}
 use Rattle.lst_write.specs.Standings.{FoundSince}
 
 -- what a session that has looked knows as before

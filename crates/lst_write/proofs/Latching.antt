@@ -15,9 +15,9 @@ use Rattle.lst_rule.specs.Rule.{knows, hosts, Allowed}
 use Rattle.lst_rule.specs.Learned.{Learns, Kept, Possible, CanStand, Met}
 use Rattle.lst_rule.proofs.Knowing.{is_fact, knows_own}
 use Rattle.lst_rule.proofs.Learning.{kept_by}
-use Rattle.lst_sights.specs.Copies.{Version, Leads}
-use Rattle.lst_sights.specs.Loads.{ChainFound}
-use Rattle.lst_sights.proofs.Finding.{latches_find_chains}
+use Rattle.lst_rule.specs.Copies.{Version, Leads}
+use Rattle.lst_rule.specs.Loads.{ChainFound}
+use Rattle.lst_rule.proofs.Finding.{latches_find_chains}
 use Rattle.lst_write.specs.Holding.{IsPlaced, Latches, FindsLatched}
 
 -- a record of the index is one of the store

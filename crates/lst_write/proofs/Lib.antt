@@ -13,3 +13,4 @@ pub mod Storing
 pub mod Whole
 pub mod Installing
 pub mod Freeing
+pub mod Resolved

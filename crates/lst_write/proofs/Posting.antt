@@ -9,8 +9,8 @@ use Rattle.lst_core_state.specs.Cells.{range_of}
 use Rattle.lst_core_state.specs.State.{name_of}
 use Rattle.lst_rule.specs.declared.view.View.{View}
 use Rattle.lst_rule.specs.Rule.{knows}
-use Rattle.lst_second.specs.Posting.{HasTail, Posts}
-use Rattle.lst_second.proofs.Views.{posts_facts, posts_hold}
+use Rattle.lst_rule.specs.Posting.{HasTail, Posts}
+use Rattle.lst_rule.proofs.PostingViews.{posts_facts, posts_hold}
 use Rattle.lst_write.specs.Appending.{HasWhole}
 
 -- facts say which words it holds

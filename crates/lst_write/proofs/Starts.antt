@@ -5,8 +5,8 @@ use Rattle.lst_bits.specs.Starts.{IsStartWord}
 use Rattle.lst_core_state.specs.declared.known.Known.{Known}
 use Rattle.lst_layout.specs.declared.limits.Limits.{Limits}
 use Rattle.lst_layout.specs.Limits.{IsValid}
-use Rattle.lst_sights.specs.Copies.{Version, IsVersionOf}
-use Rattle.lst_sights.specs.Loads.{StartFound}
+use Rattle.lst_rule.specs.Copies.{Version, IsVersionOf}
+use Rattle.lst_rule.specs.Loads.{StartFound}
 
 pub start_word_few : (l : Limits) (k : Known) (rec x : ℕ) (c : Version) → IsValid l → IsVersionOf l rec c → (x % 2 ≡ 0 → x / 2 < 2 ^ 32) → StartFound k rec c x → IsStartWord x
 start_word_few l k rec x c valid is even found = (choose (eqb (x % 2) 0) refl, λ odd. few odd)

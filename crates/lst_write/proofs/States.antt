@@ -13,9 +13,9 @@ use Rattle.lst_rule.specs.Learned.{Possible}
 use Rattle.lst_rule.specs.declared.status.Status.{Status}
 use Rattle.lst_rule.specs.declared.status.Status.TheVariants as status
 use Rattle.lst_rule.specs.Statuses.{Answers}
-use Rattle.lst_sights.specs.Copies.{Version}
-use Rattle.lst_sights.specs.Watching.{Watched}
-use Rattle.lst_sights.proofs.Asking.{status_watched}
+use Rattle.lst_rule.specs.Copies.{Version}
+use Rattle.lst_rule.specs.Watching.{Watched}
+use Rattle.lst_rule.proofs.AskingWatched.{status_watched}
 use Rattle.lst_write.specs.declared.standing.Standing.{Standing}
 use Rattle.lst_write.specs.declared.standing.Standing.TheVariants.{Seen, Closed, Newer, Unfinished}
 use Rattle.lst_write.specs.Standings.{IsOther, IsStanding, StandsBy, standing_at}

@@ -14,7 +14,7 @@ use Rattle.lst_rule.specs.declared.view.View.{View}
 use Rattle.lst_rule.specs.Rule.{knows, hosts}
 use Rattle.lst_rule.specs.Learned.{Learns, CanStand, Made}
 use Rattle.lst_rule.proofs.Learning.{learns_on}
-use Rattle.lst_sights.proofs.Stamps.{made_words}
+use Rattle.lst_rule.proofs.Stamps.{made_words}
 use Rattle.lst_rule.specs.declared.store.Store.{Store}
 use Rattle.lst_rule.specs.Seats.{Sitting}
 use Rattle.lst_rule.specs.Stores.{IsSeatOf}

@@ -9,11 +9,11 @@ use Rattle.lst_rule.specs.declared.view.View.{View}
 use Rattle.lst_rule.specs.Rule.{knows, hosts}
 use Rattle.lst_rule.specs.Learned.{Possible}
 use Rattle.lst_rule.proofs.Knowing.{is_fact}
-use Rattle.lst_sights.specs.Copies.{Version}
-use Rattle.lst_sights.specs.Seen.{is_early}
-use Rattle.lst_sights.specs.Judging.{IsCommittedAt}
-use Rattle.lst_sights.specs.Laws.{Statuses}
-use Rattle.lst_sights.proofs.Telling.{statuses_tell}
+use Rattle.lst_rule.specs.Copies.{Version}
+use Rattle.lst_rule.specs.Seen.{is_early}
+use Rattle.lst_rule.specs.Judging.{IsCommittedAt}
+use Rattle.lst_rule.specs.Laws.{Statuses}
+use Rattle.lst_rule.proofs.StatusTelling.{statuses_tell}
 use Rattle.lst_write.specs.declared.standing.Standing.TheVariants.{Seen, Newer}
 use Rattle.lst_write.specs.Standings.{IsStanding, standing_at}
 

@@ -15,14 +15,14 @@ use Rattle.lst_rule.proofs.Knowing.{knows_own}
 use Rattle.lst_rule.specs.declared.store.Store.{Store}
 use Rattle.lst_rule.specs.Seats.{Sitting}
 use Rattle.lst_rule.specs.Stores.{IsSeatOf}
-use Rattle.lst_sights.specs.Copies.{Version, fact_of, IsVersionOf, IsChainFrom, IsCopy, IsLinked, Includes}
-use Rattle.lst_sights.specs.Judging.{IsClosed, AreClosed, IsJudged}
-use Rattle.lst_sights.specs.Loads.{IsBack}
-use Rattle.lst_sights.specs.Watching.{Watched}
-use Rattle.lst_sights.proofs.Copying.{chains_are_walked, copies_stay, chain_stays}
-use Rattle.lst_sights.proofs.Writing.{closed_are_passed}
-use Rattle.lst_sights.proofs.Committed.{committed_wrote}
-use Rattle.lst_sights.proofs.Watching.{watched_same, watches_join}
+use Rattle.lst_rule.specs.Copies.{Version, fact_of, IsVersionOf, IsChainFrom, IsCopy, IsLinked, Includes}
+use Rattle.lst_rule.specs.Judging.{IsClosed, AreClosed, IsJudged}
+use Rattle.lst_rule.specs.Loads.{IsBack}
+use Rattle.lst_rule.specs.Watching.{Watched}
+use Rattle.lst_rule.proofs.Copying.{chains_are_walked, copies_stay, chain_stays}
+use Rattle.lst_rule.proofs.Writing.{closed_are_passed}
+use Rattle.lst_rule.proofs.Committed.{committed_wrote}
+use Rattle.lst_rule.proofs.Watching.{watched_same, watches_join}
 use Rattle.lst_write.specs.Holding.{HasLatch}
 use Rattle.lst_write.specs.Standings.{IsVersion, Stands}
 use Rattle.lst_write.specs.declared.standing.Standing.TheVariants.{Seen, Closed, Newer, Unfinished}

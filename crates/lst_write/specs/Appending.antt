@@ -20,7 +20,7 @@ use Rattle.lst_core_state.specs.State.{name_of, sight as sight_of, FitsAfter, no
 use Rattle.lst_rule.specs.declared.view.View.{View}
 use Rattle.lst_rule.specs.Rule.{knows, hosts}
 use Rattle.lst_rule.specs.Learned.{Learns, Kept}
-use Rattle.lst_sights.specs.Seen.{HasKey}
+use Rattle.lst_rule.specs.Seen.{HasKey}
 use Rattle.lst_rule.specs.declared.store.Store.{Store}
 use Rattle.lst_rule.specs.Seats.{Sitting}
 use Rattle.lst_rule.specs.Stores.{IsSeatOf}

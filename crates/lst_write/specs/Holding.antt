@@ -8,8 +8,8 @@ use Rattle.lst_core_state.specs.State.{rank}
 use Rattle.lst_rule.specs.declared.view.View.{View}
 use Rattle.lst_rule.specs.Rule.{knows}
 use Rattle.lst_rule.specs.Learned.{Learns}
-use Rattle.lst_sights.specs.Seen.{HasKey}
-use Rattle.lst_sights.specs.Loads.{ChainFound}
+use Rattle.lst_rule.specs.Seen.{HasKey}
+use Rattle.lst_rule.specs.Loads.{ChainFound}
 
 -- a transaction is open that may write, and neither a latch nor the turn is in hand
 pub record MayLatch (k : Known) : Type 0 where

@@ -7,10 +7,10 @@ use Rattle.lst_core_state.specs.declared.facts.Find.TheVariants.{UnfinishedVersi
 use Rattle.lst_core_state.specs.State.{name_of}
 use Rattle.lst_rule.specs.declared.view.View.{View}
 use Rattle.lst_rule.specs.Rule.{knows, hosts}
-use Rattle.lst_sights.specs.Copies.{Version, IsChainFrom, IsCopy}
-use Rattle.lst_sights.specs.Seen.{HasKey}
-use Rattle.lst_sights.specs.Judging.{AreClosed, IsJudged, IsCommittedAt, WroteAt}
-use Rattle.lst_sights.specs.Watching.{Watched}
+use Rattle.lst_rule.specs.Copies.{Version, IsChainFrom, IsCopy}
+use Rattle.lst_rule.specs.Seen.{HasKey}
+use Rattle.lst_rule.specs.Judging.{AreClosed, IsJudged, IsCommittedAt, WroteAt}
+use Rattle.lst_rule.specs.Watching.{Watched}
 use Rattle.lst_rule.specs.declared.store.Store.{Store}
 use Rattle.lst_rule.specs.Seats.{Sitting}
 use Rattle.lst_rule.specs.Stores.{IsSeatOf}

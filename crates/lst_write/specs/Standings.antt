@@ -10,10 +10,10 @@ use Rattle.lst_layout.specs.declared.limits.Limits.{Limits}
 use Rattle.lst_layout.specs.Words.{Words, shown}
 use Rattle.lst_rule.specs.declared.view.View.{View}
 use Rattle.lst_rule.specs.Rule.{knows}
-use Rattle.lst_sights.specs.Copies.{Version, fact_of, IsVersionOf}
-use Rattle.lst_sights.specs.Seen.{sees}
-use Rattle.lst_sights.specs.Judging.{IsClosed, IsCommittedAt}
-use Rattle.lst_sights.specs.Loads.{StartFound}
+use Rattle.lst_rule.specs.Copies.{Version, fact_of, IsVersionOf}
+use Rattle.lst_rule.specs.Seen.{sees}
+use Rattle.lst_rule.specs.Judging.{IsClosed, IsCommittedAt}
+use Rattle.lst_rule.specs.Loads.{StartFound}
 use Rattle.lst_write.specs.declared.standing.Standing.{Standing}
 use Rattle.lst_write.specs.declared.standing.Standing.TheVariants.{Seen, Closed, Newer, Unfinished}
 

@@ -3,15 +3,14 @@ ghost use Rattle.std.specs.Prelude.{◌≡◌, ◌+◌, ◌*◌, ◌<◌, ◌≤
 ghost use Rattle.lst_core_state.specs.Cells.{record_count};
 ghost use Rattle.lst_rule.specs.Rule.{knows, hosts};
 ghost use Rattle.lst_rule.specs.Stores.{IsSeatOf};
-ghost use Rattle.lst_sights.specs.Laws.{KeptBy};
-ghost use Rattle.lst_sights.specs.Watching.{Watched};
+ghost use Rattle.lst_rule.specs.Laws.{KeptBy};
+ghost use Rattle.lst_rule.specs.Watching.{Watched};
 ghost use Rattle.lst_write.specs.Holding.{HasLatch};
 ghost use Rattle.lst_write.specs.Judgements.{HasChain, HasJudged, FaultIs};
 
 use crate::standing::{Standing, standing_of};
 use lst_model::Time;
-use lst_rule::{RecordId, Seat, Store};
-use lst_sights::{tail_of, version_below};
+use lst_rule::{RecordId, Seat, Store, tail_of, version_below};
 
 /// Why a transaction may not write on a record.
 #[derive(Clone, Copy, PartialEq, Eq, Debug)]

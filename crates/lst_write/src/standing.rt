@@ -1,17 +1,12 @@
 //! How a version of a record stands to a transaction that is to write above it.
-ghost use Rattle.std.specs.Prelude.{◌≡◌, ◌+◌, ◌<◌, ◌≤◌, length, true};
-ghost use Rattle.lst_layout.specs.Addresses as layout;
-ghost use Rattle.lst_layout.specs.declared.place.Place.TheVariants.{StateWord};
-ghost use Rattle.lst_core_state.specs.State.{name_of};
+ghost use Rattle.std.specs.Prelude.{◌≡◌, ◌≤◌, length, true};
 ghost use Rattle.lst_rule.specs.Rule.{knows, hosts};
 ghost use Rattle.lst_rule.specs.Stores.{IsSeatOf};
-ghost use Rattle.lst_sights.specs.Watching.{Watched};
-ghost use Rattle.lst_write.specs.Standings.{IsStamp, IsOther, IsVersion, StandsAt, StandsBy, Stands, standing_at};
+ghost use Rattle.lst_rule.specs.Watching.{Watched};
+ghost use Rattle.lst_write.specs.Standings.{IsStamp, IsVersion, StandsAt, Stands, standing_at};
 
-use lst_bits::{Start, unpack_start};
 use lst_model::Time;
-use lst_rule::{Seat, Status, Store, load_cell, load_clock, transaction_status};
-use lst_sights::is_own;
+use lst_rule::{Resolution, Seat, Store, load_clock, resolve};
 
 /// How a version stands to a transaction.
 #[derive(Clone, Copy, PartialEq, Eq, Debug)]
@@ -68,27 +63,6 @@ fn stamped_standing(store: &Store, seat: &mut Seat, s: u32, time: Time) -> Stand
     committed_standing(seat, s, time)
 }
 
-/// How the versions of a transaction stand that isn't the open one of the session.
-fn written_standing(store: &Store, seat: &mut Seat, s: u32, session: u32, number: u32) -> Standing
-    requires seat { IsSeatOf store.now seat.old }
-    requires host { hosts seat.old.view s ≡ true }
-    requires on { (knows seat.old.view s).is_open ≡ true }
-    requires other { IsOther (knows seat.old.view s) s session number }
-    requires place { layout.IsWithin seat.old.view.limits (StateWord session number) }
-    ensures seat { IsSeatOf store.now seat.new }
-    ensures watched { Watched seat.old.view seat.new.view s }
-    ensures stands { StandsBy seat.old.view seat.new.view s (name_of session number) result }
-{
-    let status = transaction_status(store, seat, s, session, number);
-    seat.consider();
-    match status {
-        Status::Empty => unreachable!(),
-        Status::Unfinished { .. } => Standing::Unfinished { session, number },
-        Status::Closed => Standing::Closed,
-        Status::Committed { time } => committed_standing(seat, s, time),
-    }
-}
-
 /// How a version stands, which is named by its tail's identifier.
 pub(crate) fn standing_of(store: &Store, seat: &mut Seat, s: u32, tail: u32) -> Standing
     requires seat { IsSeatOf store.now seat.old }
@@ -99,16 +73,14 @@ pub(crate) fn standing_of(store: &Store, seat: &mut Seat, s: u32, tail: u32) -> 
     ensures watched { Watched seat.old.view seat.new.view s }
     ensures stands { Stands seat.old.view seat.new.view s tail result }
 {
-    let start = load_cell(store, seat, s, tail, 0);
+    let found = resolve(store, seat, s, tail);
     seat.consider();
-    match unpack_start(start) {
-        Start::Empty => unreachable!(),
-        Start::At { time } => stamped_standing(store, seat, s, time),
-        Start::By { session, number } => {
-            if is_own(seat, s, session, number) {
-                return Standing::Seen;
-            }
-            written_standing(store, seat, s, session, number)
-        }
+    match found {
+        Resolution::Empty => unreachable!(),
+        Resolution::Stamped { time } => stamped_standing(store, seat, s, time),
+        Resolution::Own => Standing::Seen,
+        Resolution::Closed => Standing::Closed,
+        Resolution::Committed { time } => committed_standing(seat, s, time),
+        Resolution::Unfinished { session, number } => Standing::Unfinished { session, number },
     }
 }

@@ -7,7 +7,7 @@ ghost use Rattle.lst_rule.specs.Rule.{knows, hosts};
 ghost use Rattle.lst_rule.specs.Learned.{Learns, Kept, Made};
 ghost use Rattle.lst_layout.specs.declared.place.Place.TheVariants.{HeadWord};
 ghost use Rattle.lst_core_state.specs.declared.events.Event.TheVariants.{Install};
-ghost use Rattle.lst_second.specs.Posting.{AllPosted};
+ghost use Rattle.lst_rule.specs.Posting.{AllPosted};
 ghost use Rattle.lst_rule.specs.Stores.{IsSeatOf};
 ghost use Rattle.lst_write.specs.Holding.{MayLatch, HasLatch};
 ghost use Rattle.lst_write.specs.Judgements.{HasJudged};

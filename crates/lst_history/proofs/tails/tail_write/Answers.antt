@@ -9,7 +9,7 @@ use Rattle.lst_history.specs.Peeks.{words_in, Reads}
 use Rattle.lst_model.specs.Cells.{cells_of}
 use Rattle.lst_bits.specs.Encodings.{kind_code, IsEncodingWord}
 use Rattle.lst_core_state.specs.Cells.{act_with, IsCell}
-use Rattle.lst_sights.proofs.Encoded.{cell_encoded, act_is}
+use Rattle.lst_rule.proofs.Encoded.{cell_encoded, act_is}
 use Rattle.lst_history.proofs.Looks.{reads_on, same_words}
 use Rattle.lst_history.proofs.Naming.{cell_is}
 use Rattle.lst_history.proofs.Values.{record_is}

@@ -4,7 +4,7 @@ use Rattle.lst_rule.specs.declared.records.RecordId.{RecordId}
 use Rattle.lst_rule.specs.Rule.{knows}
 use Rattle.lst_second.specs.Gathers.{Gathers}
 use Rattle.lst_second.proofs.Runs.{offset_short, offsets_over}
-use Rattle.lst_second.proofs.Standing.{endless}
+use Rattle.lst_rule.proofs.PostingFacts.{endless}
 use Rattle.lst_second.proofs.Probing.{probes_none, probes_on}
 use Rattle.lst_second.proofs.Gathered.{gathers_none, gathers_on, gathered, gathered_low, taken_counted}
 use Rattle.lst_second.proofs.gathering.gather.Goals as goal

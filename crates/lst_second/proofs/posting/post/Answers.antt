@@ -1,4 +1,4 @@
-use Rattle.lst_second.proofs.Views.{posts_on}
+use Rattle.lst_rule.proofs.PostingViews.{posts_on}
 use Rattle.lst_second.proofs.posting.post.Goals as goal
 
 pub returns-in-Some-clause-posts : goal.returns-in-Some-clause-posts

@@ -1,4 +1,4 @@
-use Rattle.lst_second.proofs.Views.{posts_none, posts_on}
+use Rattle.lst_rule.proofs.PostingViews.{posts_none, posts_on}
 use Rattle.lst_second.proofs.Entries.{columns_none}
 use Rattle.lst_second.proofs.posting.post_all.Goals as goal
 

@@ -1,5 +1,5 @@
 use Rattle.std.proofs.Common.{◌-◌}
-use Rattle.lst_second.specs.Posting.{Posts}
+use Rattle.lst_rule.specs.Posting.{Posts}
 use Rattle.lst_second.specs.Visits.{Columns}
 use Rattle.lst_second.proofs.posting.post_all.Given as goal
 

@@ -2,9 +2,9 @@ use Rattle.std.proofs.Common.{ap}
 use Rattle.lst_layout.specs.declared.layout.Layout.{Layout}
 use Rattle.lst_rule.specs.Rule.{knows}
 use Rattle.lst_second.proofs.Runs.{offset_short, offsets_over}
-use Rattle.lst_second.proofs.Views.{posts_none, posts_on}
+use Rattle.lst_rule.proofs.PostingViews.{posts_none, posts_on}
 use Rattle.lst_second.proofs.Passing.{taken_of}
-use Rattle.lst_second.proofs.Standing.{endless}
+use Rattle.lst_rule.proofs.PostingFacts.{endless}
 use Rattle.lst_second.proofs.Entries.{visits_posted}
 use Rattle.lst_second.proofs.posting.post_entry.Goals as goal
 

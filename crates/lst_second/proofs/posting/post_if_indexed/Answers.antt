@@ -1,4 +1,4 @@
-use Rattle.lst_second.proofs.Views.{posts_none}
+use Rattle.lst_rule.proofs.PostingViews.{posts_none}
 use Rattle.lst_second.proofs.Entries.{columns_on}
 use Rattle.lst_second.proofs.posting.post_if_indexed.Goals as goal
 

@@ -1,6 +1,6 @@
 use Rattle.std.proofs.Common.{◌*◌, ◌+◌, ◌/◌, refl, sym, ap, arith}
 use Rattle.lst_layout.specs.declared.limits.Limits.{Limits}
-use Rattle.lst_sights.proofs.Watching.{watched_same}
+use Rattle.lst_rule.proofs.Watching.{watched_same}
 use Rattle.lst_walk.proofs.Reading.{reader_on, at_on, watched_on}
 use Rattle.lst_walk.proofs.Stamping.{at_same}
 use Rattle.lst_walk.proofs.Walking.{linked_at, back_at, number_few, at_number, version_number, range_low, cell_start, cell_done, cell_over, cell_walked, cell_ended}
@@ -28,11 +28,11 @@ tail_of-requires-clause-range c = range_low c.args.store.now.layout.limits c.arg
 pub tail_of-requires-clause-number : goal.tail_of-requires-clause-number
 tail_of-requires-clause-number c = number_few c.args.store.now c.loop-number.seat c.args.s c.args.rec.number c.loop-number.number c.loop-number.invariant.walk.reader c.loop-number.invariant.walk.versions c.loop-number.invariant.walk.chain c.loop-number-test.true
 
-pub below-number-requires-clause-version : goal.below-number-requires-clause-version
-below-number-requires-clause-version c = let q = at_number c.args.store.now c.loop-number.seat c.args.s c.args.rec.number c.loop-number.number c.loop-number.invariant.walk.reader c.loop-number.invariant.walk.versions c.loop-number.invariant.walk.chain c.loop-number-test.true (c.args.rec.number / 256) (c.args.rec.number / 256 * c.args.store.now.layout.limits.tails + c.loop-number.number) refl refl in linked_at c.held.new.seat.view c.args.s c.tail_of.result q.0 (at_same c.held.new.seat.view c.args.s (c.args.rec.number / 256 * c.args.store.now.layout.limits.tails + c.loop-number.number) c.tail_of.result q.0 (sym c.tail_of.ensures) (at_on c.loop-number.seat.view c.held.new.seat.view c.args.s (c.args.rec.number / 256 * c.args.store.now.layout.limits.tails + c.loop-number.number) q.0 c.held.ensures.watched q.3)) (let falls = q.4 in let same = ap (λ (l : Limits). l.tails) c.held.ensures.reader.seat_of.limits in let n = number_few c.args.store.now c.loop-number.seat c.args.s c.args.rec.number c.loop-number.number c.loop-number.invariant.walk.reader c.loop-number.invariant.walk.versions c.loop-number.invariant.walk.chain c.loop-number-test.true in omega arith)
+pub version_below-number-requires-clause-version : goal.version_below-number-requires-clause-version
+version_below-number-requires-clause-version c = let q = at_number c.args.store.now c.loop-number.seat c.args.s c.args.rec.number c.loop-number.number c.loop-number.invariant.walk.reader c.loop-number.invariant.walk.versions c.loop-number.invariant.walk.chain c.loop-number-test.true (c.args.rec.number / 256) (c.args.rec.number / 256 * c.args.store.now.layout.limits.tails + c.loop-number.number) refl refl in linked_at c.held.new.seat.view c.args.s c.tail_of.result q.0 (at_same c.held.new.seat.view c.args.s (c.args.rec.number / 256 * c.args.store.now.layout.limits.tails + c.loop-number.number) c.tail_of.result q.0 (sym c.tail_of.ensures) (at_on c.loop-number.seat.view c.held.new.seat.view c.args.s (c.args.rec.number / 256 * c.args.store.now.layout.limits.tails + c.loop-number.number) q.0 c.held.ensures.watched q.3)) (let falls = q.4 in let same = ap (λ (l : Limits). l.tails) c.held.ensures.reader.seat_of.limits in let n = number_few c.args.store.now c.loop-number.seat c.args.s c.args.rec.number c.loop-number.number c.loop-number.invariant.walk.reader c.loop-number.invariant.walk.versions c.loop-number.invariant.walk.chain c.loop-number-test.true in omega arith)
 
 pub loop-number-smaller : goal.loop-number-smaller
-loop-number-smaller c = let q = at_number c.args.store.now c.loop-number.seat c.args.s c.args.rec.number c.loop-number.number c.loop-number.invariant.walk.reader c.loop-number.invariant.walk.versions c.loop-number.invariant.walk.chain c.loop-number-test.true (c.args.rec.number / 256) (c.args.rec.number / 256 * c.args.store.now.layout.limits.tails + c.loop-number.number) refl refl in let e = back_at c.held.new.seat.view c.args.s c.tail_of.result c.below-number.result q.0 c.below-number.ensures.back (at_same c.held.new.seat.view c.args.s (c.args.rec.number / 256 * c.args.store.now.layout.limits.tails + c.loop-number.number) c.tail_of.result q.0 (sym c.tail_of.ensures) (at_on c.loop-number.seat.view c.held.new.seat.view c.args.s (c.args.rec.number / 256 * c.args.store.now.layout.limits.tails + c.loop-number.number) q.0 c.held.ensures.watched q.3)) in let falls = q.4 in omega arith
+loop-number-smaller c = let q = at_number c.args.store.now c.loop-number.seat c.args.s c.args.rec.number c.loop-number.number c.loop-number.invariant.walk.reader c.loop-number.invariant.walk.versions c.loop-number.invariant.walk.chain c.loop-number-test.true (c.args.rec.number / 256) (c.args.rec.number / 256 * c.args.store.now.layout.limits.tails + c.loop-number.number) refl refl in let e = back_at c.held.new.seat.view c.args.s c.tail_of.result c.version_below-number.result q.0 c.version_below-number.ensures.back (at_same c.held.new.seat.view c.args.s (c.args.rec.number / 256 * c.args.store.now.layout.limits.tails + c.loop-number.number) c.tail_of.result q.0 (sym c.tail_of.ensures) (at_on c.loop-number.seat.view c.held.new.seat.view c.args.s (c.args.rec.number / 256 * c.args.store.now.layout.limits.tails + c.loop-number.number) q.0 c.held.ensures.watched q.3)) in let falls = q.4 in omega arith
 
 pub loop-number-init : goal.loop-number-init
 loop-number-init c = page_start c.args.store.now c.args.seat.now.view c.head-number.new.seat c.entry_of-entry.new.seat c.args.s c.args.rec.number c.args.c c.head-number.result c.entry_of-entry.result
@@ -46,7 +46,7 @@ pub returns-in-Some-clause-cell : goal.returns-in-Some-clause-cell
 returns-in-Some-clause-cell c = cell_done c.args.store.now c.args.seat.now.view c.loop-number.seat c.held.new.seat c.held.new.seat c.args.s c.args.rec.number c.loop-number.number (c.args.rec.number / 256) (c.args.rec.number / 256 * c.args.store.now.layout.limits.tails + c.loop-number.number) 0 c.requires.host c.requires.opened c.loop-number-test.true refl refl c.args.c c.in-Some.held c.loop-number.invariant.walk c.in-Some.ensures.tells
 
 pub loop-number-preserved : goal.loop-number-preserved
-loop-number-preserved c = page_next c.args.store.now c.args.seat.now.view c.loop-number.seat c.held.new.seat c.below-number.new.seat c.args.s c.args.rec.number c.loop-number.number (c.args.rec.number / 256) (c.args.rec.number / 256 * c.args.store.now.layout.limits.tails + c.loop-number.number) c.below-number.result c.requires.host c.requires.opened c.loop-number-test.true refl refl c.args.c c.entry_of-entry.result c.loop-number.invariant (let n = c.if-number-entry.false in omega arith) c.held.ensures.watched c.in_default.ensures.tells c.held.ensures.resolved (reader_on c.args.store.now c.held.new.seat c.below-number.new.seat c.args.s c.held.ensures.reader c.below-number.ensures.watched c.below-number.ensures.seat) c.below-number.ensures.watched (λ d at. back_at c.held.new.seat.view c.args.s c.tail_of.result c.below-number.result d c.below-number.ensures.back (at_same c.held.new.seat.view c.args.s (c.args.rec.number / 256 * c.args.store.now.layout.limits.tails + c.loop-number.number) c.tail_of.result d (sym c.tail_of.ensures) (at_on c.loop-number.seat.view c.held.new.seat.view c.args.s (c.args.rec.number / 256 * c.args.store.now.layout.limits.tails + c.loop-number.number) d c.held.ensures.watched at))) (c.in_default.ensures.leaves refl) c.held.ensures.loads c.tail_of.result c.tail_of.ensures c.below-number.ensures.loads
+loop-number-preserved c = page_next c.args.store.now c.args.seat.now.view c.loop-number.seat c.held.new.seat c.version_below-number.new.seat c.args.s c.args.rec.number c.loop-number.number (c.args.rec.number / 256) (c.args.rec.number / 256 * c.args.store.now.layout.limits.tails + c.loop-number.number) c.version_below-number.result c.requires.host c.requires.opened c.loop-number-test.true refl refl c.args.c c.entry_of-entry.result c.loop-number.invariant (let n = c.if-number-entry.false in omega arith) c.held.ensures.watched c.in_default.ensures.tells c.held.ensures.resolved (reader_on c.args.store.now c.held.new.seat c.version_below-number.new.seat c.args.s c.held.ensures.reader c.version_below-number.ensures.watched c.version_below-number.ensures.seat) c.version_below-number.ensures.watched (λ d at. back_at c.held.new.seat.view c.args.s c.tail_of.result c.version_below-number.result d c.version_below-number.ensures.back (at_same c.held.new.seat.view c.args.s (c.args.rec.number / 256 * c.args.store.now.layout.limits.tails + c.loop-number.number) c.tail_of.result d (sym c.tail_of.ensures) (at_on c.loop-number.seat.view c.held.new.seat.view c.args.s (c.args.rec.number / 256 * c.args.store.now.layout.limits.tails + c.loop-number.number) d c.held.ensures.watched at))) (c.in_default.ensures.leaves refl) c.held.ensures.loads c.tail_of.result c.tail_of.ensures c.version_below-number.ensures.loads
 
 pub returns-clause-watched : goal.returns-clause-watched
 returns-clause-watched c = c.loop-number.invariant.walk.watched

@@ -5,7 +5,7 @@ use Rattle.lst_walk.proofs.Stamping.{at_same, has_same}
 use Rattle.lst_walk.proofs.Resolving.{resolves_later}
 use Rattle.lst_walk.proofs.Walking.{seen_tells, unseen_tells, unseen_leaves, seen_leaves}
 use Rattle.std.proofs.Common.{◌+◌, ◌*◌}
-use Rattle.lst_walk.proofs.Finds.{loads_tail}
+use Rattle.lst_rule.proofs.Finds.{loads_tail}
 use Rattle.lst_walk.proofs.columns.held.Goals as goal
 
 pub told-requires-clause-reader : goal.told-requires-clause-reader

@@ -6,7 +6,7 @@ use Rattle.lst_model.specs.Cells.{number_of, cells_of}
 use Rattle.lst_walk.proofs.Meanings.{numbers_by}
 use Rattle.lst_walk.proofs.Reading.{at_on, watched_on, version_on}
 use Rattle.lst_walk.proofs.Acting.{bit_set, bit_clear, columns_of, put_told, del_told, set_told, set_untold}
-use Rattle.lst_walk.proofs.Finds.{loads_tail}
+use Rattle.lst_rule.proofs.Finds.{loads_tail}
 use Rattle.lst_walk.proofs.columns.told.Goals as goal
 
 pub returns-in-Put-clause-told : goal.returns-in-Put-clause-told

@@ -1,7 +1,7 @@
 use Rattle.std.proofs.Common.{refl, sym, ap, arith, not, ◌∙◌}
 use Rattle.lst_core_state.specs.declared.known.Known.{Known}
 use Rattle.lst_rule.specs.Rule.{knows}
-use Rattle.lst_sights.proofs.Watching.{same_pins}
+use Rattle.lst_rule.proofs.Watching.{same_pins}
 use Rattle.lst_walk.proofs.Loading.{pin_none, pin_some}
 use Rattle.lst_layout.specs.declared.layout.Layout.{Layout}
 use Rattle.lst_walk.proofs.Rowing.{takes_none, takes_next, takes_blank}

@@ -3,7 +3,7 @@ use Rattle.std.specs.Prelude.{Bool, Some, None, cond}
 use Rattle.lst_layout.specs.Frames.{null_place, null_bit}
 use Rattle.lst_model.specs.Cells.{has_bit}
 use Rattle.lst_core_state.specs.declared.known.Known.{Known}
-use Rattle.lst_sights.specs.Watching.{HasInHand}
+use Rattle.lst_rule.specs.Watching.{HasInHand}
 use Rattle.lst_walk.specs.Packed.{skims_on}
 use Rattle.lst_walk.proofs.Entries.{cell_some}
 use Rattle.lst_walk.proofs.pages.numbered_cell.Goals as goal

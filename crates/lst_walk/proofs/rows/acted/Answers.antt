@@ -4,7 +4,7 @@ use Rattle.lst_walk.proofs.Acting.{columns_of, put_acted, del_acted, set_acted, 
 use Rattle.std.proofs.Common.{refl}
 use Rattle.lst_model.specs.Cells.{cells_of}
 use Rattle.lst_walk.proofs.Setting.{set_still, set_more, set_left, cells_wide}
-use Rattle.lst_walk.proofs.Finds.{loads_tail}
+use Rattle.lst_rule.proofs.Finds.{loads_tail}
 use Rattle.lst_walk.proofs.rows.acted.Goals as goal
 
 pub returns-in-Put-clause-acted : goal.returns-in-Put-clause-acted

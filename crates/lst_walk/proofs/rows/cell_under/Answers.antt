@@ -1,6 +1,6 @@
-use Rattle.lst_sights.proofs.Watching.{watched_same}
+use Rattle.lst_rule.proofs.Watching.{watched_same}
 use Rattle.std.proofs.Common.{◌≡◌, refl}
-use Rattle.lst_walk.proofs.Finds.{loads_none}
+use Rattle.lst_rule.proofs.Finds.{loads_none}
 use Rattle.lst_walk.proofs.rows.cell_under.Goals as goal
 
 pub returns-in-Some-clause-watched : goal.returns-in-Some-clause-watched

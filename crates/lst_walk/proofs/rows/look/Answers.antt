@@ -5,7 +5,7 @@ use Rattle.lst_walk.proofs.Stamping.{at_same, has_same}
 use Rattle.lst_walk.proofs.Resolving.{resolves_later}
 use Rattle.lst_walk.proofs.Walking.{seen_visited, unseen_visited, seen_row_leaves, unseen_row_leaves}
 use Rattle.std.proofs.Common.{◌+◌, ◌*◌}
-use Rattle.lst_walk.proofs.Finds.{loads_tail}
+use Rattle.lst_rule.proofs.Finds.{loads_tail}
 use Rattle.lst_walk.proofs.rows.look.Goals as goal
 
 pub acted-requires-clause-reader : goal.acted-requires-clause-reader

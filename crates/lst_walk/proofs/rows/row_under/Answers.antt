@@ -5,7 +5,7 @@ use Rattle.lst_layout.specs.declared.layout.Layout.{Layout}
 use Rattle.lst_model.specs.Cells.{Cell, cells_of, overlaid}
 use Rattle.lst_model.specs.CellLaws.{length-cells_of}
 use Rattle.lst_model.proofs.Overlays.{length-overlaid}
-use Rattle.lst_sights.specs.Copies.{Version}
+use Rattle.lst_rule.specs.Copies.{Version}
 use Rattle.lst_walk.proofs.Reading.{at_on, version_on}
 use Rattle.lst_walk.proofs.Lists.{overlaid_at, cell_first}
 use Rattle.lst_walk.proofs.Filling.{fills_start, fills_next, fills_whole}

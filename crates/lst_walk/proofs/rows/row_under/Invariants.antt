@@ -1,5 +1,5 @@
 use Rattle.lst_model.specs.Cells.{cells_of, overlaid}
-use Rattle.lst_sights.specs.Copies.{Version}
+use Rattle.lst_rule.specs.Copies.{Version}
 use Rattle.lst_walk.specs.Walks.{Fills}
 use Rattle.lst_walk.proofs.rows.row_under.Given as goal
 

@@ -5,7 +5,7 @@ use Rattle.lst_layout.specs.declared.layout.Layout.{Layout}
 use Rattle.lst_model.specs.Cells.{Cell, cell_of, cells_of, patched, has_bit}
 use Rattle.lst_model.specs.CellLaws.{length-cells_of}
 use Rattle.lst_rule.specs.Seats.{Sitting}
-use Rattle.lst_sights.specs.Copies.{Version}
+use Rattle.lst_rule.specs.Copies.{Version}
 use Rattle.lst_walk.specs.Readers.{IsAt}
 use Rattle.lst_walk.specs.Patches.{merged, newest}
 use Rattle.lst_walk.specs.Walks.{Merges}

@@ -1,5 +1,5 @@
 use Rattle.lst_model.specs.Cells.{cells_of, patched}
-use Rattle.lst_sights.specs.Copies.{Version}
+use Rattle.lst_rule.specs.Copies.{Version}
 use Rattle.lst_walk.specs.Patches.{merged}
 use Rattle.lst_walk.specs.Walks.{Merges}
 use Rattle.lst_walk.proofs.rows.set_under.Given as goal

@@ -2,7 +2,7 @@ use Rattle.std.proofs.Common.{ℕ, ◌*◌, ◌+◌, ◌/◌, refl, sym, ap, ◌
 use Rattle.std.specs.Prelude.{replicate, None, is_some}
 use Rattle.lst_layout.specs.declared.layout.Layout.{Layout}
 use Rattle.lst_layout.specs.declared.limits.Limits.{Limits}
-use Rattle.lst_sights.proofs.Watching.{watched_same}
+use Rattle.lst_rule.proofs.Watching.{watched_same}
 use Rattle.lst_walk.proofs.Reading.{reader_on, at_on, version_on, watched_on}
 use Rattle.lst_walk.proofs.Stamping.{at_same, has_same}
 use Rattle.lst_walk.proofs.Lists.{take_same, none_set}
@@ -10,7 +10,7 @@ use Rattle.lst_walk.proofs.Walking.{linked_at, back_at, number_few, at_number, v
 use Rattle.std.specs.List.{list_all}
 use Rattle.lst_walk.proofs.Rowing.{rows_next, rows_saved, rows_held, rows_whole, rows_walked, high_column, unset_still}
 use Rattle.lst_walk.proofs.Straight.{walked_start}
-use Rattle.lst_walk.proofs.Finds.{loads_tail}
+use Rattle.lst_rule.proofs.Finds.{loads_tail}
 use Rattle.lst_walk.proofs.Setting.{none_known}
 use Rattle.lst_walk.proofs.rows.walked.Goals as goal
 
@@ -32,11 +32,11 @@ tail_of-tail-requires-clause-range c = range_low c.args.store.now.layout.limits 
 pub tail_of-tail-requires-clause-number : goal.tail_of-tail-requires-clause-number
 tail_of-tail-requires-clause-number c = number_few c.args.store.now c.fill.new.seat c.args.s c.args.rec.number c.loop-number.number (c.in-Partly.ensures.filled c.requires.walk.0 (c.loop-number.invariant.goes c.requires.walk.0 c.requires.walk.1)).walk.reader (c.in-Partly.ensures.filled c.requires.walk.0 (c.loop-number.invariant.goes c.requires.walk.0 c.requires.walk.1)).walk.versions (c.in-Partly.ensures.filled c.requires.walk.0 (c.loop-number.invariant.goes c.requires.walk.0 c.requires.walk.1)).walk.chain c.loop-number-test.true
 
-pub below-number-requires-clause-version : goal.below-number-requires-clause-version
-below-number-requires-clause-version c = let q = at_number c.args.store.now c.fill.new.seat c.args.s c.args.rec.number c.loop-number.number (c.in-Partly.ensures.filled c.requires.walk.0 (c.loop-number.invariant.goes c.requires.walk.0 c.requires.walk.1)).walk.reader (c.in-Partly.ensures.filled c.requires.walk.0 (c.loop-number.invariant.goes c.requires.walk.0 c.requires.walk.1)).walk.versions (c.in-Partly.ensures.filled c.requires.walk.0 (c.loop-number.invariant.goes c.requires.walk.0 c.requires.walk.1)).walk.chain c.loop-number-test.true (c.args.rec.number / 256) (c.args.rec.number / 256 * c.args.store.now.layout.limits.tails + c.loop-number.number) refl refl in linked_at c.look.new.seat.view c.args.s c.tail_of-tail.result q.0 (at_same c.look.new.seat.view c.args.s (c.args.rec.number / 256 * c.args.store.now.layout.limits.tails + c.loop-number.number) c.tail_of-tail.result q.0 (sym c.tail_of-tail.ensures) (at_on c.fill.new.seat.view c.look.new.seat.view c.args.s (c.args.rec.number / 256 * c.args.store.now.layout.limits.tails + c.loop-number.number) q.0 c.look.ensures.watched q.3)) (let falls = q.4 in let same = ap (λ (l : Limits). l.tails) c.look.ensures.reader.seat_of.limits in let n = number_few c.args.store.now c.fill.new.seat c.args.s c.args.rec.number c.loop-number.number (c.in-Partly.ensures.filled c.requires.walk.0 (c.loop-number.invariant.goes c.requires.walk.0 c.requires.walk.1)).walk.reader (c.in-Partly.ensures.filled c.requires.walk.0 (c.loop-number.invariant.goes c.requires.walk.0 c.requires.walk.1)).walk.versions (c.in-Partly.ensures.filled c.requires.walk.0 (c.loop-number.invariant.goes c.requires.walk.0 c.requires.walk.1)).walk.chain c.loop-number-test.true in omega arith)
+pub version_below-number-requires-clause-version : goal.version_below-number-requires-clause-version
+version_below-number-requires-clause-version c = let q = at_number c.args.store.now c.fill.new.seat c.args.s c.args.rec.number c.loop-number.number (c.in-Partly.ensures.filled c.requires.walk.0 (c.loop-number.invariant.goes c.requires.walk.0 c.requires.walk.1)).walk.reader (c.in-Partly.ensures.filled c.requires.walk.0 (c.loop-number.invariant.goes c.requires.walk.0 c.requires.walk.1)).walk.versions (c.in-Partly.ensures.filled c.requires.walk.0 (c.loop-number.invariant.goes c.requires.walk.0 c.requires.walk.1)).walk.chain c.loop-number-test.true (c.args.rec.number / 256) (c.args.rec.number / 256 * c.args.store.now.layout.limits.tails + c.loop-number.number) refl refl in linked_at c.look.new.seat.view c.args.s c.tail_of-tail.result q.0 (at_same c.look.new.seat.view c.args.s (c.args.rec.number / 256 * c.args.store.now.layout.limits.tails + c.loop-number.number) c.tail_of-tail.result q.0 (sym c.tail_of-tail.ensures) (at_on c.fill.new.seat.view c.look.new.seat.view c.args.s (c.args.rec.number / 256 * c.args.store.now.layout.limits.tails + c.loop-number.number) q.0 c.look.ensures.watched q.3)) (let falls = q.4 in let same = ap (λ (l : Limits). l.tails) c.look.ensures.reader.seat_of.limits in let n = number_few c.args.store.now c.fill.new.seat c.args.s c.args.rec.number c.loop-number.number (c.in-Partly.ensures.filled c.requires.walk.0 (c.loop-number.invariant.goes c.requires.walk.0 c.requires.walk.1)).walk.reader (c.in-Partly.ensures.filled c.requires.walk.0 (c.loop-number.invariant.goes c.requires.walk.0 c.requires.walk.1)).walk.versions (c.in-Partly.ensures.filled c.requires.walk.0 (c.loop-number.invariant.goes c.requires.walk.0 c.requires.walk.1)).walk.chain c.loop-number-test.true in omega arith)
 
 pub loop-number-smaller : goal.loop-number-smaller
-loop-number-smaller c = let q = at_number c.args.store.now c.fill.new.seat c.args.s c.args.rec.number c.loop-number.number (c.in-Partly.ensures.filled c.requires.walk.0 (c.loop-number.invariant.goes c.requires.walk.0 c.requires.walk.1)).walk.reader (c.in-Partly.ensures.filled c.requires.walk.0 (c.loop-number.invariant.goes c.requires.walk.0 c.requires.walk.1)).walk.versions (c.in-Partly.ensures.filled c.requires.walk.0 (c.loop-number.invariant.goes c.requires.walk.0 c.requires.walk.1)).walk.chain c.loop-number-test.true (c.args.rec.number / 256) (c.args.rec.number / 256 * c.args.store.now.layout.limits.tails + c.loop-number.number) refl refl in let e = back_at c.look.new.seat.view c.args.s c.tail_of-tail.result c.below-number.result q.0 c.below-number.ensures.back (at_same c.look.new.seat.view c.args.s (c.args.rec.number / 256 * c.args.store.now.layout.limits.tails + c.loop-number.number) c.tail_of-tail.result q.0 (sym c.tail_of-tail.ensures) (at_on c.fill.new.seat.view c.look.new.seat.view c.args.s (c.args.rec.number / 256 * c.args.store.now.layout.limits.tails + c.loop-number.number) q.0 c.look.ensures.watched q.3)) in let falls = q.4 in omega arith
+loop-number-smaller c = let q = at_number c.args.store.now c.fill.new.seat c.args.s c.args.rec.number c.loop-number.number (c.in-Partly.ensures.filled c.requires.walk.0 (c.loop-number.invariant.goes c.requires.walk.0 c.requires.walk.1)).walk.reader (c.in-Partly.ensures.filled c.requires.walk.0 (c.loop-number.invariant.goes c.requires.walk.0 c.requires.walk.1)).walk.versions (c.in-Partly.ensures.filled c.requires.walk.0 (c.loop-number.invariant.goes c.requires.walk.0 c.requires.walk.1)).walk.chain c.loop-number-test.true (c.args.rec.number / 256) (c.args.rec.number / 256 * c.args.store.now.layout.limits.tails + c.loop-number.number) refl refl in let e = back_at c.look.new.seat.view c.args.s c.tail_of-tail.result c.version_below-number.result q.0 c.version_below-number.ensures.back (at_same c.look.new.seat.view c.args.s (c.args.rec.number / 256 * c.args.store.now.layout.limits.tails + c.loop-number.number) c.tail_of-tail.result q.0 (sym c.tail_of-tail.ensures) (at_on c.fill.new.seat.view c.look.new.seat.view c.args.s (c.args.rec.number / 256 * c.args.store.now.layout.limits.tails + c.loop-number.number) q.0 c.look.ensures.watched q.3)) in let falls = q.4 in omega arith
 
 pub row_under-requires-clause-version : goal.row_under-requires-clause-version
 row_under-requires-clause-version c = has_same c.look.new.seat.view c.args.s (c.args.rec.number / 256 * c.args.store.now.layout.limits.tails + c.loop-number.number) c.tail_of-tail.result (sym c.tail_of-tail.ensures)
@@ -103,10 +103,10 @@ loop-number-init c = let l = ap (λ (y : Layout). y.limits.columns) c.layout.ens
 
 pub loop-number-preserved : goal.loop-number-preserved
 loop-number-preserved c = let q = at_number c.args.store.now c.fill.new.seat c.args.s c.args.rec.number c.loop-number.number (c.in-Partly.ensures.filled c.requires.walk.0 (c.loop-number.invariant.goes c.requires.walk.0 c.requires.walk.1)).walk.reader (c.in-Partly.ensures.filled c.requires.walk.0 (c.loop-number.invariant.goes c.requires.walk.0 c.requires.walk.1)).walk.versions (c.in-Partly.ensures.filled c.requires.walk.0 (c.loop-number.invariant.goes c.requires.walk.0 c.requires.walk.1)).walk.chain c.loop-number-test.true (c.args.rec.number / 256) (c.args.rec.number / 256 * c.args.store.now.layout.limits.tails + c.loop-number.number) refl refl in record {
-  goes = λ v p. rows_next c.args.store.now v c.fill.new.seat c.look.new.seat c.below-number.new.seat c.args.s c.args.rec.number c.loop-number.number (c.args.rec.number / 256) (c.args.rec.number / 256 * c.args.store.now.layout.limits.tails + c.loop-number.number) c.below-number.result c.loop-number-test.true refl refl c.entries_of-entries.result c.fill.new.patch c.look.new.patch (c.in-Partly.ensures.filled v (c.loop-number.invariant.goes v p)) (high_column c.args.store.now v c.fill.new.seat c.args.s c.args.rec.number c.loop-number.number c.entries_of-entries.result c.fill.new.patch (c.in-Partly.ensures.filled v (c.loop-number.invariant.goes v p)) (unset_still c.loop-number.patch c.fill.new.patch c.loop-number.invariant.unset c.in-Partly.ensures.sets.0) c.in-Partly.ensures.sets.1) c.look.ensures.watched (c.look.auto.patch ∙ (c.in-Partly.ensures.filled v (c.loop-number.invariant.goes v p)).walk.wide) c.in-Older.ensures.visited c.look.ensures.resolved
-      (reader_on c.args.store.now c.look.new.seat c.below-number.new.seat c.args.s c.look.ensures.reader c.below-number.ensures.watched c.below-number.ensures.seat) c.below-number.ensures.watched
-      (λ d at. back_at c.look.new.seat.view c.args.s c.tail_of-tail.result c.below-number.result d c.below-number.ensures.back (at_same c.look.new.seat.view c.args.s (c.args.rec.number / 256 * c.args.store.now.layout.limits.tails + c.loop-number.number) c.tail_of-tail.result d (sym c.tail_of-tail.ensures) (at_on c.fill.new.seat.view c.look.new.seat.view c.args.s (c.args.rec.number / 256 * c.args.store.now.layout.limits.tails + c.loop-number.number) d c.look.ensures.watched at)))
-      c.in-Older.ensures.leaves c.look.ensures.loads c.tail_of-tail.result c.tail_of-tail.ensures c.below-number.ensures.loads;
+  goes = λ v p. rows_next c.args.store.now v c.fill.new.seat c.look.new.seat c.version_below-number.new.seat c.args.s c.args.rec.number c.loop-number.number (c.args.rec.number / 256) (c.args.rec.number / 256 * c.args.store.now.layout.limits.tails + c.loop-number.number) c.version_below-number.result c.loop-number-test.true refl refl c.entries_of-entries.result c.fill.new.patch c.look.new.patch (c.in-Partly.ensures.filled v (c.loop-number.invariant.goes v p)) (high_column c.args.store.now v c.fill.new.seat c.args.s c.args.rec.number c.loop-number.number c.entries_of-entries.result c.fill.new.patch (c.in-Partly.ensures.filled v (c.loop-number.invariant.goes v p)) (unset_still c.loop-number.patch c.fill.new.patch c.loop-number.invariant.unset c.in-Partly.ensures.sets.0) c.in-Partly.ensures.sets.1) c.look.ensures.watched (c.look.auto.patch ∙ (c.in-Partly.ensures.filled v (c.loop-number.invariant.goes v p)).walk.wide) c.in-Older.ensures.visited c.look.ensures.resolved
+      (reader_on c.args.store.now c.look.new.seat c.version_below-number.new.seat c.args.s c.look.ensures.reader c.version_below-number.ensures.watched c.version_below-number.ensures.seat) c.version_below-number.ensures.watched
+      (λ d at. back_at c.look.new.seat.view c.args.s c.tail_of-tail.result c.version_below-number.result d c.version_below-number.ensures.back (at_same c.look.new.seat.view c.args.s (c.args.rec.number / 256 * c.args.store.now.layout.limits.tails + c.loop-number.number) c.tail_of-tail.result d (sym c.tail_of-tail.ensures) (at_on c.fill.new.seat.view c.look.new.seat.view c.args.s (c.args.rec.number / 256 * c.args.store.now.layout.limits.tails + c.loop-number.number) d c.look.ensures.watched at)))
+      c.in-Older.ensures.leaves c.look.ensures.loads c.tail_of-tail.result c.tail_of-tail.ensures c.version_below-number.ensures.loads;
   held = c.look.ensures.set;
   unset = unset_still c.fill.new.patch c.look.new.patch (unset_still c.loop-number.patch c.fill.new.patch c.loop-number.invariant.unset c.in-Partly.ensures.sets.0) (c.in-Older.ensures.leaves q.0 q.3).1;
 }

@@ -1,6 +1,6 @@
-use Rattle.lst_sights.proofs.Watching.{watched_same}
+use Rattle.lst_rule.proofs.Watching.{watched_same}
 use Rattle.std.proofs.Common.{◌≡◌, refl}
-use Rattle.lst_walk.proofs.Finds.{loads_none}
+use Rattle.lst_rule.proofs.Finds.{loads_none}
 use Rattle.lst_walk.proofs.words.cell.Goals as goal
 
 pub returns-then-has_column-clause-watched : goal.returns-then-has_column-clause-watched

@@ -3,7 +3,7 @@ use Rattle.lst_layout.specs.declared.limits.Limits.{Limits}
 use Rattle.lst_layout.specs.declared.place.Place.TheVariants.{HeadWord}
 use Rattle.lst_core_state.specs.Cells.{record_count}
 use Rattle.lst_rule.specs.Rule.{knows}
-use Rattle.lst_sights.specs.Loads.{ChainFound}
+use Rattle.lst_rule.specs.Loads.{ChainFound}
 use Rattle.lst_walk.proofs.Reading.{looked_watched, looked_possible}
 use Rattle.lst_walk.proofs.Meanings.{head_found, head_word}
 use Rattle.lst_walk.proofs.words.head.Goals as goal

@@ -1,10 +1,10 @@
 use Rattle.std.proofs.Common.{subst, sym, ◌<◌, ◌+◌}
 use Rattle.lst_layout.specs.declared.limits.Limits.{Limits}
 use Rattle.lst_layout.specs.declared.place.Place.TheVariants.{CellWord}
-use Rattle.lst_sights.specs.Loads.{WordFound}
+use Rattle.lst_rule.specs.Loads.{WordFound}
 use Rattle.lst_walk.proofs.Reading.{cell_within, looked_watched, word_found}
 use Rattle.std.proofs.Common.{refl}
-use Rattle.lst_walk.proofs.Finds.{loads_cell}
+use Rattle.lst_rule.proofs.Finds.{loads_cell}
 use Rattle.lst_walk.proofs.words.word.Goals as goal
 
 pub load_cell-requires-clause-place : goal.load_cell-requires-clause-place

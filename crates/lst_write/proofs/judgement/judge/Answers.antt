@@ -1,7 +1,7 @@
 use Rattle.std.proofs.Common.{ap, arith}
 use Rattle.lst_layout.specs.declared.limits.Limits.{Limits}
 use Rattle.lst_core_state.specs.Cells.{record_count}
-use Rattle.lst_sights.proofs.Watching.{watches_join, watchers_keep}
+use Rattle.lst_rule.proofs.Watching.{watches_join, watchers_keep}
 use Rattle.lst_write.proofs.Walking.{latched_on, turn_kept, starts_walk, walk_ends, hand, walk_version, walk_seen, walk_newer, walk_unfinished, walk_again, walk_falls, walk_on}
 use Rattle.lst_write.proofs.judgement.judge.Goals as goal
 

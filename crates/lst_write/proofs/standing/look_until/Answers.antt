@@ -1,6 +1,6 @@
 use Rattle.lst_write.proofs.Clocks.{stamp_seen}
 use Rattle.lst_layout.specs.declared.place.Place.TheVariants.{ClockWord}
-use Rattle.lst_sights.proofs.Watching.{looks_watch, watched_same}
+use Rattle.lst_rule.proofs.Watching.{looks_watch, watched_same}
 use Rattle.lst_write.proofs.standing.look_until.Goals as goal
 
 pub returns-then-time-seen-clause-seen : goal.returns-then-time-seen-clause-seen

@@ -1,41 +1,46 @@
-use Rattle.std.proofs.Common.{refl, true≢false, sym, arith}
-use Rattle.lst_sights.proofs.Watching.{watches_join}
-use Rattle.lst_rule.specs.Rule.{knows}
-use Rattle.lst_write.proofs.Found.{version_word, start_watched, start_is_word, start_some, start_stamp, stamp_stands, own_stands, name_place, name_other, name_stands}
+use Rattle.std.proofs.Common.{refl, sym, subst}
+use Rattle.lst_rule.proofs.Watching.{watches_join}
+use Rattle.lst_write.specs.declared.standing.Standing.{Standing}
+use Rattle.lst_write.specs.Standings.{Stands}
+use Rattle.lst_write.proofs.Found.{start_some, start_stamp, start_watched, stamp_stands, own_stands}
+use Rattle.lst_write.proofs.Resolved.{inside, look_watched, look_closed, look_committed, look_unfinished}
 use Rattle.lst_write.proofs.standing.standing_of.Goals as goal
 
-pub load_cell-start-requires-clause-place : goal.load_cell-start-requires-clause-place
-load_cell-start-requires-clause-place c = version_word c.args.seat.now.view.limits (knows c.args.seat.now.view c.args.s) c.args.tail 0 (omega arith) c.requires.version
-
-pub unpack_start-requires : goal.unpack_start-requires
-unpack_start-requires c = start_is_word _ _ _ _ _ c.requires.host c.requires.on c.requires.version c.load_cell-start.ensures.looked c.consider.ensures
+pub resolve-found-requires-clause-place : goal.resolve-found-requires-clause-place
+resolve-found-requires-clause-place c = inside c.args.seat.now.view c.args.seat.now.view c.args.s c.args.tail c.requires.host c.requires.on c.requires.version
 
 pub unreachable-requires : goal.unreachable-requires
-unreachable-requires c = start_some _ _ _ _ _ c.requires.host c.requires.on c.requires.version c.load_cell-start.ensures.looked (sym c.in-Empty.ensures.word)
+unreachable-requires c = start_some _ _ _ _ _ c.requires.host c.requires.on c.requires.version c.in-Empty.ensures.resolved refl
 
 pub stamped_standing-requires-clause-stamp : goal.stamped_standing-requires-clause-stamp
-stamped_standing-requires-clause-stamp c = start_stamp _ _ _ _ _ c.requires.host c.requires.on c.requires.version c.load_cell-start.ensures.looked c.in-At.time c.in-At.ensures.word
+stamped_standing-requires-clause-stamp c = start_stamp _ _ _ _ _ c.requires.host c.requires.on c.requires.version c.in-Stamped.ensures.resolved.2 c.in-Stamped.time refl
 
-pub returns-in-At-clause-watched : goal.returns-in-At-clause-watched
-returns-in-At-clause-watched c = watches_join _ _ _ _ (start_watched _ _ _ _ _ c.requires.host c.requires.on c.requires.version c.load_cell-start.ensures.looked) c.stamped_standing.ensures.watched
+pub returns-in-Stamped-clause-watched : goal.returns-in-Stamped-clause-watched
+returns-in-Stamped-clause-watched c = watches_join _ _ _ _ (start_watched _ _ _ _ _ c.requires.host c.requires.on c.requires.version c.in-Stamped.ensures.resolved.2) c.stamped_standing.ensures.watched
 
-pub returns-in-At-clause-stands : goal.returns-in-At-clause-stands
-returns-in-At-clause-stands c = stamp_stands _ _ _ _ _ c.requires.host c.requires.on c.requires.version c.load_cell-start.ensures.looked c.in-At.time c.in-At.ensures.word _ _ c.stamped_standing.ensures.stands
+pub returns-in-Stamped-clause-stands : goal.returns-in-Stamped-clause-stands
+returns-in-Stamped-clause-stands c = stamp_stands _ _ _ _ _ c.requires.host c.requires.on c.requires.version c.in-Stamped.ensures.resolved.2 c.in-Stamped.time refl _ _ c.stamped_standing.ensures.stands
 
-pub written_standing-requires-clause-place : goal.written_standing-requires-clause-place
-written_standing-requires-clause-place c = name_place _ _ _ _ _ c.requires.host c.requires.on c.requires.version c.load_cell-start.ensures.looked c.in-By.session c.in-By.number c.in-By.ensures.word c.in-By.ensures.range.0
+pub returns-in-Own-clause-watched : goal.returns-in-Own-clause-watched
+returns-in-Own-clause-watched c = start_watched _ _ _ _ _ c.requires.host c.requires.on c.requires.version c.in-Own.ensures.resolved.2.looked
 
-pub returns-then-is_own-clause-watched : goal.returns-then-is_own-clause-watched
-returns-then-is_own-clause-watched c = start_watched _ _ _ _ _ c.requires.host c.requires.on c.requires.version c.load_cell-start.ensures.looked
+pub returns-in-Own-clause-stands : goal.returns-in-Own-clause-stands
+returns-in-Own-clause-stands c = let h = c.in-Own.ensures.resolved in own_stands _ _ _ _ _ c.requires.host c.requires.on c.requires.version h.2.looked h.0 h.1 refl h.3.0 h.3.1
 
-pub returns-then-is_own-clause-stands : goal.returns-then-is_own-clause-stands
-returns-then-is_own-clause-stands c = let q = c.if-is_own.ensures.0 refl in own_stands _ _ _ _ _ c.requires.host c.requires.on c.requires.version c.load_cell-start.ensures.looked c.in-By.session c.in-By.number c.in-By.ensures.word q.0 q.1
+pub returns-in-Closed-clause-watched : goal.returns-in-Closed-clause-watched
+returns-in-Closed-clause-watched c = look_watched _ _ _ _ c.requires.host c.requires.on c.requires.version _ c.resolve-found.ensures.resolved
 
-pub returns-else-is_own-clause-watched : goal.returns-else-is_own-clause-watched
-returns-else-is_own-clause-watched c = watches_join _ _ _ _ (start_watched _ _ _ _ _ c.requires.host c.requires.on c.requires.version c.load_cell-start.ensures.looked) c.written_standing.ensures.watched
+pub returns-in-Closed-clause-stands : goal.returns-in-Closed-clause-stands
+returns-in-Closed-clause-stands c = look_closed _ _ _ _ c.requires.host c.requires.on c.requires.version c.in-Closed.ensures.resolved
 
-pub returns-else-is_own-clause-stands : goal.returns-else-is_own-clause-stands
-returns-else-is_own-clause-stands c = name_stands _ _ _ _ _ c.requires.host c.requires.on c.requires.version c.load_cell-start.ensures.looked c.in-By.session c.in-By.number c.in-By.ensures.word _ _ c.written_standing.ensures.stands
+pub returns-in-Committed-clause-watched : goal.returns-in-Committed-clause-watched
+returns-in-Committed-clause-watched c = look_watched _ _ _ _ c.requires.host c.requires.on c.requires.version _ c.resolve-found.ensures.resolved
 
-pub written_standing-requires-clause-other : goal.written_standing-requires-clause-other
-written_standing-requires-clause-other c = name_other _ _ _ _ _ c.requires.host c.requires.on c.requires.version c.load_cell-start.ensures.looked c.in-By.session c.in-By.number c.in-By.ensures.word c.consider.ensures c.in-By.ensures.range.0 (λ q. true≢false (sym (c.if-is_own.ensures.1 q)))
+pub returns-in-Committed-clause-stands : goal.returns-in-Committed-clause-stands
+returns-in-Committed-clause-stands c = subst (λ (a : Standing). Stands c.args.seat.now.view c.resolve-found.new.seat.view c.args.s c.args.tail a) (sym c.committed_standing.ensures) (look_committed _ _ _ _ c.requires.host c.requires.on c.requires.version c.in-Committed.time c.consider.ensures c.in-Committed.ensures.resolved)
+
+pub returns-in-Unfinished-clause-watched : goal.returns-in-Unfinished-clause-watched
+returns-in-Unfinished-clause-watched c = look_watched _ _ _ _ c.requires.host c.requires.on c.requires.version _ c.resolve-found.ensures.resolved
+
+pub returns-in-Unfinished-clause-stands : goal.returns-in-Unfinished-clause-stands
+returns-in-Unfinished-clause-stands c = look_unfinished _ _ _ _ c.requires.host c.requires.on c.requires.version _ _ c.in-Unfinished.ensures.resolved
