@@ -10,7 +10,7 @@ use arrayvec::ArrayVec;
 use lst_layout::Limits;
 use lst_model::{Key, OutOfMemory, Patch, Row, Time};
 use lst_rule::Store;
-use lst_session::{Crew, Session, open_crew};
+use lst_session::{Crew, Sessions, open_crew};
 use lst_work::{all_can_begin, all_have_seen, par_sum};
 use std::alloc::Global;
 use std::thread::Threads;
@@ -141,31 +141,31 @@ fn end(store: &Store, crew: &mut Crew, s: u32)
 }
 
 /// The sessions of a crew that is parted, each of which has seen the commits up to this time.
-fn parted(alloc: Global, store: &Store, crew: Crew, time: Time) -> Result<Vec<Session>, OutOfMemory>
+fn parted(alloc: Global, store: &Store, crew: Crew, time: Time) -> Result<Sessions, OutOfMemory>
     requires { IsCrewOf store.now crew }
-    ensures ready { IfOk result (λ sessions. All (IsReady store.now) sessions.items) }
-    ensures alike { IfOk result (λ sessions. HaveSeenAlike time sessions.items) }
+    ensures ready { IfOk result (λ sessions. All (IsReady store.now) sessions) }
+    ensures alike { IfOk result (λ sessions. HaveSeenAlike time sessions) }
 {
     if !all_have_seen(store, &crew, time) {
         return Err(OutOfMemory);
     }
     crew.seat.consider();
     match crew.part(alloc, store) {
-        Ok((sessions, _)) => Ok(sessions.into_vec()),
+        Ok((sessions, _)) => Ok(sessions),
         Err((_, OutOfMemory)) => Err(OutOfMemory),
     }
 }
 
 /// The sum of the column by these sessions side by side, or 0 where one of them may not begin a transaction.
-fn total<R: Threads + Sync>(rt: &R, store: &Store, sessions: &mut [Session], time: Time) -> u128
+fn total<R: Threads + Sync>(rt: &R, store: &Store, sessions: &mut Sessions, time: Time) -> u128
     requires ready { All (IsReady store.now) sessions.old }
     requires alike { HaveSeenAlike time sessions.old }
     ensures ready { All (IsReady store.now) sessions.new }
     ensures alike { HaveSeenAlike time sessions.new }
 {
-    if sessions.is_empty()
+    if sessions.as_slice().is_empty()
         || store.layout().limits.columns == 0
-        || !all_can_begin(store, sessions, time)
+        || !all_can_begin(store, sessions.as_slice(), time)
     {
         return 0;
     }
@@ -196,11 +196,10 @@ pub fn sums<R: Threads + Sync>(
         return Ok(0);
     }
     hear(&store, &mut crew, sessions);
-    let mut passes = parted(alloc, &store, crew, 1)?;
-    let summers = passes.as_mut_slice();
+    let mut summers = parted(alloc, &store, crew, 1)?;
     let mut sum = 0;
     for _ in 0..count {
-        sum = total(rt, &store, summers, 1);
+        sum = total(rt, &store, &mut summers, 1);
     }
     Ok((sum % (1 << 64)) as u64)
 }

@@ -9,10 +9,10 @@ use Rattle.lst_core_state.specs.declared.facts.Fact.TheVariants.{IndexAt}
 use Rattle.lst_rule.specs.declared.view.View.{View}
 use Rattle.lst_rule.specs.Rule.{knows, hosts}
 use Rattle.lst_rule.specs.Learned.{Possible}
-use Rattle.lst_sights.specs.Seen.{HasKey}
-use Rattle.lst_sights.proofs.Keying.{one_record, same_record}
-use Rattle.lst_sights.specs.Watching.{Watched}
-use Rattle.lst_sights.proofs.Watching.{watchers_keep}
+use Rattle.lst_rule.specs.Seen.{HasKey}
+use Rattle.lst_rule.proofs.Keying.{one_record, same_record}
+use Rattle.lst_rule.specs.Watching.{Watched}
+use Rattle.lst_rule.proofs.Watching.{watchers_keep}
 use Rattle.lst_scan.specs.Scans.{table_seen, IsRowOn, between}
 use Rattle.lst_scan.specs.Laws.{PartsAddUp, RecordsAddUp, CellsStay, RowsHavePlaces, PlacesAgree}
 use Rattle.lst_scan.proofs.Parts.{total_none, total_split}

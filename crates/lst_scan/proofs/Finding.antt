@@ -17,9 +17,9 @@ use Rattle.lst_rule.specs.Learned.{Possible}
 use Rattle.lst_rule.specs.declared.store.Store.{Store}
 use Rattle.lst_rule.specs.declared.records.RecordId.{RecordId}
 use Rattle.lst_rule.specs.Seats.{Sitting}
-use Rattle.lst_sights.specs.Seen.{HasKey}
-use Rattle.lst_sights.specs.Watching.{Watched}
-use Rattle.lst_sights.proofs.Keying.{one_key}
+use Rattle.lst_rule.specs.Seen.{HasKey}
+use Rattle.lst_rule.specs.Watching.{Watched}
+use Rattle.lst_rule.proofs.Keying.{one_key}
 use Rattle.lst_walk.specs.Readers.{IsReader}
 use Rattle.lst_scan.specs.Scans.{table_seen, IsEntryWith, AreCandidates}
 use Rattle.lst_scan.proofs.Totals.{same_chosen}

@@ -11,12 +11,12 @@ use Rattle.lst_pages.specs.Sound.{tps_at}
 use Rattle.lst_rule.specs.declared.view.View.{View}
 use Rattle.lst_rule.specs.Rule.{knows}
 use Rattle.lst_rule.specs.Learned.{Possible}
-use Rattle.lst_sights.specs.Watching.{Watched}
+use Rattle.lst_rule.specs.Watching.{Watched}
 use Rattle.lst_rule.specs.PageSteps.{PageLooked, FrameLoaded}
 use Rattle.lst_walk.specs.Chains.{SavesChain}
-use Rattle.lst_crew_state.specs.Crews.{IsPinnedWhereOpen}
-use Rattle.lst_crew_state.specs.Folding.{AreAllFolded, NeedsNoTail}
-use Rattle.lst_crew_state.proofs.Folding.{folded_tables_need_no_tail, stamped_needs_no_tail}
+use Rattle.lst_refinement.specs.Crews.{IsPinnedWhereOpen}
+use Rattle.lst_refinement.specs.Folding.{AreAllFolded, NeedsNoTail}
+use Rattle.lst_refinement.proofs.Folding.{folded_tables_need_no_tail, stamped_needs_no_tail}
 use Rattle.lst_session.specs.Calls.{IsNoTailLoad, LoadsNoTail}
 use Rattle.lst_session.specs.Crews.{words_of, state_told}
 use Rattle.lst_session.proofs.Crewed.{IsCrewView, core_of, allowed_whole, is_crew, state_is, kept_words}

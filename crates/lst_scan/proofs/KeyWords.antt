@@ -10,11 +10,11 @@ use Rattle.lst_rule.specs.declared.view.View.{View}
 use Rattle.lst_rule.specs.Rule.{knows, hosts}
 use Rattle.lst_rule.proofs.Knowing.{is_fact}
 use Rattle.lst_rule.specs.Stores.{Looked}
-use Rattle.lst_sights.specs.Seen.{HasKey}
-use Rattle.lst_sights.specs.Watching.{Watches, Watched}
-use Rattle.lst_sights.proofs.Stamps.{kept_stamped, kept_keeps}
-use Rattle.lst_sights.proofs.Telling.{low, is_known}
-use Rattle.lst_sights.proofs.Watching.{watches_same}
+use Rattle.lst_rule.specs.Seen.{HasKey}
+use Rattle.lst_rule.specs.Watching.{Watches, Watched}
+use Rattle.lst_rule.proofs.Stamps.{kept_stamped, kept_keeps}
+use Rattle.lst_rule.proofs.StatusTelling.{low, is_known}
+use Rattle.lst_rule.proofs.Watching.{watches_same}
 
 by_test : (b : Bool) → (b ≡ true → ⊥) → b ≡ false
 by_test true h = absurd (h refl)

@@ -9,9 +9,10 @@ use Rattle.lst_rule.specs.Rule.{knows, hosts}
 use Rattle.lst_rule.specs.Learned.{Possible}
 use Rattle.lst_rule.specs.declared.store.Store.{Store}
 use Rattle.lst_rule.specs.Seats.{Sitting}
-use Rattle.lst_sights.specs.Watching.{Watched}
-use Rattle.lst_sights.specs.Laws.{KeptBy}
-use Rattle.lst_sights.proofs.Watching.{watchers_keep, watched_same, watches_join}
+use Rattle.lst_rule.specs.Watching.{Watched}
+use Rattle.lst_rule.specs.Laws.{KeptBy}
+use Rattle.lst_rule.proofs.Watching.{watchers_keep, watched_same, watches_join}
+use Rattle.lst_session.specs.Lending.{IsLent}
 use Rattle.lst_walk.specs.Readers.{IsReader}
 use Rattle.std.specs.Ordering.{nat_cmp, match_ordering}
 use Rattle.std.specs.declared.cmp.Ordering.{Ordering}
@@ -109,6 +110,10 @@ no_entries place low table = none_long (entries (between place low low table)) (
 
 pub still_free : (v w : View) (s : ℕ) → Watched v w s → (knows v s).placing.hand ≡ 0 → (knows w s).placing.hand ≡ 0
 still_free v w s watched free = ap (λ (k : Known). k.placing.hand) watched.watches.is ∙ free
+
+-- a reader that was lent stays one
+pub lent_still : (store : Store) (a b : Sitting) (s : ℕ) → IsReader store b s → Watched a.view b.view s → IsLent store a s → IsLent store b s
+lent_still store a b s reader watched lent = record { reader = reader; free = still_free a.view b.view s watched lent.free }
 
 pub collects_start : (store : Store) (seat : Sitting) (s : ℕ) (found : List (ℕ × List Cell)) → Possible seat.view → IsReader store seat s → (knows seat.view s).placing.hand ≡ 0 → found ≡ [] → Collects store seat.view seat s 0 found
 collects_start store seat s found p reader free none = record {

@@ -17,9 +17,9 @@ use Rattle.lst_rule.specs.declared.view.View.{View}
 use Rattle.lst_rule.specs.Rule.{knows, hosts}
 use Rattle.lst_rule.specs.Learned.{Learns, Possible}
 use Rattle.lst_rule.proofs.Knowing.{knows_own}
-use Rattle.lst_sights.specs.Watching.{IsNotFull, Watched}
-use Rattle.lst_sights.proofs.Stamps.{kept_stamped, kept_keeps}
-use Rattle.lst_second.specs.Posting.{IsTailLoad}
+use Rattle.lst_rule.specs.Watching.{IsNotFull, Watched}
+use Rattle.lst_rule.proofs.Stamps.{kept_stamped, kept_keeps}
+use Rattle.lst_rule.specs.Posting.{IsTailLoad}
 use Rattle.lst_second.specs.Candidates.{AreHolders, Probes}
 use Rattle.lst_scan.specs.Scans.{AreCandidates}
 use Rattle.lst_scan.proofs.Putting.{numbers_were_put}

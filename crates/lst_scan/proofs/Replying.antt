@@ -11,11 +11,11 @@ use Rattle.lst_machine.specs.Writes.{sight_of}
 use Rattle.lst_machine.specs.Calls.{in_open, refused_or, where_true, is_indexed, call_reply, store_after}
 use Rattle.lst_model.specs.declared.lines.Call.{Call}
 use Rattle.lst_model.specs.declared.lines.Call.TheVariants as call
-use Rattle.lst_crew_state.specs.Effects.{begins_or_ends}
+use Rattle.lst_refinement.specs.Effects.{begins_or_ends}
 use Rattle.lst_rule.specs.declared.view.View.{View}
 use Rattle.lst_rule.specs.Rule.{knows}
 use Rattle.lst_rule.specs.Learned.{Possible}
-use Rattle.lst_sights.specs.Watching.{Watched}
+use Rattle.lst_rule.specs.Watching.{Watched}
 use Rattle.lst_session.specs.Crews.{store_told, Answers}
 use Rattle.lst_session.proofs.Paged.{still_answers}
 use Rattle.lst_scan.proofs.Leaving.{readers_only_look}

@@ -13,11 +13,11 @@ use Rattle.lst_core_state.specs.Sound.{IsRecorded}
 use Rattle.lst_rule.specs.declared.view.View.{View}
 use Rattle.lst_rule.specs.Rule.{knows, hosts}
 use Rattle.lst_rule.specs.Learned.{Possible}
-use Rattle.lst_sights.specs.Seen.{SeesAlike, HasKey}
-use Rattle.lst_sights.specs.Watching.{Watched}
-use Rattle.lst_sights.specs.Laws.{KeptBy}
-use Rattle.lst_sights.proofs.Watching.{watchers_keep}
-use Rattle.lst_sights.proofs.Keying.{one_key, one_record, record_low, recorded}
+use Rattle.lst_rule.specs.Seen.{SeesAlike, HasKey}
+use Rattle.lst_rule.specs.Watching.{Watched}
+use Rattle.lst_rule.specs.Laws.{KeptBy}
+use Rattle.lst_rule.proofs.Watching.{watchers_keep}
+use Rattle.lst_rule.proofs.Keying.{one_key, one_record, record_low, recorded}
 use Rattle.lst_core_state.specs.Cells.{record_count}
 use Rattle.lst_walk.specs.Patches.{cell_in}
 use Rattle.lst_walk.specs.Walks.{IsRowOf, IsCellOf}

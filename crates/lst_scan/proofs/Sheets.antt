@@ -39,9 +39,9 @@ use Rattle.lst_rule.specs.Stores.{IsSeatOf, Looked}
 use Rattle.lst_rule.specs.PageSteps.{FrameLoaded}
 use Rattle.lst_rule.specs.Runs.{LoadsRun, FrameRun, HeadRun}
 use Rattle.lst_rule.proofs.Paging.{hand_is_readable}
-use Rattle.lst_sights.specs.Loads.{ChainFound}
-use Rattle.lst_sights.specs.Watching.{Watched, IsWatched}
-use Rattle.lst_sights.proofs.Watching.{watched_same, watches_join, watchers_keep}
+use Rattle.lst_rule.specs.Loads.{ChainFound}
+use Rattle.lst_rule.specs.Watching.{Watched, IsWatched}
+use Rattle.lst_rule.proofs.Watching.{watched_same, watches_join, watchers_keep}
 use Rattle.lst_walk.specs.Readers.{IsReader}
 use Rattle.lst_walk.specs.Packed.{Skims, skims_on, packed_of, packed_words}
 use Rattle.lst_walk.specs.Pages.{IsPageOf}

@@ -15,8 +15,8 @@ use Rattle.lst_rule.specs.Rule.{knows}
 use Rattle.lst_rule.specs.Stores.{Looked}
 use Rattle.lst_rule.specs.PageSteps.{PageLooked, FrameLoaded}
 use Rattle.lst_rule.specs.Runs.{place_in, LoadsRun}
-use Rattle.lst_sights.specs.Watching.{Watched}
-use Rattle.lst_crew_state.specs.Folding.{NeedsNoTail}
+use Rattle.lst_rule.specs.Watching.{Watched}
+use Rattle.lst_refinement.specs.Folding.{NeedsNoTail}
 use Rattle.lst_session.specs.Crews.{words_of}
 use Rattle.lst_session.proofs.Crewed.{kept_words}
 use Rattle.lst_scan.specs.Savings.{SavesPart, TellsFrame, TellsNone, TellsStamps}

@@ -10,8 +10,8 @@ use Rattle.lst_core_state.specs.State.{sight}
 use Rattle.lst_rule.specs.declared.view.View.{View}
 use Rattle.lst_rule.specs.Rule.{knows, hosts}
 use Rattle.lst_rule.specs.Learned.{Possible}
-use Rattle.lst_sights.specs.Copies.{Includes}
-use Rattle.lst_sights.specs.Watching.{Watched}
+use Rattle.lst_rule.specs.Copies.{Includes}
+use Rattle.lst_rule.specs.Watching.{Watched}
 use Rattle.lst_second.specs.Candidates.{puts_number}
 use Rattle.lst_scan.specs.Scans.{table_seen, IsCellOn, Places, between}
 

@@ -54,7 +54,7 @@ FindLeaves v w s column number answer = ⊥
 -- by the call: a scan, or one by key, a begin or an end
 abbrev pub EachCallLeaves : View → View → ℕ → Call → Reply → Type 0
 EachCallLeaves v w s (call.Sum column) answer = SumLeaves v w s column answer × SavesSum v w s column
-EachCallLeaves v w s call.Count answer = CountLeaves v w s answer
+EachCallLeaves v w s call.Count answer = CountLeaves v w s answer × SavesSum v w s 0
 EachCallLeaves v w s call.Scan answer = ScanLeaves v w s answer
 EachCallLeaves v w s (call.Find column number) answer = FindLeaves v w s column number answer
 EachCallLeaves v w s call answer = CallLeaves v w s call answer

@@ -9,7 +9,7 @@ use Rattle.lst_rule.specs.Rule.{knows}
 use Rattle.lst_rule.specs.Learned.{Possible}
 use Rattle.lst_rule.specs.declared.store.Store.{Store}
 use Rattle.lst_rule.specs.Seats.{Sitting}
-use Rattle.lst_sights.specs.Watching.{Watched}
+use Rattle.lst_rule.specs.Watching.{Watched}
 use Rattle.lst_session.specs.declared.crew.Crew.{Crew}
 use Rattle.lst_session.specs.Crews.{IsCrewOf, TellsState, Answers}
 use Rattle.lst_scan.specs.Scans.{table_seen}

@@ -5,7 +5,7 @@ use Rattle.lst_pages.specs.Frames.{stamp_in}
 use Rattle.lst_pages.specs.Sound.{tps_at}
 use Rattle.lst_rule.specs.declared.view.View.{View}
 use Rattle.lst_rule.specs.Rule.{knows}
-use Rattle.lst_crew_state.specs.Folding.{AreAllFolded, NeedsNoTail}
+use Rattle.lst_refinement.specs.Folding.{AreAllFolded, NeedsNoTail}
 use Rattle.lst_session.specs.Calls.{LoadsNoTail}
 use Rattle.lst_session.specs.Crews.{TellsState, words_of, state_told}
 
@@ -28,6 +28,6 @@ abbrev pub TellsNone : View → (s range column : ℕ) → Type 0
 TellsNone v s range column = v.whole ≡ true → 0 < (knows v s).pages.session.pin → tps_at (words_of v).directory (words_of v).frames range column ≡ 0
 
 -- a sum of a column by a session of a crew that tells a state of the machine: where a transaction is open, and the pages of the column have folded
--- each accepted write, ended by its begin, no word of a tail record was loaded
+-- each accepted write, ended by its begin, no word of a tail record was loaded. A count does the same as a sum of the first column
 abbrev pub SavesSum : View → View → (s column : ℕ) → Type 0
 SavesSum v w s column = TellsState v → (knows v s).is_open ≡ true → AreAllFolded v.limits (state_told v) column (knows v s).begin → LoadsNoTail v w s

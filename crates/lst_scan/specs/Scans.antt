@@ -7,7 +7,7 @@ use Rattle.lst_model.specs.Tables.{Rows, row_of}
 use Rattle.lst_model.specs.Histories.{snapshot}
 use Rattle.lst_core_state.specs.declared.known.Known.{Known}
 use Rattle.lst_rule.specs.declared.records.RecordId.{RecordId}
-use Rattle.lst_sights.specs.Seen.{HasKey}
+use Rattle.lst_rule.specs.Seen.{HasKey}
 use Rattle.lst_walk.specs.Patches.{cell_in}
 
 -- the table that the open transaction sees: the snapshot at its begin, of what the session has seen, with its own writes on it

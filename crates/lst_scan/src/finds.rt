@@ -5,7 +5,7 @@ ghost use Rattle.lst_model.specs.Tables.{find_of};
 ghost use Rattle.lst_machine.specs.Calls.{is_indexed};
 ghost use Rattle.lst_core_state.specs.Cells.{record_count};
 ghost use Rattle.lst_rule.specs.Rule.{knows};
-ghost use Rattle.lst_sights.specs.Watching.{Watched};
+ghost use Rattle.lst_rule.specs.Watching.{Watched};
 ghost use Rattle.lst_walk.specs.Readers.{IsReader};
 ghost use Rattle.lst_scan.specs.Scans.{table_seen, AreCandidates};
 ghost use Rattle.lst_scan.specs.Finds.{IsRefused};

@@ -18,7 +18,7 @@ use std::alloc::Global;
 /// The answer to a line: a scan is made by the session's open transaction, and all other lines by the crew. It promises of the session that
 /// calls, and of the merger, what the call itself promises; and where the crew tells a state of the machine, the answer is the machine's, and the
 /// crew then tells the next one. A sum of a column whose pages have folded every accepted write, each ended by its transaction's begin, loads no word
-/// of a tail record. Memory may be wanted for a list of rows and for a find in an indexed column, with a transaction open: then the
+/// of a tail record; nor does a count, where those of the first column have. Memory may be wanted for a list of rows and for a find in an indexed column, with a transaction open: then the
 /// session has only looked, and the crew tells the same state.
 pub fn crew_line(
     alloc: Global,
@@ -74,13 +74,14 @@ fn sum_call(store: &Store, crew: &mut Crew, s: u32, column: u32) -> Reply
     Reply::Sum { total }
 }
 
-/// The answer to a count.
+/// The answer to a count. It saves what a sum of the first column saves.
 fn count_call(store: &Store, crew: &mut Crew, s: u32) -> Reply
     requires crew { IsCrewOf store.now crew.old }
     requires session { s < crew.old.seat.view.limits.sessions }
     ensures crew { IsCrewOf store.now crew.new }
     ensures machine { TellsState crew.old.seat.view → TellsState crew.new.seat.view × Answers crew.old.seat.view crew.new.seat.view s call.Count result }
     ensures session { CountLeaves crew.old.seat.view crew.new.seat.view s result }
+    ensures saves { SavesSum crew.old.seat.view crew.new.seat.view s 0 }
 {
     crew.seat.consider();
     if !crew.seat.is_open(s) {

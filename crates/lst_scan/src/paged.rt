@@ -8,7 +8,7 @@ ghost use Rattle.lst_layout.specs.Areas.{frame_count};
 ghost use Rattle.lst_pack.specs.declared.forms.Form.{Form};
 ghost use Rattle.lst_pack.specs.Forms.{Packs, IsPacked, form_word, form_words};
 ghost use Rattle.lst_rule.specs.Rule.{knows};
-ghost use Rattle.lst_sights.specs.Watching.{Watched};
+ghost use Rattle.lst_rule.specs.Watching.{Watched};
 ghost use Rattle.lst_walk.specs.Readers.{IsReader};
 ghost use Rattle.lst_walk.specs.Packed.{Skims, packed_words};
 ghost use Rattle.lst_scan.specs.Savings.{SavesPart, TellsFrame, TellsNone, TellsStamps};
@@ -292,8 +292,10 @@ pub(crate) fn count_by_page(
     requires reader { IsReader store.now seat.old s }
     requires range { range < store.now.layout.limits.ranges }
     requires frame { IsInHand seat.old.view s range 0 frame }
+    requires told { TellsFrame seat.old.view s range 0 frame }
     ensures reader { IsReader store.now seat.new s }
     ensures watched { Watched seat.old.view seat.new.view s }
+    ensures saves { SavesPart seat.old.view seat.new.view s 0 (256 * range) (256 * (range + 1)) }
     ensures count { (place : ℕ → ℕ) → Places (knows seat.old.view s) place → result ≡ count_of (between place (256 * range) (256 * (range + 1)) (table_seen (knows seat.old.view s))) }
     ensures few { result ≤ 512 }
 {
@@ -333,8 +335,10 @@ fn count_untold(
     requires reader { IsReader store.now seat.old s }
     requires range { range < store.now.layout.limits.ranges }
     requires page { HasPage seat.old.view s range 0 tps times.old }
+    requires told { TellsStamps seat.old.view s range 0 tps times.old }
     ensures reader { IsReader store.now seat.new s }
     ensures watched { Watched seat.old.view seat.new.view s }
+    ensures saves { SavesPart seat.old.view seat.new.view s 0 (256 * range) (256 * range + 256) }
     ensures count { (place : ℕ → ℕ) → Places (knows seat.old.view s) place → result.total + entries_add (knows seat.old.view s).begin (λ slot. 1) times.new 256 ≡ count_of (between place (256 * range) (256 * range + 256) (table_seen (knows seat.old.view s))) }
     ensures others { result.sees_others ≡ true → (i : ℕ) → i < 256 → is_seen (knows seat.old.view s).begin (slice_index times.new i) ≡ true }
     ensures few { result.total ≤ 256 }

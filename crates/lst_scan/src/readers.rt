@@ -1,12 +1,14 @@
 //! The scans as they are called: by a reader, at the seat that it was lent. Whatever other sessions do meanwhile, an answer is that of the
-//! table which the open transaction sees. A scan leaves of what the session knows what a read leaves.
+//! table which the open transaction sees. A scan leaves of what the session knows what a read leaves. A reader as a session or a crew lends it is one
+//! for each of them, and stays so.
 ghost use Rattle.std.specs.Prelude.{◌≡◌, ℕ, ◌-◌, ◌*◌, ◌^◌, ◌<◌, ◌≤◌, true, IfOk, IfErr};
 ghost use Rattle.std.specs.List.{All};
 ghost use Rattle.lst_model.specs.Tables.{sum_of, count_of, scan_of, find_of};
 ghost use Rattle.lst_machine.specs.Calls.{is_indexed};
 ghost use Rattle.lst_core_state.specs.Cells.{record_count};
 ghost use Rattle.lst_rule.specs.Rule.{knows};
-ghost use Rattle.lst_sights.specs.Watching.{Watched};
+ghost use Rattle.lst_rule.specs.Watching.{Watched};
+ghost use Rattle.lst_session.specs.Lending.{IsLent};
 ghost use Rattle.lst_walk.specs.Readers.{IsReader};
 ghost use Rattle.lst_scan.specs.Savings.{SavesPart};
 ghost use Rattle.lst_scan.specs.Scans.{table_seen, Places, between, AreCandidates};
@@ -25,6 +27,7 @@ pub fn sum(store: &Store, reader: &mut Reader<'_>, column: u32) -> u128
     requires reader { IsReader store.now reader.old.seat.now reader.old.s }
     requires column { column < store.now.layout.limits.columns }
     ensures reader { IsReader store.now reader.new.seat.now reader.new.s }
+    ensures still { IsLent store.now reader.old.seat.now reader.old.s → IsLent store.now reader.new.seat.now reader.new.s }
     ensures session { reader.new.s ≡ reader.old.s }
     ensures lent { reader.new.seat.ghost_name ≡ reader.old.seat.ghost_name }
     ensures watched { Watched reader.old.seat.now.view reader.new.seat.now.view reader.old.s }
@@ -41,6 +44,7 @@ pub fn sum_part(store: &Store, reader: &mut Reader<'_>, column: u32, from: u32, 
     requires rises { from ≤ to }
     requires ranges { to ≤ store.now.layout.limits.ranges }
     ensures reader { IsReader store.now reader.new.seat.now reader.new.s }
+    ensures still { IsLent store.now reader.old.seat.now reader.old.s → IsLent store.now reader.new.seat.now reader.new.s }
     ensures session { reader.new.s ≡ reader.old.s }
     ensures lent { reader.new.seat.ghost_name ≡ reader.old.seat.ghost_name }
     ensures watched { Watched reader.old.seat.now.view reader.new.seat.now.view reader.old.s }
@@ -51,24 +55,24 @@ pub fn sum_part(store: &Store, reader: &mut Reader<'_>, column: u32, from: u32, 
     sums::sum_part(store, reader.seat, reader.s, column, from, to)
 }
 
-/// The number of rows.
+/// The number of rows. Of the page of the first column it saves what `sum` does of its column's.
 pub fn count(store: &Store, reader: &mut Reader<'_>) -> u64
     requires reader { IsReader store.now reader.old.seat.now reader.old.s }
     ensures reader { IsReader store.now reader.new.seat.now reader.new.s }
+    ensures still { IsLent store.now reader.old.seat.now reader.old.s → IsLent store.now reader.new.seat.now reader.new.s }
     ensures session { reader.new.s ≡ reader.old.s }
     ensures lent { reader.new.seat.ghost_name ≡ reader.old.seat.ghost_name }
     ensures watched { Watched reader.old.seat.now.view reader.new.seat.now.view reader.old.s }
     ensures count { result ≡ count_of (table_seen (knows reader.old.seat.now.view reader.old.s)) }
+    ensures saves { SavesPart reader.old.seat.now.view reader.new.seat.now.view reader.old.s 0 0 (record_count store.now.layout.limits) }
 {
     sums::count(store, reader.seat, reader.s)
 }
 
-/// All rows with their keys, by rising key. The session has no record in hand; between its calls it never has. For want of memory only looks
-/// were made.
+/// All rows with their keys, by rising key. For want of memory only looks were made.
 pub fn rows(alloc: Global, store: &Store, reader: &mut Reader<'_>) -> Result<RowList, OutOfMemory>
-    requires reader { IsReader store.now reader.old.seat.now reader.old.s }
-    requires free { (knows reader.old.seat.now.view reader.old.s).placing.hand ≡ 0 }
-    ensures reader { IsReader store.now reader.new.seat.now reader.new.s }
+    requires reader { IsLent store.now reader.old.seat.now reader.old.s }
+    ensures reader { IsLent store.now reader.new.seat.now reader.new.s }
     ensures session { reader.new.s ≡ reader.old.s }
     ensures lent { reader.new.seat.ghost_name ≡ reader.old.seat.ghost_name }
     ensures watched { Watched reader.old.seat.now.view reader.new.seat.now.view reader.old.s }
@@ -77,8 +81,8 @@ pub fn rows(alloc: Global, store: &Store, reader: &mut Reader<'_>) -> Result<Row
     lists::rows(alloc, store, reader.seat, reader.s)
 }
 
-/// The keys, rising, of the rows with this number in the column, where the records of all these are among the candidates. The session has no
-/// record in hand. For want of memory only looks were made.
+/// The keys, rising, of the rows with this number in the column, where the records of all these are among the candidates. For want of memory only
+/// looks were made.
 pub fn find_among(
     alloc: Global,
     store: &Store,
@@ -87,11 +91,10 @@ pub fn find_among(
     number: u64,
     records: &[RecordId],
 ) -> Result<KeyList, OutOfMemory>
-    requires reader { IsReader store.now reader.old.seat.now reader.old.s }
-    requires free { (knows reader.old.seat.now.view reader.old.s).placing.hand ≡ 0 }
+    requires reader { IsLent store.now reader.old.seat.now reader.old.s }
     requires low { All (λ rec. rec.number < record_count store.now.layout.limits) records.now }
     requires candidates { AreCandidates (knows reader.old.seat.now.view reader.old.s) column number records.now }
-    ensures reader { IsReader store.now reader.new.seat.now reader.new.s }
+    ensures reader { IsLent store.now reader.new.seat.now reader.new.s }
     ensures session { reader.new.s ≡ reader.old.s }
     ensures lent { reader.new.seat.ghost_name ≡ reader.old.seat.ghost_name }
     ensures watched { Watched reader.old.seat.now.view reader.new.seat.now.view reader.old.s }
@@ -101,8 +104,7 @@ pub fn find_among(
 }
 
 /// The keys, rising, of the rows with this number in the column. NotIndexed comes exactly where the layout names no index on the column, and
-/// then nothing is looked at; for want of memory only looks were made. Where the session has no tail in hand, and between its calls it never
-/// has, the find looks at those records alone that the index names, at each once. It has no record in hand.
+/// then nothing is looked at; for want of memory only looks were made.
 pub fn find(
     alloc: Global,
     store: &Store,
@@ -110,10 +112,9 @@ pub fn find(
     column: u32,
     value: u64,
 ) -> Result<KeyList, FindRefusal>
-    requires reader { IsReader store.now reader.old.seat.now reader.old.s }
-    requires free { (knows reader.old.seat.now.view reader.old.s).placing.hand ≡ 0 }
+    requires reader { IsLent store.now reader.old.seat.now reader.old.s }
     requires column { column < store.now.layout.limits.columns }
-    ensures reader { IsReader store.now reader.new.seat.now reader.new.s }
+    ensures reader { IsLent store.now reader.new.seat.now reader.new.s }
     ensures session { reader.new.s ≡ reader.old.s }
     ensures lent { reader.new.seat.ghost_name ≡ reader.old.seat.ghost_name }
     ensures watched { Watched reader.old.seat.now.view reader.new.seat.now.view reader.old.s }

@@ -3,8 +3,8 @@ ghost use Rattle.std.specs.Prelude.{◌≡◌, ℕ, ◌+◌, ◌/◌, ◌<◌, [
 ghost use Rattle.lst_model.specs.Cells.{holds_at};
 ghost use Rattle.lst_core_state.specs.Cells.{record_count};
 ghost use Rattle.lst_rule.specs.Rule.{knows};
-ghost use Rattle.lst_sights.specs.Seen.{HasKey};
-ghost use Rattle.lst_sights.specs.Watching.{Watched};
+ghost use Rattle.lst_rule.specs.Seen.{HasKey};
+ghost use Rattle.lst_rule.specs.Watching.{Watched};
 ghost use Rattle.lst_walk.specs.Readers.{IsReader};
 ghost use Rattle.lst_walk.specs.Whole.{row_where};
 ghost use Rattle.lst_scan.specs.Savings.{SavesPart, TellsNone};

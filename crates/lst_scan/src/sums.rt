@@ -2,7 +2,7 @@
 ghost use Rattle.std.specs.Prelude.{◌≡◌, ℕ, ◌+◌, ◌-◌, ◌*◌, ◌^◌, ◌<◌, ◌≤◌};
 ghost use Rattle.lst_model.specs.Tables.{sum_of, count_of};
 ghost use Rattle.lst_rule.specs.Rule.{knows};
-ghost use Rattle.lst_sights.specs.Watching.{Watched};
+ghost use Rattle.lst_rule.specs.Watching.{Watched};
 ghost use Rattle.lst_walk.specs.Readers.{IsReader};
 ghost use Rattle.lst_core_state.specs.Cells.{record_count};
 ghost use Rattle.lst_scan.specs.Savings.{SavesPart, TellsNone};
@@ -92,6 +92,7 @@ pub(crate) fn count(store: &Store, seat: &mut Seat, s: u32) -> u64
     requires reader { IsReader store.now seat.old s }
     ensures reader { IsReader store.now seat.new s }
     ensures watched { Watched seat.old.view seat.new.view s }
+    ensures saves { SavesPart seat.old.view seat.new.view s 0 0 (record_count store.now.layout.limits) }
     ensures count { result ≡ count_of (table_seen (knows seat.old.view s)) }
 {
     seat.consider();
@@ -117,6 +118,7 @@ fn count_range(
     requires range { range < store.now.layout.limits.ranges }
     ensures reader { IsReader store.now seat.new s }
     ensures watched { Watched seat.old.view seat.new.view s }
+    ensures saves { SavesPart seat.old.view seat.new.view s 0 (256 * range) (256 * (range + 1)) }
     ensures count { (place : ℕ → ℕ) → Places (knows seat.old.view s) place → result ≡ count_of (between place (256 * range) (256 * (range + 1)) (table_seen (knows seat.old.view s))) }
     ensures few { result ≤ 512 }
 {
@@ -127,12 +129,14 @@ fn count_range(
     }
 }
 
-/// The same, record by record.
+/// The same, record by record, where the page tells of none.
 fn count_by_records(store: &Store, seat: &mut Seat, s: u32, range: u32) -> u64
     requires reader { IsReader store.now seat.old s }
     requires range { range < store.now.layout.limits.ranges }
+    requires none { TellsNone seat.old.view s range 0 }
     ensures reader { IsReader store.now seat.new s }
     ensures watched { Watched seat.old.view seat.new.view s }
+    ensures saves { SavesPart seat.old.view seat.new.view s 0 (256 * range) (256 * (range + 1)) }
     ensures count { (place : ℕ → ℕ) → Places (knows seat.old.view s) place → result ≡ count_of (between place (256 * range) (256 * (range + 1)) (table_seen (knows seat.old.view s))) }
     ensures few { result ≤ 256 }
 {

@@ -20,13 +20,13 @@ use Rattle.lst_rule.specs.Rule.{knows, hosts, Allowed}
 use Rattle.lst_rule.specs.Learned.{Possible, Learns}
 use Rattle.lst_rule.proofs.Knowing.{whole_words}
 use Rattle.lst_rule.proofs.Learning.{learns_on}
-use Rattle.lst_second.specs.Posting.{ChangesPostings}
+use Rattle.lst_rule.specs.Posting.{ChangesPostings}
 use Rattle.lst_write.specs.Appending.{ChangesTail, with_count}
 use Rattle.lst_session.specs.Traces.{Prepared, Installs}
-use Rattle.lst_crew_state.specs.Crews.{IsIdle}
-use Rattle.lst_crew_state.specs.Effects.{SameTransactions, IsWritten}
-use Rattle.lst_crew_state.proofs.Openings.{transactions_are_told}
-use Rattle.lst_crew_state.proofs.Written.{writes_are_told}
+use Rattle.lst_refinement.specs.Crews.{IsIdle}
+use Rattle.lst_refinement.specs.Effects.{SameTransactions, IsWritten}
+use Rattle.lst_refinement.proofs.Openings.{transactions_are_told}
+use Rattle.lst_refinement.proofs.Written.{writes_are_told}
 use Rattle.lst_session.specs.Crews.{words_of, store_told}
 use Rattle.lst_session.proofs.Crewed.{IsCrewView, core_of, known_is, is_crew, told_is, told_on, transactions_on}
 use Rattle.lst_session.proofs.CrewJudging.{with_head, IsHeld}

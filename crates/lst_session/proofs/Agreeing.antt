@@ -13,14 +13,14 @@ use Rattle.lst_core_state.specs.State.{sight}
 use Rattle.lst_rule.specs.declared.view.View.{View}
 use Rattle.lst_rule.specs.Rule.{knows, hosts}
 use Rattle.lst_rule.specs.Learned.{Possible}
-use Rattle.lst_sights.specs.Copies.{Version, IsCopy, Includes}
-use Rattle.lst_sights.specs.Seen.{sees, SeesAlike, HasKey}
-use Rattle.lst_sights.specs.Judging.{IsJudged}
-use Rattle.lst_sights.specs.Watching.{Watched}
-use Rattle.lst_sights.specs.Laws.{KeptBy}
-use Rattle.lst_sights.proofs.Copying.{copies_stay}
-use Rattle.lst_sights.proofs.Seeing.{same_sees}
-use Rattle.lst_sights.proofs.Watching.{watches_join, watchers_keep}
+use Rattle.lst_rule.specs.Copies.{Version, IsCopy, Includes}
+use Rattle.lst_rule.specs.Seen.{sees, SeesAlike, HasKey}
+use Rattle.lst_rule.specs.Judging.{IsJudged}
+use Rattle.lst_rule.specs.Watching.{Watched}
+use Rattle.lst_rule.specs.Laws.{KeptBy}
+use Rattle.lst_rule.proofs.Copying.{copies_stay}
+use Rattle.lst_rule.proofs.Seeing.{same_sees}
+use Rattle.lst_rule.proofs.Watching.{watches_join, watchers_keep}
 use Rattle.lst_write.specs.Judgements.{HasJudged}
 use Rattle.lst_write.specs.Appending.{FitsSight}
 use Rattle.lst_write.proofs.Latching.{record_low}

@@ -20,9 +20,9 @@ use Rattle.lst_rule.specs.Stores.{clocked, Clocked}
 use Rattle.lst_txn.specs.declared.begins.BeginFault.{BeginFault}
 use Rattle.lst_txn.specs.declared.begins.BeginFault.TheVariants as begins
 use Rattle.lst_txn.specs.Transactions.{Sees, Opens}
-use Rattle.lst_crew_state.specs.Crews.{IsIdle}
-use Rattle.lst_crew_state.specs.Effects.{HasBegun, begun_words}
-use Rattle.lst_crew_state.proofs.Began.{begins_are_told}
+use Rattle.lst_refinement.specs.Crews.{IsIdle}
+use Rattle.lst_refinement.specs.Effects.{HasBegun, begun_words}
+use Rattle.lst_refinement.proofs.Began.{begins_are_told}
 use Rattle.lst_session.specs.Crews.{words_of, store_told}
 use Rattle.lst_session.specs.Replies.{begin_reply}
 use Rattle.lst_session.proofs.Crewed.{IsCrewView, StoreAnswers, allowed_whole, core_of, known_is, is_crew, told_is, others_on, begins_is, opened_by, opened_some, opened_none, kept_words, set_words, stamped_is, same_draws, crew_after, told_on, told_stays, away_still}

@@ -30,10 +30,10 @@ use Rattle.lst_retire.specs.Pins.{Unpins}
 use Rattle.lst_session.specs.Traces.{TakesAndCommits, Ends}
 use Rattle.lst_session.specs.declared.kinds.Outcome.{Outcome}
 use Rattle.lst_session.specs.declared.kinds.Outcome.TheVariants.{Committed, Ended}
-use Rattle.lst_crew_state.specs.Effects.{HasEnded, committed_words}
-use Rattle.lst_crew_state.proofs.Counts.{counts_are_told}
-use Rattle.lst_crew_state.proofs.Owns.{own_writes_are_told}
-use Rattle.lst_crew_state.proofs.Ended.{commits_are_told}
+use Rattle.lst_refinement.specs.Effects.{HasEnded, committed_words}
+use Rattle.lst_refinement.proofs.Counts.{counts_are_told}
+use Rattle.lst_refinement.proofs.Owns.{own_writes_are_told}
+use Rattle.lst_refinement.proofs.Ended.{commits_are_told}
 use Rattle.lst_session.specs.Crews.{words_of, store_told}
 use Rattle.lst_session.specs.Replies.{commit_reply}
 use Rattle.lst_session.proofs.Crewed.{IsCrewView, StoreAnswers, allowed_whole, core_of, known_is, is_crew, told_is, others_on, opened_some, same_draws, crew_after, told_on}

@@ -25,17 +25,17 @@ use Rattle.lst_rule.specs.declared.view.View.{View}
 use Rattle.lst_rule.specs.Rule.{knows, hosts, Allowed}
 use Rattle.lst_rule.specs.Learned.{Possible}
 use Rattle.lst_rule.proofs.Knowing.{is_fact, knows_own, whole_words}
-use Rattle.lst_sights.specs.Copies.{Version, fact_of, tails_of, AreKnown, IsChainFrom, IsCopy}
-use Rattle.lst_sights.specs.Seen.{is_early, sees, SeesAlike}
-use Rattle.lst_sights.specs.Judging.{AreClosed, IsJudged}
-use Rattle.lst_sights.specs.Watching.{IsStamped}
-use Rattle.lst_sights.proofs.Telling.{state_tells, stamped_at}
-use Rattle.lst_sights.proofs.Writing.{line_is}
+use Rattle.lst_rule.specs.Copies.{Version, fact_of, tails_of, AreKnown, IsChainFrom, IsCopy}
+use Rattle.lst_rule.specs.Seen.{is_early, sees, SeesAlike}
+use Rattle.lst_rule.specs.Judging.{AreClosed, IsJudged}
+use Rattle.lst_rule.specs.Watching.{IsStamped}
+use Rattle.lst_rule.proofs.StatusTelling.{state_tells, stamped_at}
+use Rattle.lst_rule.proofs.Writing.{line_is}
 use Rattle.lst_write.specs.Judgements.{HasJudged, FoundNewer, FoundUnfinished}
-use Rattle.lst_crew_state.specs.Telling.{told}
-use Rattle.lst_crew_state.specs.Laws.{AllClosed, Conflicts}
-use Rattle.lst_crew_state.proofs.Rivals.{conflicts_are_told}
-use Rattle.lst_crew_state.proofs.Owns.{sights_are_told}
+use Rattle.lst_refinement.specs.Telling.{told}
+use Rattle.lst_refinement.specs.Laws.{AllClosed, Conflicts}
+use Rattle.lst_refinement.proofs.Rivals.{conflicts_are_told}
+use Rattle.lst_refinement.proofs.Owns.{sights_are_told}
 use Rattle.lst_session.specs.Crews.{words_of}
 use Rattle.lst_session.proofs.Crewed.{IsCrewView, core_of, allowed_whole, known_is, is_crew}
 

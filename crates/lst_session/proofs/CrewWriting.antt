@@ -18,11 +18,11 @@ use Rattle.lst_rule.specs.declared.view.View.{View}
 use Rattle.lst_rule.specs.Rule.{knows, hosts, Allowed}
 use Rattle.lst_rule.specs.Learned.{Made}
 use Rattle.lst_rule.proofs.Knowing.{is_fact, knows_own}
-use Rattle.lst_sights.specs.Watching.{IsStamped}
-use Rattle.lst_sights.proofs.Stamps.{made_words}
-use Rattle.lst_second.specs.Posting.{ChangesPostings}
+use Rattle.lst_rule.specs.Watching.{IsStamped}
+use Rattle.lst_rule.proofs.Stamps.{made_words}
+use Rattle.lst_rule.specs.Posting.{ChangesPostings}
 use Rattle.lst_write.specs.Appending.{tail_of, HasWhole, ChangesTail, with_count}
-use Rattle.lst_crew_state.specs.Effects.{TellAlike, IsWritten}
+use Rattle.lst_refinement.specs.Effects.{TellAlike, IsWritten}
 use Rattle.lst_session.specs.Crews.{words_of}
 use Rattle.lst_session.proofs.CrewJudging.{with_head, with_latch}
 

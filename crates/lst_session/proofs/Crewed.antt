@@ -27,14 +27,14 @@ use Rattle.lst_rule.specs.Rule.{knows, hosts, Allowed}
 use Rattle.lst_rule.specs.Learned.{Possible, Learns, Kept}
 use Rattle.lst_rule.specs.PageSteps.{stock_of}
 use Rattle.lst_rule.proofs.Knowing.{whole_words, knows_own, knows_merger}
-use Rattle.lst_sights.specs.Watching.{IsStamped, Watches, Watched}
-use Rattle.lst_sights.proofs.Stamps.{stamped_same}
-use Rattle.lst_crew_state.specs.Crews.{IsIdle, IsCrew}
-use Rattle.lst_crew_state.specs.Telling.{opened_of, told_store, told, pages_told, told_state}
-use Rattle.lst_crew_state.specs.Effects.{SameTransactions, SameBut}
-use Rattle.lst_crew_state.proofs.Openings.{below_is, transactions_are_told}
-use Rattle.lst_crew_state.proofs.PageParts.{pins_and_pages_are_told}
-use Rattle.lst_crew_state.proofs.Stamped.{stamps_tell_nothing}
+use Rattle.lst_rule.specs.Watching.{IsStamped, Watches, Watched}
+use Rattle.lst_rule.proofs.Stamps.{stamped_same}
+use Rattle.lst_refinement.specs.Crews.{IsIdle, IsCrew}
+use Rattle.lst_refinement.specs.Telling.{opened_of, told_store, told, pages_told, told_state}
+use Rattle.lst_refinement.specs.Effects.{SameTransactions, SameBut}
+use Rattle.lst_refinement.proofs.Openings.{below_is, transactions_are_told}
+use Rattle.lst_refinement.proofs.PageParts.{pins_and_pages_are_told}
+use Rattle.lst_refinement.proofs.Stamped.{stamps_tell_nothing}
 use Rattle.lst_rule.specs.declared.store.Store.{Store}
 use Rattle.lst_session.specs.declared.crew.Crew.{Crew}
 use Rattle.lst_pages.specs.Runs.{tps_known}

@@ -17,9 +17,9 @@ use Rattle.lst_rule.specs.Learned.{Possible, Learns}
 use Rattle.lst_rule.specs.Seats.{Sitting}
 use Rattle.lst_txn.specs.declared.ends.Idle.{Idle}
 use Rattle.lst_txn.specs.Transactions.{IsFree}
-use Rattle.lst_crew_state.specs.Crews.{IsIdle}
-use Rattle.lst_crew_state.specs.Effects.{HasEnded, closed_words}
-use Rattle.lst_crew_state.proofs.Ended.{closes_are_told}
+use Rattle.lst_refinement.specs.Crews.{IsIdle}
+use Rattle.lst_refinement.specs.Effects.{HasEnded, closed_words}
+use Rattle.lst_refinement.proofs.Ended.{closes_are_told}
 use Rattle.lst_session.specs.Crews.{words_of, store_told}
 use Rattle.lst_session.specs.Replies.{abort_reply}
 use Rattle.lst_session.specs.Traces.{Closes}

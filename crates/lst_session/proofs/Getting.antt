@@ -18,7 +18,7 @@ use Rattle.lst_rule.specs.Rule.{knows}
 use Rattle.lst_rule.specs.Learned.{Possible, Kept}
 use Rattle.lst_index.specs.Searches.{Works, Keeps}
 use Rattle.lst_session.specs.Traces.{Reads}
-use Rattle.lst_crew_state.proofs.Owns.{sights_are_told}
+use Rattle.lst_refinement.proofs.Owns.{sights_are_told}
 use Rattle.lst_session.specs.Crews.{words_of, store_told}
 use Rattle.lst_session.proofs.Crewed.{IsCrewView, StoreAnswers, core_of, known_is, is_crew, told_is, opened_some, kept_words, stamped_is, same_draws, crew_after, told_stays, watched_crew, watched_told}
 

@@ -19,10 +19,10 @@ use Rattle.lst_layout.specs.declared.limits.Limits.{Limits}
 use Rattle.lst_rule.specs.Learned.{Possible, Learns}
 use Rattle.lst_rule.specs.PageSteps.{stock_of}
 use Rattle.lst_rule.proofs.Learning.{learns_on}
-use Rattle.lst_sights.specs.Seen.{HasKey}
-use Rattle.lst_sights.specs.Watching.{SamePins, IsNotFull, Watched}
-use Rattle.lst_sights.proofs.Watching.{same_pins}
-use Rattle.lst_sights.proofs.Telling.{low, is_known, is_on_known}
+use Rattle.lst_rule.specs.Seen.{HasKey}
+use Rattle.lst_rule.specs.Watching.{SamePins, IsNotFull, Watched}
+use Rattle.lst_rule.proofs.Watching.{same_pins}
+use Rattle.lst_rule.proofs.StatusTelling.{low, is_known, is_on_known}
 use Rattle.lst_index.specs.Searches.{Works}
 use Rattle.lst_write.specs.Standings.{FoundSince}
 use Rattle.lst_session.specs.Calls.{Called, FindsNoneFull, FindsOneFull, SameWork, row_seen}

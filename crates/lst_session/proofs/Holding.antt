@@ -18,13 +18,13 @@ use Rattle.lst_rule.specs.Learned.{Possible, Learns, Made}
 use Rattle.lst_rule.proofs.Knowing.{knows_own, whole_words}
 use Rattle.lst_rule.specs.declared.actions.Action.TheVariants as action
 use Rattle.lst_rule.proofs.Learning.{possible_after, learns_on}
-use Rattle.lst_sights.specs.Watching.{Watches, Watched, IsStamped}
-use Rattle.lst_sights.specs.Laws.{KeptBy}
-use Rattle.lst_sights.proofs.Watching.{watchers_keep}
-use Rattle.lst_sights.proofs.Stamps.{made_words}
+use Rattle.lst_rule.specs.Watching.{Watches, Watched, IsStamped}
+use Rattle.lst_rule.specs.Laws.{KeptBy}
+use Rattle.lst_rule.proofs.Watching.{watchers_keep}
+use Rattle.lst_rule.proofs.Stamps.{made_words}
 use Rattle.lst_write.specs.Holding.{Latches, latch_of}
-use Rattle.lst_crew_state.specs.Crews.{IsIdle}
-use Rattle.lst_crew_state.specs.Effects.{SameTransactions}
+use Rattle.lst_refinement.specs.Crews.{IsIdle}
+use Rattle.lst_refinement.specs.Effects.{SameTransactions}
 use Rattle.lst_session.specs.Crews.{words_of}
 use Rattle.lst_session.proofs.Crewed.{IsCrewView, is_crew, hosted_all, away_still}
 use Rattle.lst_session.proofs.CrewJudging.{with_head, with_latch, IsHeld}

@@ -6,8 +6,8 @@ use Rattle.lst_core_state.specs.State.{no_hold}
 use Rattle.lst_rule.specs.declared.view.View.{View}
 use Rattle.lst_rule.specs.Rule.{knows}
 use Rattle.lst_rule.specs.Learned.{Learns}
-use Rattle.lst_sights.specs.Copies.{Version}
-use Rattle.lst_sights.specs.Seen.{SeesAlike}
+use Rattle.lst_rule.specs.Copies.{Version}
+use Rattle.lst_rule.specs.Seen.{SeesAlike}
 use Rattle.lst_write.specs.Judgements.{HasJudged, Stops, FoundNewer}
 use Rattle.lst_write.proofs.Drawing.{has_judged_more}
 use Rattle.lst_session.proofs.Growing.{Stays, Steps, facts_stay}

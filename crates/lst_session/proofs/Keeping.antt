@@ -23,7 +23,7 @@ use Rattle.lst_session.specs.declared.kinds.WriteRefusal.TheVariants as writes
 use Rattle.lst_session.specs.declared.kinds.Outcome.{Outcome}
 use Rattle.lst_session.specs.declared.kinds.Outcome.TheVariants.{Committed, Ended}
 use Rattle.lst_session.specs.Traces as traces
-use Rattle.lst_crew_state.specs.Crews.{IsIdle, IsPinnedWhereOpen}
+use Rattle.lst_refinement.specs.Crews.{IsIdle, IsPinnedWhereOpen}
 use Rattle.lst_session.specs.declared.crew.Crew.{Crew}
 use Rattle.lst_session.specs.Calls.{Called, Begins, IsAhead, Accepts, Refuses, Cause, FindsLatch, Ends}
 use Rattle.lst_session.specs.Crews.{IsCrewOf}

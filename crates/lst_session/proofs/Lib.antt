@@ -34,3 +34,5 @@ pub mod Parting
 pub mod Gathering
 pub mod Telling
 pub mod Waiting
+pub mod Lent
+pub mod Replying

@@ -24,15 +24,15 @@ use Rattle.lst_retire.specs.Frames.{AreSpares}
 use Rattle.lst_merge.specs.declared.answers.Merge.{Merge}
 use Rattle.lst_merge.specs.declared.answers.Merge.TheVariants.{Merged, Idle, NoFrame}
 use Rattle.lst_merge.specs.Merges.{OnlyPages, Merges}
-use Rattle.lst_crew_state.specs.Crews.{IsIdle, IsPinnedWhereOpen, IsPinnedCrew}
-use Rattle.lst_crew_state.specs.Effects.{SamePinEach, TellAlike}
-use Rattle.lst_crew_state.specs.Laws.{IsMergedTo, pin_lets_go}
+use Rattle.lst_refinement.specs.Crews.{IsIdle, IsPinnedWhereOpen, IsPinnedCrew}
+use Rattle.lst_refinement.specs.Effects.{SamePinEach, TellAlike}
+use Rattle.lst_refinement.specs.Laws.{IsMergedTo, pin_lets_go}
 use Rattle.lst_core_state.specs.Cells.{record_count}
 use Rattle.lst_core_state.specs.Index.{is_placed}
-use Rattle.lst_crew_state.specs.Telling.{told, pages_told, told_pages}
-use Rattle.lst_crew_state.proofs.Merging.{nothing_new_is_told, no_frame_is_told, swaps_are_told}
-use Rattle.lst_crew_state.proofs.Openings.{transactions_are_told}
-use Rattle.lst_crew_state.proofs.Others.{other_areas_tell_nothing}
+use Rattle.lst_refinement.specs.Telling.{told, pages_told, told_pages}
+use Rattle.lst_refinement.proofs.Merging.{nothing_new_is_told, no_frame_is_told, swaps_are_told}
+use Rattle.lst_refinement.proofs.Openings.{transactions_are_told}
+use Rattle.lst_refinement.proofs.Others.{other_areas_tell_nothing}
 use Rattle.lst_session.specs.declared.crew.Crew.{Crew}
 use Rattle.lst_session.specs.declared.passes.Merger.{Merger}
 use Rattle.lst_session.specs.Parting.{IsMergerOf}

@@ -13,13 +13,13 @@ use Rattle.lst_rule.specs.Rule.{crew, knows, hosts}
 use Rattle.lst_rule.specs.declared.store.Store.{Store}
 use Rattle.lst_rule.specs.Stores.{IsSeatOf}
 use Rattle.lst_rule.proofs.Opening.{same_at}
-use Rattle.lst_sights.proofs.Copying.{length-listed, listed_at}
-use Rattle.lst_crew_state.specs.Crews.{IsIdle, IsPinnedWhereOpen}
+use Rattle.lst_rule.proofs.Copying.{length-listed, listed_at}
+use Rattle.lst_refinement.specs.Crews.{IsIdle, IsPinnedWhereOpen}
 use Rattle.lst_core_state.specs.Pages.{no_pages, opening_merger}
 use Rattle.lst_retire.specs.Frames.{AreSpares}
-use Rattle.lst_crew_state.specs.Telling.{told_store, told_pages}
-use Rattle.lst_crew_state.proofs.PageParts.{opening_pages_are_told}
-use Rattle.lst_crew_state.proofs.Openings.{opening_is_told}
+use Rattle.lst_refinement.specs.Telling.{told_store, told_pages}
+use Rattle.lst_refinement.proofs.PageParts.{opening_pages_are_told}
+use Rattle.lst_refinement.proofs.Openings.{opening_is_told}
 use Rattle.lst_session.proofs.Readying.{newcomer_pinned}
 use Rattle.lst_session.specs.declared.crew.Crew.{Crew}
 use Rattle.lst_session.specs.Crews.{words_of, IsCrewOf, TellsState, pages_known, state_told}

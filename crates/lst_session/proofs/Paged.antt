@@ -20,15 +20,15 @@ use Rattle.lst_rule.specs.PageSteps.{stock_of}
 use Rattle.lst_txn.specs.declared.begins.BeginFault.{BeginFault}
 use Rattle.lst_txn.specs.declared.begins.BeginFault.TheVariants as begins
 use Rattle.lst_txn.specs.declared.ends.Idle.{Idle}
-use Rattle.lst_crew_state.specs.Effects.{SamePinEach, SamePinBut, SameStock, begins_or_ends}
-use Rattle.lst_crew_state.specs.Telling.{told_pages}
-use Rattle.lst_crew_state.proofs.PageParts.{pins_and_pages_are_told, pinned_begins_are_told, pinned_ends_are_told, other_calls_leave_pages}
+use Rattle.lst_refinement.specs.Effects.{SamePinEach, SamePinBut, SameStock, begins_or_ends}
+use Rattle.lst_refinement.specs.Telling.{told_pages}
+use Rattle.lst_refinement.proofs.PageParts.{pins_and_pages_are_told, pinned_begins_are_told, pinned_ends_are_told, other_calls_leave_pages}
 use Rattle.lst_session.specs.declared.kinds.WriteRefusal.{WriteRefusal}
 use Rattle.lst_session.specs.declared.kinds.Outcome.{Outcome}
 use Rattle.lst_session.specs.declared.kinds.Outcome.TheVariants.{Committed, Ended}
 use Rattle.lst_session.specs.Traces as traces
 use Rattle.lst_session.specs.Calls as calls
-use Rattle.lst_sights.specs.Watching.{SamePins}
+use Rattle.lst_rule.specs.Watching.{SamePins}
 use Rattle.lst_session.specs.Calls.{Called, TakesPinAway, OnlyLooks, Begins, IsAhead, Accepts, Refuses}
 use Rattle.lst_session.specs.Crews.{store_told, pages_known, state_told, Answers, AnswersLine}
 use Rattle.lst_session.specs.Replies.{begin_cause, begin_reply, commit_reply, abort_reply}

@@ -11,7 +11,7 @@ use Rattle.lst_seat.specs.Seats.{Parts}
 use Rattle.lst_seat.proofs.Gathering.{all_first, all_last}
 use Rattle.lst_rule.specs.PageSteps.{stock_of}
 use Rattle.lst_retire.specs.Frames.{AreSpares}
-use Rattle.lst_crew_state.specs.Crews.{IsIdle, IsPinnedWhereOpen}
+use Rattle.lst_refinement.specs.Crews.{IsIdle, IsPinnedWhereOpen}
 use Rattle.lst_session.specs.declared.passes.Merger.{Merger}
 use Rattle.lst_session.specs.declared.session.Session.{Session}
 use Rattle.lst_session.specs.Parting.{IsPass, numbered_from, are_numbered, IsPassFrom, IsParted, IsMergerOf}

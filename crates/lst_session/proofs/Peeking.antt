@@ -8,8 +8,8 @@ use Rattle.lst_core_state.specs.Index.{is_placed}
 use Rattle.lst_core_state.specs.declared.known.Known.{Known}
 use Rattle.lst_rule.specs.declared.view.View.{View}
 use Rattle.lst_rule.specs.Rule.{knows}
-use Rattle.lst_crew_state.specs.Crews.{IsIdle}
-use Rattle.lst_crew_state.specs.Effects.{SameTransactions}
+use Rattle.lst_refinement.specs.Crews.{IsIdle}
+use Rattle.lst_refinement.specs.Effects.{SameTransactions}
 use Rattle.lst_history.specs.Peeks.{Peeked, Peeks}
 use Rattle.lst_session.specs.Calls.{OnlyLooks}
 use Rattle.lst_session.specs.Crews.{words_of, TellsState, store_told}

@@ -8,15 +8,15 @@ use Rattle.lst_rule.specs.Rule.{knows}
 use Rattle.lst_txn.specs.declared.begins.BeginFault.{BeginFault}
 use Rattle.lst_txn.specs.declared.begins.BeginFault.TheVariants as begins
 use Rattle.lst_txn.specs.declared.ends.Idle.{Idle}
-use Rattle.lst_crew_state.specs.Effects.{SameTransactions, HasBegun, HasEnded}
+use Rattle.lst_refinement.specs.Effects.{SameTransactions, HasBegun, HasEnded}
 use Rattle.lst_session.specs.declared.kinds.WriteRefusal.{WriteRefusal}
 use Rattle.lst_session.specs.declared.kinds.Outcome.{Outcome}
 use Rattle.lst_session.specs.declared.kinds.Outcome.TheVariants.{Committed, Ended}
 use Rattle.lst_session.specs.declared.kinds.CommitRefusal.{CommitRefusal}
 use Rattle.lst_session.specs.declared.kinds.CommitRefusal.TheVariants as refusals
 use Rattle.lst_session.specs.Traces as traces
-use Rattle.lst_crew_state.specs.Crews.{IsPinnedWhereOpen}
-use Rattle.lst_sights.specs.Watching.{SamePins}
+use Rattle.lst_refinement.specs.Crews.{IsPinnedWhereOpen}
+use Rattle.lst_rule.specs.Watching.{SamePins}
 use Rattle.lst_session.specs.Calls.{TakesPinAway, OnlyLooks, Begins, IsAhead, Gets, Accepts, Refuses, Cause, Ends}
 use Rattle.lst_session.proofs.Turning as turning
 

@@ -17,10 +17,10 @@ use Rattle.lst_rule.specs.PageSteps.{pinned_at, unpinned}
 use Rattle.lst_rule.proofs.Learning.{possible_after}
 use Rattle.lst_pages.specs.declared.events.PageEvent.TheVariants as steps
 use Rattle.lst_retire.specs.Pins.{epoch_loaded, Pins, Unpins}
-use Rattle.lst_crew_state.specs.Crews.{IsIdle}
-use Rattle.lst_crew_state.specs.Effects.{SameTransactions, TellAlike}
-use Rattle.lst_crew_state.proofs.Openings.{transactions_are_told}
-use Rattle.lst_crew_state.proofs.Others.{other_areas_tell_nothing}
+use Rattle.lst_refinement.specs.Crews.{IsIdle}
+use Rattle.lst_refinement.specs.Effects.{SameTransactions, TellAlike}
+use Rattle.lst_refinement.proofs.Openings.{transactions_are_told}
+use Rattle.lst_refinement.proofs.Others.{other_areas_tell_nothing}
 use Rattle.lst_session.specs.Crews.{words_of, store_told}
 use Rattle.lst_session.proofs.Crewed.{IsCrewView, StoreAnswers, allowed_whole, set_words, crew_after, told_on, transactions_on}
 

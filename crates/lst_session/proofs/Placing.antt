@@ -33,12 +33,12 @@ use Rattle.lst_rule.proofs.Learning.{learns_on}
 use Rattle.lst_index.specs.Searches.{Works, Keeps}
 use Rattle.lst_index.specs.Placings.{HasNone, drawn_words, claimed_words, PlacedAnew}
 use Rattle.lst_session.specs.Traces.{FindsNone, FindsRecord, PlacesRecord, FindsFullTable}
-use Rattle.lst_crew_state.specs.Crews.{IsIdle}
-use Rattle.lst_crew_state.specs.Effects.{SameTransactions, placed_words}
-use Rattle.lst_crew_state.proofs.Counts.{counts_are_told}
-use Rattle.lst_crew_state.proofs.Keys.{keys_are_placed, others_are_unplaced}
-use Rattle.lst_crew_state.proofs.Openings.{transactions_are_told}
-use Rattle.lst_crew_state.proofs.PlacedKeys.{places_are_told}
+use Rattle.lst_refinement.specs.Crews.{IsIdle}
+use Rattle.lst_refinement.specs.Effects.{SameTransactions, placed_words}
+use Rattle.lst_refinement.proofs.Counts.{counts_are_told}
+use Rattle.lst_refinement.proofs.Keys.{keys_are_placed, others_are_unplaced}
+use Rattle.lst_refinement.proofs.Openings.{transactions_are_told}
+use Rattle.lst_refinement.proofs.PlacedKeys.{places_are_told}
 use Rattle.lst_session.specs.Crews.{words_of, store_told}
 use Rattle.lst_session.proofs.Crewed.{IsCrewView, core_of, allowed_whole, known_is, is_crew, told_is, crew_after, told_stays, told_on, transactions_on, stamped_is, same_draws}
 

@@ -13,7 +13,7 @@ use Rattle.lst_session.specs.declared.kinds.Outcome.{Outcome}
 use Rattle.lst_session.specs.declared.kinds.Outcome.TheVariants.{Committed, Ended}
 use Rattle.lst_session.specs.Traces as traces
 use Rattle.lst_session.specs.Traces.{is_put, Reads, Inserts, Changes}
-use Rattle.lst_crew_state.specs.Crews.{IsIdle}
+use Rattle.lst_refinement.specs.Crews.{IsIdle}
 use Rattle.lst_session.specs.Calls.{Gets, Accepts, Refuses, Cause, Commits, Ends}
 use Rattle.lst_session.proofs.Growing.{begun_early}
 use Rattle.lst_session.proofs.Answering as answering

@@ -9,7 +9,7 @@ use Rattle.lst_rule.proofs.Opening.{same_at}
 use Rattle.lst_rule.specs.declared.store.Store.{Store}
 use Rattle.lst_rule.specs.Stores.{IsSeatOf}
 use Rattle.lst_core_state.specs.Pages.{no_pages}
-use Rattle.lst_crew_state.specs.Crews.{IsIdle, IsPinnedWhereOpen}
+use Rattle.lst_refinement.specs.Crews.{IsIdle, IsPinnedWhereOpen}
 use Rattle.lst_session.proofs.Pinned.{pinned_none}
 use Rattle.lst_session.specs.declared.session.Session.{Session}
 use Rattle.lst_session.specs.Passes.{IsReady}

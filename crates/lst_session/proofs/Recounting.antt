@@ -15,7 +15,7 @@ use Rattle.lst_rule.specs.Stores.{IsSeatOf}
 use Rattle.lst_rule.specs.Surveys.{HostsAll, Surveyed}
 use Rattle.lst_rule.proofs.Knowing.{is_seen, knows_own}
 use Rattle.lst_rule.proofs.Surveying.{survey_same, survey_seat}
-use Rattle.lst_crew_state.specs.Crews.{IsIdle, IsPinnedWhereOpen}
+use Rattle.lst_refinement.specs.Crews.{IsIdle, IsPinnedWhereOpen}
 use Rattle.lst_history.specs.Peeks.{words_in, Recounts}
 use Rattle.lst_session.specs.declared.crew.Crew.{Crew}
 use Rattle.lst_rule.specs.PageSteps.{stock_of}

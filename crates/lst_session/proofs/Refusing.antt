@@ -13,7 +13,7 @@ use Rattle.lst_rule.specs.Rule.{knows, Allowed}
 use Rattle.lst_rule.specs.Learned.{Possible, Learns}
 use Rattle.lst_rule.proofs.Knowing.{whole_words, knows_own}
 use Rattle.lst_rule.proofs.Learning.{learns_on}
-use Rattle.lst_sights.specs.Watching.{Watched}
+use Rattle.lst_rule.specs.Watching.{Watched}
 use Rattle.lst_session.specs.declared.kinds.WriteRefusal.{WriteRefusal}
 use Rattle.lst_session.specs.declared.kinds.WriteRefusal.TheVariants as refusal
 use Rattle.lst_session.specs.Traces.{Judges, FoundTailsFull, Releases, Tries}

@@ -1,5 +1,5 @@
 -- A get of a key of which all pages have folded each accepted write loads no word of a tail record.
-use Rattle.std.proofs.Common.{◌≡◌, ℕ, ◌/◌, ◌%◌, ◌<◌, ◌≤◌, List, [], Bool, true, false, Option, slice_index_or, sym, subst, ap, ◌∙◌, arith, inl, inr}
+use Rattle.std.proofs.Common.{◌≡◌, ℕ, ◌/◌, ◌%◌, ◌<◌, ◌≤◌, List, [], Bool, true, false, Option, slice_index_or, sym, subst, ap, ◌∙◌, arith, inl, inr, ⊎_elim}
 use Rattle.std.proofs.lemmas.List.Elements.{All-nil}
 use Rattle.lst_layout.specs.declared.limits.Limits.{Limits}
 use Rattle.lst_layout.specs.declared.place.Place.{Place}
@@ -21,11 +21,11 @@ use Rattle.lst_rule.specs.PageSteps.{PageLooked}
 use Rattle.lst_rule.specs.Stores.{Looked}
 use Rattle.lst_index.proofs.Placed.{placed_in}
 use Rattle.lst_index.proofs.Wholes.{met_word}
-use Rattle.lst_walk.specs.Pages.{ReadsPage, SavesRow}
+use Rattle.lst_walk.specs.Pages.{ReadsPage, LoadsHead, SavesByPages, SavesRow}
 use Rattle.lst_session.specs.Traces.{Reads, ReadsRecord}
-use Rattle.lst_crew_state.specs.Crews.{IsPinnedWhereOpen}
-use Rattle.lst_crew_state.specs.Folding.{AreFolded, NeedsNoTail}
-use Rattle.lst_crew_state.proofs.Folding.{folded_keys_need_no_tail, stamped_needs_no_tail}
+use Rattle.lst_refinement.specs.Crews.{IsPinnedWhereOpen}
+use Rattle.lst_refinement.specs.Folding.{AreFolded, NeedsNoTail}
+use Rattle.lst_refinement.proofs.Folding.{folded_keys_need_no_tail, stamped_needs_no_tail}
 use Rattle.lst_session.specs.Calls.{IsNoTailLoad, LoadsNoTail}
 use Rattle.lst_session.specs.Crews.{words_of, state_told, IsFoldedFor}
 use Rattle.lst_session.proofs.Crewed.{IsCrewView, core_of, allowed_whole, hosted_all, is_crew, state_is, kept_words}
@@ -83,11 +83,16 @@ module _ (v w : View) (s rec column time : ℕ) (whole : v.whole ≡ true) (page
 
 -- ---- a row
 
-pub no_finds : (v w : View) (s rec : ℕ) → v.whole ≡ true → SavesRow v w s rec → ((column : ℕ) → column < v.limits.columns → NeedsNoTail (words_of v) rec column (knows v s).begin) → (knows w s).finds ≡ (knows v s).finds
-no_finds v w s rec whole saves needs = let u : View = saves.headed in let same : words_of u ≡ words_of v = kept_words v u saves.head.view.limits saves.head.kept whole in
+-- by its pages
+no_finds_by : (v w : View) (s rec : ℕ) → v.whole ≡ true → SavesByPages v w s rec → ((column : ℕ) → column < v.limits.columns → NeedsNoTail (words_of v) rec column (knows v s).begin) → (knows w s).finds ≡ (knows v s).finds
+no_finds_by v w s rec whole saves needs = let u : View = saves.headed in let same : words_of u ≡ words_of v = kept_words v u saves.head.view.limits saves.head.kept whole in
     saves.quiet (λ column low. may_be_used u w s rec column (knows v s).begin (saves.head.view.whole ∙ whole) (saves.page column low)
     (subst (λ (x : Words). NeedsNoTail x rec column (knows v s).begin) (sym same) (needs column low))
     saves.word (ap (λ (x : Words). x.heads rec) same ∙ found_word v u s (HeadWord rec) saves.word saves.head whole))
+
+-- or without a version
+pub no_finds : (v w : View) (s rec : ℕ) → v.whole ≡ true → SavesRow v w s rec → ((column : ℕ) → column < v.limits.columns → NeedsNoTail (words_of v) rec column (knows v s).begin) → (knows w s).finds ≡ (knows v s).finds
+no_finds v w s rec whole saves needs = ⊎_elim (λ (h : LoadsHead v w s rec). ap (λ (k : Known). k.finds) h.head.view.now) (λ (h : SavesByPages v w s rec). no_finds_by v w s rec whole h needs) saves
 
 -- ---- a get
 
@@ -105,8 +110,11 @@ module _ (v w : View) (s key : ℕ) (crew : IsCrewView v) (p : Possible v) (low 
     saves : SavesRow u w s r.rec
     saves = r.saves pinned_still
 
+    looked_at : (x : View) (word : ℕ) → Looked u x s (HeadWord r.rec) word → Possible u
+    looked_at x word looked = let told = looked.met.made.told in record { words = told.words; known = told.known; merger = told.merger; allowed = told.allowed }
+
     possible : Possible u
-    possible = let told = saves.head.met.made.told in record { words = told.words; known = told.known; merger = told.merger; allowed = told.allowed }
+    possible = ⊎_elim (λ (h : LoadsHead u w s r.rec). looked_at w h.word h.head) (λ (h : SavesByPages u w s r.rec). looked_at h.headed h.word h.head) saves
 
     hosted : hosts u s ≡ true
     hosted = ap (λ (hs : List Bool). slice_index_or hs s false) on.learns.hosted ∙ hosted_all v crew p s (omega arith)

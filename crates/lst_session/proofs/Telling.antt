@@ -1,9 +1,9 @@
 -- A session hears a note, and all sessions hear of each other.
-use Rattle.std.proofs.Common.{◌≡◌, ℕ, ◌+◌, ◌<◌, List, [], ◌++◌, Bool, false, length, get_or, slice_set, refl, sym, subst, ap, ◌∙◌, arith, append-nil, append_assoc}
+use Rattle.std.proofs.Common.{◌≡◌, ℕ, ◌+◌, ◌<◌, List, [], ◌++◌, Bool, true, false, eqb, eqb-true, length, get_or, slice_set, refl, sym, subst, ap, ◌∙◌, arith, append-nil, append_assoc}
 use mathlib.Core.Logic.{dite}
 use native.Mathlib.Decide.{ℕ_discrete}
 use Rattle.std.specs.List.{All, Contains}
-use Rattle.std.proofs.lemmas.List.Elements.{Contains-append_left}
+use Rattle.std.proofs.lemmas.List.Elements.{Contains-append_left, Contains-append_right}
 use Rattle.std.proofs.lemmas.List.{get_or-set_same, get_or-set_other, length-set, set-get_or, get_or_default}
 use Rattle.lst_layout.specs.declared.limits.Limits.{Limits}
 use Rattle.lst_model.specs.declared.commits.Commit.{Commit}
@@ -14,13 +14,16 @@ use Rattle.lst_core_state.specs.Laws.{heard}
 use Rattle.lst_core_state.specs.State.{mine}
 use Rattle.lst_core_state.proofs.Histories.{starts_trans}
 use Rattle.lst_rule.specs.declared.store.Store.{Store}
-use Rattle.lst_rule.specs.Rule.{knows}
+use Rattle.lst_rule.specs.declared.view.View.{View}
+use Rattle.lst_rule.specs.Copies.{Includes}
+use Rattle.lst_rule.specs.Joins.{noted}
+use Rattle.lst_rule.specs.Rule.{knows, hosts}
 use Rattle.lst_rule.specs.Seats.{Sitting}
 use Rattle.lst_rule.specs.Stores.{IsSeatOf}
 use Rattle.lst_seat.specs.Seats.{Tells, Hears}
-use Rattle.lst_crew_state.specs.Crews.{IsIdle, IsPinnedWhereOpen}
+use Rattle.lst_refinement.specs.Crews.{IsIdle, IsPinnedWhereOpen}
 use Rattle.lst_session.specs.declared.session.Session.{Session}
-use Rattle.lst_session.specs.Parting.{IsPass, known_by, OnlyHears, seen_at, HearsMore, HearMore, HasHeardOf, HasHeard, HaveHeard}
+use Rattle.lst_session.specs.Parting.{IsPass, known_by, OnlyHears, seen_at, IsAlone, HearsMore, HearMore, HasHeardOf, HasHeard, HaveHeard}
 use Rattle.lst_session.specs.Passes.{IsReady}
 use Rattle.lst_session.proofs.Growing.{same_extends}
 
@@ -103,18 +106,35 @@ hear_at store xs i x all low more = record {
       (λ ne. subst (HearsMore store (get_or xs j none)) (sym (get_or-set_other xs i j x none ne)) (more_none store (get_or xs j none) (all j none few)));
 }
 
+-- a seat that hosts one session alone hosts no other
+alone_is : (session : Session) → IsAlone session → (s : ℕ) → hosts session.seat.view s ≡ true → s ≡ session.number
+alone_is session alone s hosted = eqb-true s session.number (sym (alone s) ∙ hosted)
+
+-- and hosts it alone after it heard something
+alone_still : (store : Store) (old new : Session) → HearsMore store old new → IsAlone old → IsAlone new
+alone_still store old new h alone s = ap (λ (hs : List Bool). get_or hs s false) h.hosted ∙ (alone s ∙ ap (λ (n : ℕ). eqb s n) (sym h.number))
+
 -- what was seen before more was heard is seen after
 still_of : (store : Store) (old a b : List Session) (i j : ℕ) → i < length a → HearMore store a b → HasHeardOf old a i j → HasHeardOf old b i j
-still_of store old a b i j low h has none = starts_trans (seen_at b i none) (seen_at a i none) (seen_at old j none) (h.each i none low).knows.grows (has none)
+still_of store old a b i j low h has = record {
+  seen = λ none. starts_trans (seen_at b i none) (seen_at a i none) (seen_at old j none) (h.each i none low).knows.grows (has.seen none);
+  facts = λ none alone f here. (h.each i none low).knows.keeps f (has.facts none alone f here);
+}
 
 -- and what others had seen before is no less after
 more_of : (store : Store) (old a b : List Session) (i j : ℕ) → j < length old → HearMore store old a → HasHeardOf a b i j → HasHeardOf old b i j
-more_of store old a b i j low h has none = starts_trans (seen_at b i none) (seen_at a j none) (seen_at old j none) (has none) (h.each j none low).knows.grows
+more_of store old a b i j low h has = record {
+  seen = λ none. starts_trans (seen_at b i none) (seen_at a j none) (seen_at old j none) (has.seen none) (h.each j none low).knows.grows;
+  facts = λ none alone f here. has.facts none (alone_still store (get_or old j none) (get_or a j none) (h.each j none low) alone) f ((h.each j none low).knows.keeps f here);
+}
 
 -- a note of the session at the place j was heard by the one at the place i
 module _ (store : Store) (xs : List Session) (i j : ℕ) (passes : All (IsPass store) xs) (i_low : i < length xs) (j_low : j < length xs) where
   pub heard_self : i ≡ j → HasHeardOf xs xs i j
-  heard_self is none = subst (λ (k : ℕ). Extends (seen_at xs i none) (seen_at xs k none)) is (same_extends (seen_at xs i none))
+  heard_self is = record {
+    seen = λ none. subst (λ (k : ℕ). Extends (seen_at xs i none) (seen_at xs k none)) is (same_extends (seen_at xs i none));
+    facts = λ none alone f here. subst (λ (k : ℕ). Contains (known_by (get_or xs k none)).facts f) (sym is) here;
+  }
 
   -- the teller stays as it was, and the hearer is x
   module _ (note : Sitting) (teller hearer t x : Session) (same : t ≡ get_or xs j teller) (told : Tells store (get_or xs j teller).seat.view note) (more : HearsMore store (get_or (slice_set xs j t) i hearer) x) (hears : Hears (get_or (slice_set xs j t) i hearer).seat.view x.seat.view note.view) where
@@ -130,13 +150,27 @@ module _ (store : Store) (xs : List Session) (i j : ℕ) (passes : All (IsPass s
     pub hear_more : HearMore store xs (slice_set (slice_set xs j t) i x)
     hear_more = subst (λ (l : List Session). HearMore store xs (slice_set l i x)) (sym unchanged) (hear_at store xs i x passes i_low (λ none. subst (λ (y : Session). HearsMore store y x) (hearer_is none) more))
 
-    heard_in : HasHeardOf xs (slice_set xs i x) i j
-    heard_in none = let h = get_or xs i none in let from = get_or xs j none in
+    seen_in : (none : Session) → Extends (seen_at (slice_set xs i x) i none) (seen_at xs j none)
+    seen_in none = let h = get_or xs i none in let from = get_or xs j none in
         subst (λ (y : Session). Extends (known_by y).seen (known_by from).seen) (sym (get_or-set_same xs i x none i_low))
         (starts_trans (known_by x).seen note.view.note (known_by from).seen
         (subst (λ (n : ℕ). Extends (knows x.seat.view n).seen note.view.note) (sym (more.number ∙ ap (λ (y : Session). y.number) (hearer_is none)))
         ((subst (λ (y : Session). Hears y.seat.view x.seat.view note.view) (hearer_is none) hears).told h.number (passes i none i_low).host))
         ((subst (λ (y : Session). Tells store y.seat.view note) (teller_is none) told).all from.number (passes j none j_low).host))
+
+    -- the note of a seat that hosts one session alone has its facts
+    facts_in : (none : Session) → IsAlone (get_or xs j none) → Includes (known_by (get_or (slice_set xs i x) i none)).facts (known_by (get_or xs j none)).facts
+    facts_in none alone f has = let h = get_or xs i none in let from = get_or xs j none in
+        let tells : Tells store from.seat.view note = subst (λ (y : Session). Tells store y.seat.view note) (teller_is none) told in
+        let copy : note.view ≡ noted from.number from.seat.view = tells.copy ∙ ap (λ (s : ℕ). noted s from.seat.view) (alone_is from alone tells.teller tells.hosted) in
+        let there : Contains note.view.note_facts f = subst (λ (n : View). Contains n.note_facts f) (sym copy) has in
+        let now = (subst (λ (y : Session). Hears y.seat.view x.seat.view note.view) (hearer_is none) hears).now h.number (passes i none i_low).host in
+        let same : known_by x ≡ knows x.seat.view h.number = ap (λ (n : ℕ). knows x.seat.view n) (more.number ∙ ap (λ (y : Session). y.number) (hearer_is none)) in
+        subst (λ (y : Session). Contains (known_by y).facts f) (sym (get_or-set_same xs i x none i_low))
+        (subst (λ (k : Known). Contains k.facts f) (sym (same ∙ now)) (Contains-append_right (known_by h).facts note.view.note_facts f there))
+
+    heard_in : HasHeardOf xs (slice_set xs i x) i j
+    heard_in = record { seen = seen_in; facts = facts_in }
 
     pub heard_of : HasHeardOf xs (slice_set (slice_set xs j t) i x) i j
     heard_of = subst (λ (l : List Session). HasHeardOf xs (slice_set l i x) i j) (sym unchanged) heard_in

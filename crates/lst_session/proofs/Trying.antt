@@ -24,16 +24,16 @@ use Rattle.lst_rule.specs.declared.view.View.{View}
 use Rattle.lst_rule.specs.Rule.{knows, hosts}
 use Rattle.lst_rule.specs.Learned.{Possible, Learns, Made}
 use Rattle.lst_rule.proofs.Learning.{learns_on}
-use Rattle.lst_sights.specs.Watching.{IsStamped}
-use Rattle.lst_sights.proofs.Stamps.{made_words}
+use Rattle.lst_rule.specs.Watching.{IsStamped}
+use Rattle.lst_rule.proofs.Stamps.{made_words}
 use Rattle.lst_write.specs.Judgements.{FoundNewer, FoundUnfinished}
 use Rattle.lst_write.specs.Appending.{FindsFull}
 use Rattle.lst_session.specs.declared.kinds.WriteRefusal.{WriteRefusal}
 use Rattle.lst_session.specs.Traces.{misfit_of, Judges}
-use Rattle.lst_crew_state.specs.Telling.{told}
-use Rattle.lst_crew_state.specs.Effects.{SameTransactions}
-use Rattle.lst_crew_state.proofs.Keys.{keys_are_placed}
-use Rattle.lst_crew_state.proofs.Counts.{counts_are_told}
+use Rattle.lst_refinement.specs.Telling.{told}
+use Rattle.lst_refinement.specs.Effects.{SameTransactions}
+use Rattle.lst_refinement.proofs.Keys.{keys_are_placed}
+use Rattle.lst_refinement.proofs.Counts.{counts_are_told}
 use Rattle.lst_session.specs.Crews.{words_of, store_told}
 use Rattle.lst_session.specs.Replies.{write_cause}
 use Rattle.lst_session.proofs.Crewed.{IsCrewView, core_of, known_is, is_crew, told_is, hosted_all, crew_after, told_stays, stamped_draws, kept_words}

@@ -18,19 +18,20 @@ use Rattle.lst_rule.specs.Learned.{Learns}
 use Rattle.lst_rule.proofs.Learning.{learns_on, learns_then}
 use Rattle.lst_rule.specs.PageSteps.{pinned_at, unpinned}
 use Rattle.lst_core_state.specs.declared.pages.MergerFrames.{MergerFrames}
-use Rattle.lst_sights.specs.Watching.{IsNotFull}
-use Rattle.lst_sights.proofs.Watching.{one_not_full, clock_not_full}
+use Rattle.lst_rule.specs.Watching.{IsNotFull}
+use Rattle.lst_rule.proofs.Watching.{one_not_full, clock_not_full}
 use Rattle.lst_retire.specs.Pins.{epoch_loaded}
 use Rattle.lst_rule.specs.Stores.{clocked}
 use Rattle.lst_write.specs.Standings.{FoundSince}
 use Rattle.lst_txn.specs.Transactions as txn
-use Rattle.lst_crew_state.specs.Crews.{IsIdle}
+use Rattle.lst_refinement.specs.Crews.{IsIdle}
+use Rattle.lst_refinement.specs.Effects.{SameTransactions}
 use Rattle.lst_session.specs.declared.kinds.Outcome.{Outcome}
 use Rattle.lst_session.specs.declared.kinds.Outcome.TheVariants.{Committed, Ended}
 use Rattle.lst_session.specs.declared.kinds.CommitRefusal.{CommitRefusal}
 use Rattle.lst_session.specs.declared.kinds.CommitRefusal.TheVariants.{Idle, Busy}
 use Rattle.lst_session.specs.Traces as traces
-use Rattle.lst_session.specs.Calls.{FindsNoneFull, Begins, IsAhead, Commits, Ends, FindsHeld}
+use Rattle.lst_session.specs.Calls.{Called, FindsNoneFull, Begins, IsAhead, Commits, Ends, FindsHeld}
 use Rattle.lst_session.proofs.Growing.{merger_hosted, stock_stays, Grown, grown_on, pins_by, found_on, none_full_on, called, same_extends, same_facts, same_finds, none_full_still, away_stays}
 
 -- ---- begins
@@ -87,6 +88,15 @@ module _ (v w : View) (s clock b : ℕ) (r : Bool) (t : traces.Begins v w s cloc
     finds = (FreshEpoch t.pins.epoch ∷ clock_finds, all_finds);
   }
 
+  -- the call began as it was
+  at_first : Called v v s
+  at_first = called v v s (knows v s) record { now = refl; others = λ t e. refl; hosted = refl; limits = refl; note = refl; note_facts = refl; whole = refl }
+      record { seen = same_extends (knows v s).seen; facts = same_facts (knows v s).facts; finds = same_finds (knows v s).finds }
+
+  -- and was pinned before it opened a transaction
+  waits_pinned : SameTransactions (knows v s) (knows t.between s)
+  waits_pinned = let e = t.pins.view.now in record { number = ap (λ (k : Known). k.number) e; begin = ap (λ (k : Known). k.begin) e; read_only = ap (λ (k : Known). k.read_only) e; is_open = ap (λ (k : Known). k.is_open) e }
+
   pub begins : Begins v w s clock b r
   begins = let e = opens_view.now in record {
     called = called v w s _ opens_view begins_grown;
@@ -107,6 +117,7 @@ module _ (v w : View) (s clock b : ℕ) (r : Bool) (t : traces.Begins v w s cloc
     fresh_epoch = record { more = FreshEpoch t.pins.epoch ∷ clock_finds; grows = all_finds; here = (0, omega arith, refl) };
     pin = ap (λ (k : Known). k.pages.session.pin) e;
     pins = ap (λ (k : Known). k.pages.pins) e;
+    order = record { before = v; pinned = t.between; called = at_first; pins = t.pins; waits = waits_pinned; opens = t.opens };
     room = record { more = FreshEpoch t.pins.epoch ∷ clock_finds; grows = all_finds; room = All-cons IsNotFull (FreshEpoch t.pins.epoch) clock_finds tt (clock_not_full u (length all)) };
   }
 
@@ -172,6 +183,14 @@ module _ (v w : View) (s clock time : ℕ) (t : traces.BeginsAsOf v w s clock ti
     current = λ hosted. y.current (merger_hosted v a s (knows a s) x.called.learns hosted) ∙ ap (λ (m : MergerFrames). m.epoch) (stock_stays v a s (knows a s) x.called.learns low);
     pin = y.pin;
     pins = y.pins ∙ ap (λ (n : ℕ). n + 1) x.pins.pins;
+    order = let same = x.same.transaction in let waits = waits_pinned a w s clock time true t.begins in record {
+      before = a;
+      pinned = t.begins.between;
+      called = x.called;
+      pins = t.begins.pins;
+      waits = record { number = waits.number ∙ same.number; begin = waits.begin ∙ same.begin; read_only = waits.read_only ∙ same.read_only; is_open = waits.is_open ∙ same.is_open };
+      opens = t.begins.opens;
+    };
     room = none_full_on v a w s x.room y.room;
   }
 
@@ -197,6 +216,17 @@ module _ (v w : View) (s : ℕ) (t : traces.Closes v w s) where
     unpinned = record { pins = ap (λ (k : Known). k.pages.pins) e; pin = ap (λ (k : Known). k.pages.session.pin) e };
     own = ap (λ (k : Known). k.own) e;
     mine = ap (λ (k : Known). mine s k) e;
+    order = let c = t.view.now in record {
+      over = t.between;
+      called = called v t.between s _ t.view record {
+        seen = ([], ap (λ (k : Known). k.seen) c ∙ (same_extends (knows v s).seen).1);
+        facts = ([], ap (λ (k : Known). k.facts) c ∙ (same_facts (knows v s).facts).1);
+        finds = ([], ap (λ (k : Known). k.finds) c ∙ (same_finds (knows v s).finds).1);
+      };
+      ended = record { number = ap (λ (k : Known). k.number) c; is_open = ap (λ (k : Known). k.is_open) c };
+      pins = pins_by (knows v s) (knows t.between s) (ap (λ (k : Known). k.pages) c);
+      unpins = t.unpins;
+    };
     room = none_full_still v w s (ap (λ (k : Known). k.finds) e);
   }
 
@@ -262,6 +292,13 @@ module _ (v w : View) (s time : ℕ) (t : traces.TakesAndCommits v w s time) whe
   same_seen : (knows t.between s).seen ≡ k.seen
   same_seen = ap (λ (m : Known). m.seen) takes.now
 
+  committed_grown : Grown (knows v s) (knows t.committed s)
+  committed_grown = let e = spent_view.now in record {
+    seen = (c.load.grows.0 ++ one ∷ [], ap (λ (m : Known). m.seen) e ∙ (ap (λ (cs : List Commit). cs ++ one ∷ []) (c.load.grows.1 ∙ ap (λ (cs : List Commit). cs ++ c.load.grows.0) same_seen) ∙ append_assoc k.seen c.load.grows.0 (one ∷ [])));
+    facts = (c.load.index, ap (λ (m : Known). m.facts) e);
+    finds = (FreshClock (length c.load.all) ∷ early_find (took k) (length c.load.all), ap (λ (m : Known). m.finds) e);
+  }
+
   pub commits : 0 < length k.own → Commits v w s time
   commits wrote = let e = commits_view.now in record {
     called = called v w s (unpinned v.limits done) commits_view record {
@@ -279,6 +316,13 @@ module _ (v w : View) (s time : ℕ) (t : traces.TakesAndCommits v w s time) whe
     place = ap (λ (n : ℕ). n + 1) c.load.clock ∙ c.time;
     seen = ap (λ (m : Known). m.seen) e;
     mine = ap (λ (m : Known). mine s m) t.unpins.view.now ∙ (c.own ∙ (λ i. mine s (takes.now i) ++ commit s (takes.now i).number (takes.now i).begin (takes.now i).own ∷ []));
+    order = let o = spent_view.now in record {
+      over = t.committed;
+      called = called v t.committed s done spent_view committed_grown;
+      ended = record { number = ap (λ (m : Known). m.number) o; is_open = ap (λ (m : Known). m.is_open) o };
+      pins = pins_by (knows v s) (knows t.committed s) (ap (λ (m : Known). m.pages) o);
+      unpins = t.unpins;
+    };
     room = clock_room v w s (length c.load.all) (took k) (ap (λ (m : Known). m.finds) e);
   }
 

@@ -50,6 +50,13 @@ module _ (u v w : View) (s : ℕ) (a : FindsHeld u v s) where
     lists = lists_on (knows u s) (knows v s) (knows w s) a.lists b.lists;
     ended = record { number = b.ended.number ∙ a.same.transaction.number; is_open = b.ended.is_open };
     unpinned = record { pins = b.unpinned.pins ∙ a.pins.pins; pin = b.unpinned.pin };
+    order = let o = b.order in record {
+      over = o.over;
+      called = called_on u v o.over s a.called o.called;
+      ended = record { number = o.ended.number ∙ a.same.transaction.number; is_open = o.ended.is_open };
+      pins = record { pins = o.pins.pins ∙ a.pins.pins; pin = o.pins.pin ∙ a.pins.pin };
+      unpins = o.unpins;
+    };
     wrote = a.wrote;
     own = b.own;
     above = (let h = starts_length (knows v s).seen (knows u s).seen a.called.seen in let above = b.above in omega arith);

@@ -21,20 +21,20 @@ use mathlib.Core.Logic.{dite}
 use native.Mathlib.Decide.{dec_lt}
 use Rattle.lst_rule.specs.Learned.{Learns}
 use Rattle.lst_rule.proofs.Learning.{learns_on}
-use Rattle.lst_sights.specs.Seen.{HasKey}
-use Rattle.lst_sights.specs.Judging.{WroteAt}
+use Rattle.lst_rule.specs.Seen.{HasKey}
+use Rattle.lst_rule.specs.Judging.{WroteAt}
 use Rattle.std.specs.List.{All}
 use Rattle.std.proofs.lemmas.List.Elements.{All-nil, All-cons, All-head, All-tail}
-use Rattle.lst_sights.specs.Watching.{IsNotFull, Watched}
-use Rattle.lst_sights.proofs.Watching.{one_not_full}
+use Rattle.lst_rule.specs.Watching.{IsNotFull, Watched}
+use Rattle.lst_rule.proofs.Watching.{one_not_full}
 use Rattle.lst_index.specs.Searches.{Keeps}
 use Rattle.lst_index.specs.Placings.{Drew, DrawsAfterLook, WasUnplaced}
-use Rattle.lst_second.specs.Posting.{IsTailLoad, Posts}
+use Rattle.lst_rule.specs.Posting.{IsTailLoad, Posts}
 use Rattle.lst_write.specs.Holding.{Latches}
 use Rattle.lst_write.specs.Standings.{FoundSince}
 use Rattle.lst_write.specs.Appending.{Appends, FindsFull}
 use Rattle.lst_write.specs.Appending as appending
-use Rattle.lst_crew_state.specs.Crews.{IsIdle}
+use Rattle.lst_refinement.specs.Crews.{IsIdle}
 use Rattle.lst_session.specs.declared.kinds.WriteRefusal.{WriteRefusal}
 use Rattle.lst_session.specs.declared.kinds.WriteRefusal.TheVariants.{Idle, ReadOnly, Missing, Exists, TableFull, Latched, Newer, Unfinished, TailFull}
 use Rattle.lst_session.specs.Traces.{Prepares, Holding, Installs, Releases, IsLatched, Tries, MayWrite, FindsRecord, PlacesRecord}
@@ -399,10 +399,10 @@ module _ (v u w : View) (s rec key most : ℕ) (act : Act) (may : MayWrite v s) 
     pub counters : Counters v w s rec (Err refusal)
     counters = counters_on v u w s rec comes.room (Err refusal) (released_counters u w s rec key act refusal r)
 
-    -- since the latch
-    pub under : Steps r.holding.between w s
+    -- since the latch, till it is given back
+    pub under : Steps r.holding.between r.between s
     under = let h : View = r.holding.between in let first = latch_goes u h s rec r.holding.head r.holding.latches in
-        steps_on h r.between w s (prepares_keeping h r.between s rec r.holding.head key act (own_then u h s first.steps own_s) (Err refusal) r.holding.prepares).goes.steps back.goes.steps
+        (prepares_keeping h r.between s rec r.holding.head key act (own_then u h s first.steps own_s) (Err refusal) r.holding.prepares).goes.steps
 
     abbrev pub has_latched : HasLatched v w s key
     has_latched = record {
@@ -414,7 +414,11 @@ module _ (v u w : View) (s rec key most : ℕ) (act : Act) (may : MayWrite v s) 
       after = r.holding.between;
       first = steps_called v u s comes.steps;
       latches = r.holding.latches;
-      last = steps_called r.holding.between w s under;
+      word = r.holding.word;
+      last = steps_called r.holding.between w s (steps_on r.holding.between r.between w s under back.goes.steps);
+      back = r.between;
+      held = steps_called r.holding.between r.between s under;
+      release = r.word;
     }
 
     -- the misfit was found at r.between

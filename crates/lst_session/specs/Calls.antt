@@ -2,6 +2,7 @@
 use Rattle.std.specs.Prelude.{◌≡◌, ◌≢◌, ◌⊎◌, ℕ, ◌+◌, ◌*◌, ◌<◌, ◌≤◌, List, [], ◌∷◌, ◌++◌, Bool, true, false, length, Option}
 use Rattle.std.specs.List.{All}
 use Rattle.lst_layout.specs.declared.limits.Limits.{Limits}
+use Rattle.lst_layout.specs.declared.place.Place.TheVariants.{HeadWord}
 use Rattle.lst_model.specs.declared.acts.Act.{Act}
 use Rattle.lst_model.specs.declared.commits.Commit.{Commit}
 use Rattle.lst_model.specs.Cells.{Cell}
@@ -9,6 +10,7 @@ use Rattle.lst_model.specs.Tables.{row_of}
 use Rattle.lst_model.specs.Histories.{Extends, snapshot, joined}
 use Rattle.lst_model.specs.Soundness.{Fits}
 use Rattle.lst_core_state.specs.Writes.{write, commit}
+use Rattle.lst_core_state.specs.declared.events.Event.TheVariants.{Latch, Release}
 use Rattle.lst_core_state.specs.declared.known.Known.{Known}
 use Rattle.lst_core_state.specs.declared.facts.Find.{Find}
 use Rattle.lst_core_state.specs.declared.facts.Find.TheVariants.{FreshClock, FreshEpoch, HeldTurn, LatchedRecord, UnfinishedVersion, FullRecords, FullTails, TailLoad}
@@ -16,18 +18,20 @@ use Rattle.lst_core_state.specs.Cells.{range_of}
 use Rattle.lst_core_state.specs.State.{mine, name_of, rank}
 use Rattle.lst_rule.specs.declared.view.View.{View}
 use Rattle.lst_rule.specs.Rule.{knows, hosts}
-use Rattle.lst_rule.specs.Learned.{Learns}
+use Rattle.lst_rule.specs.Learned.{Learns, Made}
 use Rattle.lst_rule.specs.PageSteps.{stock_of}
-use Rattle.lst_sights.specs.Copies.{Version, Includes}
-use Rattle.lst_sights.specs.Seen.{HasKey}
-use Rattle.lst_sights.specs.Judging.{WroteAt}
-use Rattle.lst_sights.specs.Watching.{IsNotFull, SamePins}
+use Rattle.lst_rule.specs.Copies.{Version, Includes}
+use Rattle.lst_rule.specs.Seen.{HasKey}
+use Rattle.lst_rule.specs.Judging.{WroteAt}
+use Rattle.lst_rule.specs.Watching.{IsNotFull, SamePins}
 use Rattle.lst_index.specs.Searches.{Ended, Works}
 use Rattle.lst_index.specs.Placings.{Drew, DrawsAfterLook, FoundFull}
+use Rattle.lst_retire.specs.Pins.{Pins, Unpins}
+use Rattle.lst_txn.specs.Transactions.{Opens}
 use Rattle.lst_write.specs.Holding.{Latches}
 use Rattle.lst_write.specs.Standings.{FoundSince}
 use Rattle.lst_write.specs.Judgements.{HasJudged, Stops, FoundNewer}
-use Rattle.lst_crew_state.specs.Effects.{SameTransactions, HasBegun, HasEnded}
+use Rattle.lst_refinement.specs.Effects.{SameTransactions, HasBegun, HasEnded}
 use Rattle.lst_session.specs.Traces.{is_put, misfit_of, MayWrite}
 use Rattle.lst_session.specs.declared.kinds.WriteRefusal.{WriteRefusal}
 use Rattle.lst_session.specs.declared.kinds.WriteRefusal.TheVariants.{Idle, ReadOnly, Missing, Exists, TableFull, Latched, Newer, Unfinished, TailFull}
@@ -78,8 +82,18 @@ row_seen k key = row_of (snapshot k.seen k.begin k.own) key
 
 -- ---- begins
 
+-- the pin came first: it was set, at the epoch of this clause, while the session's transactions were as before, and then the next one was opened
+pub record PinsFirst (v w : View) (s clock begin : ℕ) (read_only : Bool) : Type 0 where
+  pub before : View
+  pub pinned : View
+  pub called : Called v before s
+  pub pins : Pins before pinned s
+  pub waits : SameTransactions (knows v s) (knows pinned s)
+  pub opens : Opens pinned w s clock begin read_only
+
 -- the next transaction is open, with this begin and of this kind, without own writes. The clock was loaded in the call, and found at least
--- what the session had seen, which it has seen then. The session is pinned at an epoch that was found in the call, and has set one pin more
+-- what the session had seen, which it has seen then. The session is pinned at an epoch that was found in the call, and has set one pin more,
+-- before the transaction was opened
 pub record Begins (v w : View) (s clock begin : ℕ) (read_only : Bool) : Type 0 where
   pub called : Called v w s
   pub lists : SameLists (knows v s) (knows w s)
@@ -96,6 +110,7 @@ pub record Begins (v w : View) (s clock begin : ℕ) (read_only : Bool) : Type 0
   pub current : hosts v v.limits.sessions ≡ true → epoch ≡ (stock_of v).epoch
   pub pin : (knows w s).pages.session.pin ≡ epoch + 1
   pub pins : (knows w s).pages.pins ≡ (knows v s).pages.pins + 1
+  pub order : PinsFirst v w s clock begin read_only
   pub room : FindsNoneFull v w s
 
 -- the clock was loaded in the call, and found below the time. No pin was set
@@ -170,7 +185,9 @@ pub record Refuses (v w : View) (s key most : ℕ) : Type 0 where
   pub drew : Drew (knows v s).placing (knows w s).placing most
   pub after_look : DrawsAfterLook v w s key
 
--- the key's record was latched in the call, and its newest version found to have the number `head` in its range
+-- the key's record was latched in the call, by a step that found its newest version to have the number `head` in its range, and so left the
+-- record's indirection word. At last the latch was given back, by a step that left the word with this number: so no chain serves that was found
+-- before the latch
 pub record HasLatched (v w : View) (s key : ℕ) : Type 0 where
   pub rec : ℕ
   pub head : ℕ
@@ -180,7 +197,11 @@ pub record HasLatched (v w : View) (s key : ℕ) : Type 0 where
   pub after : View
   pub first : Called v before s
   pub latches : Latches before after s rec head
+  pub word : Made before after (Latch s rec) (HeadWord rec) (2 * head + 1)
   pub last : Called after w s
+  pub back : View
+  pub held : Called after back s
+  pub release : Made back w (Release s) (HeadWord rec) (2 * head)
 
 -- no record was
 abbrev pub HasNotLatched : View → View → ℕ → Type 0
@@ -254,7 +275,15 @@ pub record TakesPinAway (u k : Known) : Type 0 where
   pub pins : k.pages.pins ≡ u.pages.pins
   pub pin : k.pages.session.pin ≡ 0
 
--- the transaction is the commit at the time, above all that the session had seen, and its session isn't pinned
+-- the pin went last: the transaction was over while the pin stood, and then the pin was taken away
+pub record UnpinsLast (v w : View) (s : ℕ) : Type 0 where
+  pub over : View
+  pub called : Called v over s
+  pub ended : HasEnded (knows v s) (knows over s)
+  pub pins : SamePins (knows v s) (knows over s)
+  pub unpins : Unpins over w s
+
+-- the transaction is the commit at the time, above all that the session had seen, and then its session isn't pinned any more
 pub record Commits (v w : View) (s time : ℕ) : Type 0 where
   pub called : Called v w s
   pub lists : SameLists (knows v s) (knows w s)
@@ -267,9 +296,10 @@ pub record Commits (v w : View) (s time : ℕ) : Type 0 where
   pub place : length before + 1 ≡ time
   pub seen : let k = knows v s in (knows w s).seen ≡ before ++ commit s k.number k.begin k.own ∷ []
   pub mine : let k = knows v s in mine s (knows w s) ≡ mine s k ++ commit s k.number k.begin k.own ∷ []
+  pub order : UnpinsLast v w s
   pub room : FindsNoneFull v w s
 
--- the transaction is over, without a commit, and its session isn't pinned
+-- the transaction is over, without a commit, and then its session isn't pinned any more
 pub record Ends (v w : View) (s : ℕ) : Type 0 where
   pub called : Called v w s
   pub lists : SameLists (knows v s) (knows w s)
@@ -277,6 +307,7 @@ pub record Ends (v w : View) (s : ℕ) : Type 0 where
   pub unpinned : TakesPinAway (knows v s) (knows w s)
   pub own : (knows w s).own ≡ []
   pub mine : mine s (knows w s) ≡ mine s (knows v s)
+  pub order : UnpinsLast v w s
   pub room : FindsNoneFull v w s
 
 -- the commit word was found held: never by a seat that hosts every session while none of them has the turn. The pin stays

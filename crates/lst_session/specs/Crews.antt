@@ -21,9 +21,9 @@ use Rattle.lst_rule.specs.PageSteps.{stock_of}
 use Rattle.lst_rule.specs.Stores.{IsSeatOf}
 use Rattle.lst_rule.specs.Surveys.{Surveyed}
 use Rattle.lst_retire.specs.Frames.{AreSpares}
-use Rattle.lst_crew_state.specs.Crews.{IsIdle, IsPinnedWhereOpen}
-use Rattle.lst_crew_state.specs.Folding.{AreFolded}
-use Rattle.lst_crew_state.specs.Telling.{told_store, told_pages}
+use Rattle.lst_refinement.specs.Crews.{IsIdle, IsPinnedWhereOpen}
+use Rattle.lst_refinement.specs.Folding.{AreFolded}
+use Rattle.lst_refinement.specs.Telling.{told_store, told_pages}
 use Rattle.lst_session.specs.Calls.{OnlyLooks, LoadsNoTail}
 use Rattle.lst_session.specs.declared.crew.Crew.{Crew}
 

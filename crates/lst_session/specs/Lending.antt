@@ -1,14 +1,22 @@
--- What becomes of a session, or of a crew, whose seat is lent, and of sessions that are lent.
-use Rattle.std.specs.Prelude.{List, ◌++◌, length, take, drop, Result}
+-- What a reader is that a session or a crew lends, and what becomes of a session, or of a crew, whose seat is lent, and of sessions that are lent.
+use Rattle.std.specs.Prelude.{◌≡◌, ℕ, List, ◌++◌, length, take, drop, Result}
 use Rattle.std.specs.Borrow.{MutBor, Fml, Array, Lends, LendsIfOk}
+use Rattle.lst_rule.specs.Rule.{knows}
 use Rattle.lst_rule.specs.Seats.{Sitting}
+use Rattle.lst_rule.specs.declared.store.Store.{Store}
 use Rattle.lst_rule.specs.contracts.seat.Seat.{the_row as seat_row}
 use Rattle.lst_txn.specs.declared.ends.Idle.{Idle}
+use Rattle.lst_walk.specs.Readers.{IsReader}
 use Rattle.lst_session.specs.declared.session.Session.{Session}
 use Rattle.lst_session.specs.contracts.session.Session.{the_row as session_row}
 use Rattle.lst_session.specs.declared.crew.Crew.{Crew}
 use Rattle.lst_session.specs.contracts.crew.Crew.{the_row as crew_row}
 use Rattle.lst_session.specs.contracts.passes.Sessions.{the_row as sessions_row}
+
+-- a reader as a session or a crew lends it between two calls: its transaction is open, and it has no record in hand
+pub record IsLent (store : Store) (seat : Sitting) (s : ℕ) : Type 0 where
+  pub reader : IsReader store seat s
+  pub free : (knows seat.view s).placing.hand ≡ 0
 
 abbrev pub with_seat : Session → Sitting → Session
 with_seat session seat = record session { seat = seat }

@@ -14,7 +14,7 @@ use Rattle.lst_rule.specs.Seats.{Sitting}
 use Rattle.lst_rule.specs.Stores.{IsSeatOf}
 use Rattle.lst_rule.specs.Surveys.{HostsAll}
 use Rattle.lst_retire.specs.Frames.{AreSpares}
-use Rattle.lst_sights.specs.Copies.{Includes}
+use Rattle.lst_rule.specs.Copies.{Includes}
 use Rattle.lst_seat.specs.Seats.{IsPartOf, HasSeenAll}
 use Rattle.lst_session.specs.Crews.{store_told}
 use Rattle.lst_session.specs.declared.passes.Merger.{Merger}
@@ -110,9 +110,14 @@ pub record HearMore (store : Store) (old new : List Session) : Type 0 where
   pub count : length new ≡ length old
   pub each : (i : ℕ) (none : Session) → i < length old → HearsMore store (slice_index_or old i none) (slice_index_or new i none)
 
--- the session at the place i of the list has seen all that the one at the place j had seen
-abbrev pub HasHeardOf : List Session → List Session → ℕ → ℕ → Type 0
-HasHeardOf old new i j = (none : Session) → Extends (seen_at new i none) (seen_at old j none)
+-- the session's seat hosts it alone, as that of a session of a crew that is parted does
+abbrev pub IsAlone : Session → Type 0
+IsAlone session = (s : ℕ) → hosts session.seat.view s ≡ eqb s session.number
+
+-- the session at the place i of the list has seen all that the one at the place j had seen. Where that one's seat hosted it alone, it has its facts too
+pub record HasHeardOf (old new : List Session) (i j : ℕ) : Type 0 where
+  pub seen : (none : Session) → Extends (seen_at new i none) (seen_at old j none)
+  pub facts : (none : Session) → IsAlone (slice_index_or old j none) → Includes (known_by (slice_index_or new i none)).facts (known_by (slice_index_or old j none)).facts
 
 -- and all that the first n had seen
 abbrev pub HasHeard : List Session → List Session → ℕ → ℕ → Type 0
@@ -122,7 +127,7 @@ HasHeard old new i n = (j : ℕ) → j < n → HasHeardOf old new i j
 abbrev pub HaveHeard : List Session → List Session → ℕ → Type 0
 HaveHeard old new m = (i : ℕ) → i < m → HasHeard old new i (length old)
 
--- of each session only what it has seen and its facts grew, and each has seen all that any of them had seen
+-- of each session only what it has seen and its facts grew, and each has heard of all others
 pub record IsNextPhase (store : Store) (old new : List Session) : Type 0 where
   pub more : HearMore store old new
   pub all : HaveHeard old new (length old)

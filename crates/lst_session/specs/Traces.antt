@@ -14,7 +14,7 @@ use Rattle.lst_core_state.specs.Step.{took, held_off}
 use Rattle.lst_rule.specs.declared.view.View.{View}
 use Rattle.lst_rule.specs.Rule.{knows, hosts}
 use Rattle.lst_rule.specs.Learned.{Possible, Learns, Kept, Made}
-use Rattle.lst_sights.specs.Watching.{Watched}
+use Rattle.lst_rule.specs.Watching.{Watched}
 use Rattle.lst_index.specs.Searches.{IsPlaced, Ended, IsUnseen, Works, Keeps}
 use Rattle.lst_index.specs.Placings.{Drew, DrawsAfterLook, FoundFull, Leaves, LeavesFull}
 use Rattle.lst_txn.specs.Transactions.{Sees, Opens, Commits}
@@ -22,7 +22,7 @@ use Rattle.lst_retire.specs.Pins.{Pins, Unpins}
 use Rattle.lst_write.specs.Holding.{Latches, FindsLatched}
 use Rattle.lst_write.specs.Judgements.{HasJudged, FaultIs}
 use Rattle.lst_write.specs.declared.judgement.JudgeFault.TheVariants as fault
-use Rattle.lst_second.specs.Posting.{Posts, AllPosted}
+use Rattle.lst_rule.specs.Posting.{Posts, AllPosted}
 use Rattle.lst_write.specs.Appending.{Appends, HasWhole, FindsFull, InstallsHeld}
 use Rattle.lst_walk.specs.Pages.{SavesRow}
 use Rattle.lst_walk.specs.Walks.{IsRowOf}

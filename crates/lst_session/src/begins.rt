@@ -3,7 +3,7 @@ ghost use Rattle.std.specs.Prelude.{◌≡◌, ◌≢◌, ◌⊎◌, ℕ, ◌↔
 ghost use Rattle.lst_rule.specs.Rule.{knows, hosts};
 ghost use Rattle.lst_rule.specs.Stores.{IsSeatOf};
 ghost use Rattle.lst_txn.specs.Transactions.{Sees};
-ghost use Rattle.lst_crew_state.specs.Crews.{IsPinnedWhereOpen};
+ghost use Rattle.lst_refinement.specs.Crews.{IsPinnedWhereOpen};
 ghost use Rattle.lst_session.specs.Traces.{Begins, BeginsAsOf};
 
 use lst_model::Time;

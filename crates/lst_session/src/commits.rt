@@ -3,7 +3,7 @@ ghost use Rattle.std.specs.Prelude.{◌≡◌, ◌↔◌, ◌<◌, true, IfOk, O
 ghost use Rattle.lst_rule.specs.Rule.{knows, hosts};
 ghost use Rattle.lst_rule.specs.Stores.{IsSeatOf};
 ghost use Rattle.lst_txn.specs.Transactions.{IsFree};
-ghost use Rattle.lst_crew_state.specs.Crews.{IsIdle, IsPinnedWhereOpen};
+ghost use Rattle.lst_refinement.specs.Crews.{IsIdle, IsPinnedWhereOpen};
 ghost use Rattle.lst_session.specs.Traces.{Closes, Ends, Holds};
 
 use crate::kinds::{CommitRefusal, Outcome};

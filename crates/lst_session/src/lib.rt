@@ -33,6 +33,6 @@ pub use lst_seat::Note;
 pub use lst_txn::{BeginFault as BeginRefusal, Idle as NotBegun};
 pub use passes::{GatherCause, GatherRefusal, Merger, Sessions};
 pub use phases::next_phase;
-pub use reader::Reader;
+pub use reader::{Reader, Reads};
 pub use replies::{commit_reply, merge_reply};
 pub use session::Session;

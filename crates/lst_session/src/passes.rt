@@ -31,6 +31,13 @@ impl Sessions {
         Sessions { items }
     }
 
+    /// The sessions.
+    pub fn as_slice(&self) -> &[Session]
+        ensures { result.now ≡ self.now }
+    {
+        self.items.as_slice()
+    }
+
     /// The sessions, for writing. Afterwards they are as they were left.
     pub fn as_mut_slice(&mut self) -> &mut [Session]
         ensures* lends { sem 𝓛 (LendsSessions self.entry result) }

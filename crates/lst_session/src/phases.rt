@@ -79,7 +79,7 @@ fn hear_all(store: &Store, sessions: &mut [Session])
 }
 
 /// Between two phases of work: lets each session hear a note of every other one, each note being heard before the next one is made. Afterwards
-/// each session has seen all that any of them had seen. Its number, its pin, its open transaction with its begin, its kind and its own writes,
+/// each session has seen all that any of them had seen, and has the facts of each whose seat hosts it alone. Its number, its pin, its open transaction with its begin, its kind and its own writes,
 /// what it drew, latched and wrote, and what it found are as before. It takes no memory.
 pub fn next_phase(store: &Store, sessions: &mut Sessions)
     requires sessions { All (IsPass store.now) sessions.old }

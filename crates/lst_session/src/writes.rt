@@ -1,10 +1,10 @@
-//! A write on the record of a key: under its latch the chain is judged and the row is read, and then the write is installed, or the latch is
+//! A write on the record of a key: under its latch the chain is judged and asked for a row, and then the write is installed, or the latch is
 //! given back.
 ghost use Rattle.std.specs.Prelude.{◌≡◌, ◌⊎◌, ◌↔◌, ◌<◌, true, false, Err, OnOk, IfErr};
 ghost use Rattle.lst_rule.specs.Rule.{knows, hosts};
 ghost use Rattle.lst_rule.specs.Stores.{IsSeatOf};
-ghost use Rattle.lst_sights.specs.Seen.{HasKey};
-ghost use Rattle.lst_crew_state.specs.Crews.{IsIdle};
+ghost use Rattle.lst_rule.specs.Seen.{HasKey};
+ghost use Rattle.lst_refinement.specs.Crews.{IsIdle};
 ghost use Rattle.lst_write.specs.Cells.{IsActFor};
 ghost use Rattle.lst_write.specs.Holding.{HasLatch};
 ghost use Rattle.lst_write.specs.Judgements.{HasChain, HasJudged};
@@ -16,7 +16,7 @@ use lst_index::{find, place};
 use lst_model::{Act, Key};
 use lst_rule::{RecordId, Seat, Store};
 use lst_second::post_all;
-use lst_walk::row;
+use lst_walk::has_row;
 use lst_write::{JudgeFault, append, install, judge, latch, release};
 
 /// Whether an act fits the row of a record that the transaction sees: a put where there is none, any other where there is one.
@@ -38,7 +38,7 @@ fn agree(
 {
     seat.consider();
     let _ = key;
-    let is_there = row(store, seat, s, rec).is_some();
+    let is_there = has_row(store, seat, s, rec);
     if is_there == is_put(act) {
         return Err(misfit(act));
     }

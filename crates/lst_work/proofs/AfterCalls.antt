@@ -14,7 +14,7 @@ use Rattle.lst_rule.specs.Rule.{knows}
 use Rattle.lst_session.specs.Traces.{is_put}
 use Rattle.lst_session.specs.Lines.{CanBegin, BeginLeaves, AsOfLeaves, GetLeaves, WriteLeaves, AbortLeaves}
 use Rattle.lst_scan.specs.Lines.{SumLeaves, CountLeaves, ScanLeaves, FindLeaves}
-use Rattle.lst_legal_work.specs.Lines.{AfterLine}
+use Rattle.lst_work_laws.specs.Lines.{AfterLine}
 use Rattle.lst_scan.specs.Sessions.{EndLeaves, AfterCall}
 use Rattle.lst_work.proofs.Refusing.{idle_line, active_line, spent_line}
 use Rattle.lst_work.proofs.Beginning.{begun_now, begun_then, ahead}

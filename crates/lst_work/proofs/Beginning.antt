@@ -10,8 +10,8 @@ use Rattle.lst_session.specs.Calls.{Begins, IsAhead}
 use Rattle.lst_replies.specs.declared.states.SessionState.{SessionState}
 use Rattle.lst_replies.specs.States.{with_begun}
 use Rattle.lst_replies.specs.Explained.{begin_cause}
-use Rattle.lst_legal_work.specs.Lines.{session_told, Tells, AfterLine}
-use Rattle.lst_legal_work.proofs.Telling.{closed_told, later_length}
+use Rattle.lst_work_laws.specs.Lines.{session_told, Tells, AfterLine}
+use Rattle.lst_work_laws.proofs.Telling.{closed_told, later_length}
 use Rattle.lst_work.proofs.Refusing.{not_true, refused, kept_drawn}
 
 module _ (v w : View) (s : ℕ) where

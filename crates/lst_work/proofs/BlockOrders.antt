@@ -5,7 +5,7 @@ use Rattle.std.proofs.lemmas.List.Elements.{filter_map-append}
 use Rattle.lst_model.specs.declared.lines.Line.{Line}
 use Rattle.lst_model.specs.declared.replies.Reply.{Reply}
 use Rattle.lst_replies.specs.Runs.{speaker_of}
-use Rattle.lst_legal_work.specs.Orders.{replies_from, queue_of}
+use Rattle.lst_work_laws.specs.Orders.{replies_from, queue_of}
 use Rattle.lst_work.specs.declared.blocks.Block.{Block}
 use Rattle.lst_work.specs.Orders.{queue_at, lines_from, AreInOrder}
 use Rattle.lst_work.specs.Blocks.{block_length, blocks_of, queues_of, parts_at, AreAsLong, AreInBlockOrder}

@@ -16,10 +16,10 @@ use Rattle.lst_rule.specs.declared.view.View.{View}
 use Rattle.lst_session.specs.declared.session.Session.{Session}
 use Rattle.lst_session.specs.declared.passes.Merger.{Merger}
 use Rattle.lst_session.specs.Parting.{IsMergerOf}
-use Rattle.lst_legal_work.specs.Runs.{IsWithinPhase}
-use Rattle.lst_legal_work.specs.Runs.{CanRun}
-use Rattle.lst_legal_work.specs.Whole.{AreAll, IsPhase}
-use Rattle.lst_legal_work.specs.Phases.{HaveHeard, RunThrough, script_of, HaveRunThrough}
+use Rattle.lst_work_laws.specs.Runs.{IsWithinPhase}
+use Rattle.lst_work_laws.specs.Runs.{CanRun}
+use Rattle.lst_work_laws.specs.Whole.{AreAll, IsPhase}
+use Rattle.lst_work_laws.specs.Phases.{HaveHeard, RunThrough, script_of, HaveRunThrough}
 use Rattle.lst_work.specs.Parts.{AreWithin, EndsAt, IsPart, AreThrough, AreBetween}
 
 -- ---- lists

@@ -6,7 +6,7 @@ use Rattle.lst_core_state.specs.declared.known.Known.{Known}
 use Rattle.lst_rule.specs.declared.store.Store.{Store}
 use Rattle.lst_session.specs.declared.session.Session.{Session}
 use Rattle.lst_session.specs.Parting.{known_by, HearsMore, IsNextPhase}
-use Rattle.lst_legal_work.specs.Phases.{Hears, HaveHeard}
+use Rattle.lst_work_laws.specs.Phases.{Hears, HaveHeard}
 
 hears_by : (store : Store) (one two : Session) → HearsMore store one two → Hears one two
 hears_by store one two h = let is = h.knows.is in record {
@@ -35,7 +35,7 @@ hears_by store one two h = let is = h.knows.is in record {
 have_heard : (store : Store) (old new : List Session) → IsNextPhase store old new → HaveHeard old new
 have_heard store old new next = record {
   hears = λ i d low. hears_by store (get_or old i d) (get_or new i d) (next.more.each i d low);
-  all = λ i j d e low lower. subst (λ (session : Session). Extends (known_by (get_or new i d)).seen (known_by session).seen) (get_or_default old j d e lower) (next.all i low j lower d);
+  all = λ i j d e low lower. subst (λ (session : Session). Extends (known_by (get_or new i d)).seen (known_by session).seen) (get_or_default old j d e lower) ((next.all i low j lower).seen d);
 }
 
 -- the same of lists that are equal to these

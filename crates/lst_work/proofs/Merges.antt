@@ -17,7 +17,7 @@ use Rattle.lst_session.specs.Lines.{MergeLeaves}
 use Rattle.lst_session.specs.Parting.{IsMergerOf}
 use Rattle.lst_session.specs.Replies.{merge_reply}
 use Rattle.lst_work.specs.declared.merging.MergeQueue.{MergeQueue}
-use Rattle.lst_legal_work.specs.Merges.{is_merge, merges_of, Merging}
+use Rattle.lst_work_laws.specs.Merges.{is_merge, merges_of, Merging}
 use Rattle.lst_work.specs.Blocks.{block_length, blocks_of, joined}
 use Rattle.lst_work.specs.Merges.{Merged, MergedBlocks, IsMerging, IsMergingBlocks, merge_parts}
 use Rattle.lst_work.proofs.InBlocks.{cut_on, joined_blocks}

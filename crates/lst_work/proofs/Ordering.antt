@@ -9,7 +9,7 @@ use Rattle.lst_walk.proofs.Lists.{take_whole}
 use Rattle.lst_model.specs.declared.lines.Line.{Line}
 use Rattle.lst_model.specs.declared.replies.Reply.{Reply}
 use Rattle.lst_replies.specs.Runs.{speaker_of}
-use Rattle.lst_legal_work.specs.Orders.{queue_of, replies_from}
+use Rattle.lst_work_laws.specs.Orders.{queue_of, replies_from}
 use Rattle.lst_work.specs.Orders.{queue_at, lines_from, AreInOrder, IsOrdering}
 
 -- ---- a reply that is taken

@@ -24,13 +24,13 @@ use Rattle.lst_txn.specs.declared.begins.BeginFault.{BeginFault}
 use Rattle.lst_txn.specs.declared.begins.BeginFault.TheVariants.{Active, Spent, Future}
 use Rattle.lst_scan.specs.Scans.{table_seen, Places, between}
 use Rattle.lst_scan.proofs.Parts.{total_split, whole}
-use Rattle.lst_sights.proofs.Keying.{record_low}
+use Rattle.lst_rule.proofs.Keying.{record_low}
 use Rattle.lst_session.specs.declared.session.Session.{Session}
 use Rattle.lst_session.specs.Calls.{Called, Begins, Ends, OnlyLooks}
 use Rattle.lst_session.specs.Parting.{known_by, seen_at}
 use Rattle.lst_session.specs.Passes.{IsReady}
 use Rattle.lst_session.proofs.Waiting.{called_on}
-use Rattle.lst_legal_work.proofs.Telling.{extends_on}
+use Rattle.lst_work_laws.proofs.Telling.{extends_on}
 use Rattle.lst_work.specs.ParSums.{CanBeginAsOf, table_of, HasSeenFirst, HaveSeenAlike, share_start, IsSumOf, CanShare, HasReadOnce, HasSummed, HaveSummed, HaveShared}
 
 -- ---- one session

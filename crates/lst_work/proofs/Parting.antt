@@ -10,7 +10,7 @@ use Rattle.lst_work.specs.Blocks.{queues_of, parts_at}
 use Rattle.lst_work.specs.Orders.{queue_at}
 use Rattle.lst_work.specs.Workers.{parts_of}
 use Rattle.lst_work.specs.Hiring.{AreFirst, HaveSaid, sessions_of, said_in}
-use Rattle.lst_legal_work.proofs.Lists.{element}
+use Rattle.lst_work_laws.proofs.Lists.{element}
 
 -- ---- a number is below another, or it is that, or it is above it
 

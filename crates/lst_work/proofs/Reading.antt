@@ -14,8 +14,8 @@ use Rattle.lst_rule.specs.Rule.{knows}
 use Rattle.lst_session.specs.Calls.{Gets, Commits, Ends}
 use Rattle.lst_replies.specs.declared.states.SessionState.{SessionState}
 use Rattle.lst_replies.specs.Explained.{EndsBy}
-use Rattle.lst_legal_work.specs.Lines.{transaction_told, session_told, Tells, AfterLine}
-use Rattle.lst_legal_work.proofs.Telling.{opened_told, same_told, extends_on, later_length, snapshot_later, at_place}
+use Rattle.lst_work_laws.specs.Lines.{transaction_told, session_told, Tells, AfterLine}
+use Rattle.lst_work_laws.proofs.Telling.{opened_told, same_told, extends_on, later_length, snapshot_later, at_place}
 use Rattle.lst_work.proofs.Refusing.{kept_drawn}
 
 module _ (v w : View) (s : ℕ) where

@@ -22,8 +22,8 @@ use Rattle.lst_replies.specs.Runs.{write_of, key_of}
 use Rattle.lst_replies.specs.States.{time_told}
 use Rattle.lst_replies.specs.Explained.{begin_cause}
 use Rattle.lst_replies.specs.ReplyKinds.{begins, can_answer}
-use Rattle.lst_legal_work.specs.Lines.{transaction_told, session_told, Tells, LeavesWrites, LeavesDrawn, IsFound, AfterLine}
-use Rattle.lst_legal_work.proofs.Telling.{opened_told, closed_told, same_told}
+use Rattle.lst_work_laws.specs.Lines.{transaction_told, session_told, Tells, LeavesWrites, LeavesDrawn, IsFound, AfterLine}
+use Rattle.lst_work_laws.proofs.Telling.{opened_told, closed_told, same_told}
 
 -- ---- small things
 

@@ -24,13 +24,13 @@ use Rattle.lst_session.specs.declared.session.Session.{Session}
 use Rattle.lst_session.specs.Crews.{IsCrewOf, store_told}
 use Rattle.lst_session.specs.Parting.{known_by, IsMergerOf, IsMissing, IsGathered}
 use Rattle.lst_session.specs.Passes.{IsReady}
-use Rattle.lst_legal_work.specs.Legal.{HaveDoneNothing, AreTogether, WorkedScriptIsLegal}
-use Rattle.lst_legal_work.specs.Whole.{AreAll}
-use Rattle.lst_legal_work.specs.Worked.{IsWorked}
-use Rattle.lst_legal_work.specs.Works.{SessionWorks, MergerWorks, Works}
-use Rattle.lst_legal_work.proofs.Lists.{element}
-use Rattle.lst_legal_work.proofs.Together.{together}
-use Rattle.lst_legal_work.proofs.Worked.{works_looked, merger_as}
+use Rattle.lst_work_laws.specs.Legal.{HaveDoneNothing, AreTogether, WorkedScriptIsLegal}
+use Rattle.lst_work_laws.specs.Whole.{AreAll}
+use Rattle.lst_work_laws.specs.Worked.{HaveSeenTheHistory, IsWorked}
+use Rattle.lst_work_laws.specs.Works.{SessionWorks, MergerWorks, Works}
+use Rattle.lst_work_laws.proofs.Lists.{element}
+use Rattle.lst_work_laws.proofs.Together.{together}
+use Rattle.lst_work_laws.proofs.Worked.{works_looked, merger_as}
 use Rattle.lst_work.specs.Reporting.{KnowTheOpening, IsReported}
 
 -- no session is missing among all of a store
@@ -55,7 +55,7 @@ module _ (law : WorkedScriptIsLegal) (layout : Layout) (lines : List Line) (stor
     (opened : store.layout ≡ layout) (nothing : HaveDoneNothing store old first.seat.view) (knew : KnowTheOpening layout.limits old first.seat.view)
     (fits : All (LineFits layout.limits.sessions layout.limits.ranges layout.limits.columns) lines)
     (all : AreAll store new) (works : Works store lines old new first.seat.view last.seat.view replies) (merger : IsMergerOf store last)
-    (together_in : IsGathered new last.seat.view gathered.seat.view) (gathered_of : IsCrewOf store gathered) (r : IsReported store replies gathered report crew) where
+    (together_in : IsGathered new last.seat.view gathered.seat.view) (gathered_of : IsCrewOf store gathered) (r : IsReported store replies gathered report crew) (seen : HaveSeenTheHistory crew.seat.view) where
   works_told : Works store lines old new first.seat.view last.seat.view report.replies
   works_told = subst (λ (rs : List (Option ℕ × Reply)). Works store lines old new first.seat.view last.seat.view rs) (sym r.tells) works
 
@@ -94,6 +94,7 @@ module _ (law : WorkedScriptIsLegal) (layout : Layout) (lines : List Line) (stor
     opened = opened;
     crew_of = r.crew_of;
     whole = r.whole;
+    seen = seen;
     legal = subst (λ (l : Limits). IsLegal l lines report (store_told crew.seat.view).history) limits_are
         (law store lines old new first.seat.view last.seat.view crew.seat.view report nothing all fits_store works_told t r.possible r.stamps);
     sessions = session_works;

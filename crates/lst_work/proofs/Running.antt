@@ -11,8 +11,8 @@ use Rattle.lst_model.specs.declared.replies.Reply.{Reply}
 use Rattle.lst_rule.specs.declared.view.View.{View}
 use Rattle.lst_replies.specs.Runs.{names, speaker_of}
 use Rattle.lst_work.specs.declared.workers.Worker.{Worker}
-use Rattle.lst_legal_work.specs.Lines.{AfterLine}
-use Rattle.lst_legal_work.specs.Runs.{lines_of, Runs}
+use Rattle.lst_work_laws.specs.Lines.{AfterLine}
+use Rattle.lst_work_laws.specs.Runs.{lines_of, Runs}
 use Rattle.lst_rule.specs.declared.store.Store.{Store}
 use Rattle.lst_session.specs.Passes.{IsReady}
 use Rattle.lst_session.specs.declared.session.Session.{Session}

@@ -19,8 +19,8 @@ use Rattle.lst_replies.specs.States.{after_call, time_told}
 use Rattle.lst_replies.specs.ReplyKinds.{can_answer}
 use Rattle.lst_scan.specs.Scans.{table_seen}
 use Rattle.lst_scan.specs.Lines.{HasScanned}
-use Rattle.lst_legal_work.specs.Lines.{transaction_told, session_told, Tells, LeavesCommits, LeavesWrites, LeavesPins, IsFound, AfterLine}
-use Rattle.lst_legal_work.proofs.Telling.{opened_told, same_told, extends_on, snapshot_later}
+use Rattle.lst_work_laws.specs.Lines.{transaction_told, session_told, Tells, LeavesCommits, LeavesWrites, LeavesPins, IsFound, AfterLine}
+use Rattle.lst_work_laws.proofs.Telling.{opened_told, same_told, extends_on, snapshot_later}
 use Rattle.lst_work.proofs.Refusing.{kept_drawn, at_once}
 
 module _ (v w : View) (s : ℕ) where

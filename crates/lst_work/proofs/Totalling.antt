@@ -38,17 +38,17 @@ use Rattle.lst_session.specs.Crews.{IsCrewOf, TakesStock, store_told, state_told
 use Rattle.lst_session.specs.Lines.{IsOpen, IsSpent, CanBegin}
 use Rattle.lst_session.specs.Parting.{known_by, seen_at, IsParted, IsGathered}
 use Rattle.lst_session.specs.Passes.{IsReady}
-use Rattle.lst_legal_work.specs.Laws.{commits_told}
-use Rattle.lst_legal_work.specs.Lines.{session_told, transaction_told}
-use Rattle.lst_legal_work.specs.Whole.{AreAll}
-use Rattle.lst_legal_work.specs.Worked.{IsWorked}
-use Rattle.lst_legal_work.proofs.Lists.{element}
-use Rattle.lst_legal_work.proofs.Owners.{AreOwned, commits_owned}
-use Rattle.lst_legal_work.proofs.Telling.{extends_on, opened_told, closed_told}
-use Rattle.lst_legal_work.proofs.Weaving.{own_state}
-use Rattle.lst_legal_work.proofs.Worked.{merger_as}
+use Rattle.lst_work_laws.specs.Laws.{commits_told}
+use Rattle.lst_work_laws.specs.Lines.{session_told, transaction_told}
+use Rattle.lst_work_laws.specs.Whole.{AreAll}
+use Rattle.lst_work_laws.specs.Worked.{HaveSeenTheHistory, IsWorked}
+use Rattle.lst_work_laws.proofs.Lists.{element}
+use Rattle.lst_work_laws.proofs.Owners.{AreOwned, commits_owned}
+use Rattle.lst_work_laws.proofs.Telling.{extends_on, opened_told, closed_told}
+use Rattle.lst_work_laws.proofs.Weaving.{own_state}
+use Rattle.lst_work_laws.proofs.Worked.{merger_as}
 use Rattle.lst_work.specs.ParSums.{CanBeginAsOf, HasReadOnce, HaveSummed}
-use Rattle.lst_work.specs.Totals.{state_behind, MayBeginAgain, MayNotBegin, table_told, HaveSeenTheHistory, MayAllBegin, HaveReadOnce, IsSummed, HasTotal, HasNoTotal, IsTotal, IsLeftBehind, IsWorkedTotal}
+use Rattle.lst_work.specs.Totals.{state_behind, MayBeginAgain, MayNotBegin, table_told, MayAllBegin, HaveReadOnce, IsSummed, HasTotal, HasNoTotal, IsTotal, IsLeftBehind, IsWorkedTotal}
 
 -- ---- histories
 

@@ -16,18 +16,18 @@ use Rattle.lst_rule.specs.declared.store.Store.{Store}
 use Rattle.lst_session.specs.declared.session.Session.{Session}
 use Rattle.lst_session.specs.Passes.{IsReady}
 use Rattle.lst_work.specs.declared.workers.Worker.{Worker}
-use Rattle.lst_legal_work.specs.Runs.{lines_of, Runs}
-use Rattle.lst_legal_work.specs.Merges.{merges_of, Merging}
-use Rattle.lst_legal_work.specs.Runs.{CanRun}
+use Rattle.lst_work_laws.specs.Runs.{lines_of, Runs}
+use Rattle.lst_work_laws.specs.Merges.{merges_of, Merging}
+use Rattle.lst_work_laws.specs.Runs.{CanRun}
 use Rattle.lst_work.specs.declared.blocks.Block.{Block}
 use Rattle.lst_work.specs.Blocks.{block_length, first_blocks, blocks_of, joined, parts_at, AreAsLong, AreInBlockOrder}
 use Rattle.lst_work.specs.Workers.{AreReady, HaveRun, parts_of}
-use Rattle.lst_legal_work.specs.Orders.{queue_of, replies_from}
+use Rattle.lst_work_laws.specs.Orders.{queue_of, replies_from}
 use Rattle.lst_work.specs.Orders.{queue_at, lines_from, AreInOrder}
 use Rattle.lst_work.specs.Hiring.{IsNew, AreHired, HaveSaid, sessions_of, replies_of, said_in}
-use Rattle.lst_legal_work.specs.Whole.{AreAll, IsPhase}
-use Rattle.lst_legal_work.proofs.Lists.{element}
-use Rattle.lst_legal_work.proofs.Weaving.{queue_is}
+use Rattle.lst_work_laws.specs.Whole.{AreAll, IsPhase}
+use Rattle.lst_work_laws.proofs.Lists.{element}
+use Rattle.lst_work_laws.proofs.Weaving.{queue_is}
 use Rattle.lst_work.proofs.InBlocks.{joined_blocks}
 use Rattle.lst_work.proofs.Parting.{by_place, said_below, said_last, said_past}
 

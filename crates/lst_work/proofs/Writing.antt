@@ -30,9 +30,9 @@ use Rattle.lst_replies.specs.Runs.{write_of, key_of, is_insert_call, takes_no_re
 use Rattle.lst_replies.specs.States.{after_call, time_told, with_write}
 use Rattle.lst_replies.specs.Explained.{state_cause, is_not_indexed_reply, WriteIsAnswered}
 use Rattle.lst_replies.specs.ReplyKinds.{begins, can_answer}
-use Rattle.lst_legal_work.specs.Lines.{transaction_told, session_told, Tells, LeavesWrites, LeavesLatched, IsLastLatch, IsFound, AfterLine}
+use Rattle.lst_work_laws.specs.Lines.{transaction_told, session_told, Tells, LeavesWrites, LeavesLatched, IsLastLatch, IsFound, AfterLine}
 use Rattle.lst_session.specs.Replies.{write_cause}
-use Rattle.lst_legal_work.proofs.Telling.{opened_told, same_told, extends_on, snapshot_later, wrote_later, wrote_low}
+use Rattle.lst_work_laws.proofs.Telling.{opened_told, same_told, extends_on, snapshot_later, wrote_later, wrote_low}
 use Rattle.lst_work.proofs.Refusing.{at_once, idle_line}
 
 -- the call that asks for the act on the key

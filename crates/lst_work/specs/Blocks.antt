@@ -3,7 +3,7 @@ use Rattle.std.specs.Prelude.{◌≡◌, ℕ, zero, suc, List, [], ◌∷◌, Op
 use Rattle.lst_model.specs.declared.lines.Line.{Line}
 use Rattle.lst_model.specs.declared.replies.Reply.{Reply}
 use Rattle.lst_replies.specs.Runs.{speaker_of}
-use Rattle.lst_legal_work.specs.Orders.{replies_from}
+use Rattle.lst_work_laws.specs.Orders.{replies_from}
 use Rattle.lst_work.specs.Orders.{queue_at, lines_from}
 use Rattle.lst_work.specs.declared.blocks.Block.{Block}
 

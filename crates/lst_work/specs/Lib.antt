@@ -7,3 +7,5 @@ pub mod Parts
 pub mod Reporting
 pub mod Totals
 pub mod Workers
+pub mod Loaded
+pub mod Scripted

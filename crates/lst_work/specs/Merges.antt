@@ -5,7 +5,7 @@ use Rattle.lst_model.specs.declared.replies.Reply.{Reply}
 use Rattle.lst_rule.specs.declared.store.Store.{Store}
 use Rattle.lst_session.specs.declared.passes.Merger.{Merger}
 use Rattle.lst_session.specs.Parting.{IsMergerOf}
-use Rattle.lst_legal_work.specs.Merges.{merges_of, Merging}
+use Rattle.lst_work_laws.specs.Merges.{merges_of, Merging}
 use Rattle.lst_work.specs.Blocks.{blocks_of, joined}
 use Rattle.lst_work.specs.declared.merging.MergeQueue.{MergeQueue}
 

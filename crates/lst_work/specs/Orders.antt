@@ -5,7 +5,7 @@ use Rattle.lst_model.specs.declared.lines.Line.{Line}
 use Rattle.lst_model.specs.declared.replies.Reply.{Reply}
 use Rattle.lst_model.specs.declared.replies.Reply.TheVariants.{Silent}
 use Rattle.lst_replies.specs.Runs.{speaker_of}
-use Rattle.lst_legal_work.specs.Orders.{queue_of, replies_from}
+use Rattle.lst_work_laws.specs.Orders.{queue_of, replies_from}
 
 -- what stands in a queue
 abbrev pub queue_at : List (List Reply) → ℕ → List Reply

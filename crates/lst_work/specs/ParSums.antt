@@ -1,5 +1,5 @@
 -- Sessions that add up a column side by side, each over its share of the ranges.
-use Rattle.std.specs.Prelude.{◌≡◌, ℕ, ◌+◌, ◌-◌, ◌*◌, ◌/◌, ◌^◌, ◌<◌, ◌≤◌, List, [], ◌++◌, Some, false, eqb, length, slice_index_or}
+use Rattle.std.specs.Prelude.{◌≡◌, ℕ, ◌+◌, ◌-◌, ◌*◌, ◌/◌, ◌^◌, ◌<◌, ◌≤◌, List, [], ◌++◌, Some, false, length, slice_index_or}
 use Rattle.std.specs.List.{All}
 use Rattle.lst_model.specs.declared.commits.Commit.{Commit}
 use Rattle.lst_model.specs.Cells.{Cell}
@@ -14,15 +14,16 @@ use Rattle.lst_rule.specs.Learned.{Possible}
 use Rattle.lst_rule.specs.Rule.{knows, hosts}
 use Rattle.lst_rule.specs.Seats.{Sitting}
 use Rattle.lst_rule.specs.Surveys.{HostsAll}
-use Rattle.lst_sights.specs.Copies.{Includes}
-use Rattle.lst_sights.specs.Seen.{HasKey}
+use Rattle.lst_rule.specs.Copies.{Includes}
+use Rattle.lst_rule.specs.Seen.{HasKey}
 use Rattle.lst_scan.specs.Scans.{between}
 use Rattle.lst_seat.specs.Seats.{Tells, Hears}
 use Rattle.lst_session.specs.declared.passes.Merger.{Merger}
 use Rattle.lst_session.specs.declared.session.Session.{Session}
 use Rattle.lst_session.specs.Calls.{Called, SameLists}
 use Rattle.lst_session.specs.Lines.{CanBegin}
-use Rattle.lst_session.specs.Parting.{IsPass, known_by, IsParted, HearMore}
+use Rattle.lst_session.specs.Crews.{store_told}
+use Rattle.lst_session.specs.Parting.{IsPass, IsAlone, known_by, IsParted, IsGathered, HearMore, IsNextPhase}
 use Rattle.lst_session.specs.Passes.{IsReady}
 
 -- ---- before
@@ -120,9 +121,15 @@ abbrev pub PartedHaveSeenAlike : Type 0
 PartedHaveSeenAlike = (store : Store) (v : View) (sessions : List Session) (merger : Merger) (time : ℕ) → IsParted store v sessions merger → Possible v → HostsAll v
     → ((s : ℕ) → s < v.limits.sessions → time ≤ length (knows v s).seen) → HaveSeenAlike time sessions
 
--- the session's seat hosts it alone, as that of a session of a crew that is parted does
-abbrev pub IsAlone : Session → Type 0
-IsAlone session = (s : ℕ) → hosts session.seat.view s ≡ eqb s session.number
+-- so have those of a crew that was gathered and is parted again, up to each time of its history
+abbrev pub GatheredHaveSeenAlike : Type 0
+GatheredHaveSeenAlike = (store : Store) (gathered : List Session) (m w : View) (sessions : List Session) (merger : Merger) (time : ℕ) → IsGathered gathered m w → IsParted store w sessions merger → Possible w
+    → time ≤ length (store_told w).history → HaveSeenAlike time sessions
+
+-- and those that have heard of each other between two phases, up to each time that one of them had seen before whose seat hosts it alone
+abbrev pub PhasesSeeAlike : Type 0
+PhasesSeeAlike = (store : Store) (old new : List Session) (i : ℕ) (none : Session) (time : ℕ) → IsNextPhase store old new → i < length old → IsPass store (slice_index_or old i none) → IsAlone (slice_index_or old i none)
+    → Possible (slice_index_or old i none).seat.view → time ≤ length (known_by (slice_index_or old i none)).seen → HaveSeenAlike time new
 
 -- the session has seen first what the note tells, and its facts have those of the note
 pub record KnowsNote (note : View) (session : Session) : Type 0 where

@@ -9,10 +9,10 @@ use Rattle.lst_rule.specs.declared.view.View.{View}
 use Rattle.lst_session.specs.declared.session.Session.{Session}
 use Rattle.lst_session.specs.declared.passes.Merger.{Merger}
 use Rattle.lst_session.specs.Parting.{IsMergerOf}
-use Rattle.lst_legal_work.specs.Runs.{IsWithinPhase}
-use Rattle.lst_legal_work.specs.Phases.{HaveRunThrough}
-use Rattle.lst_legal_work.specs.Whole.{AreAll, IsPhase}
-use Rattle.lst_legal_work.specs.Runs.{CanRun}
+use Rattle.lst_work_laws.specs.Runs.{IsWithinPhase}
+use Rattle.lst_work_laws.specs.Phases.{HaveRunThrough}
+use Rattle.lst_work_laws.specs.Whole.{AreAll, IsPhase}
+use Rattle.lst_work_laws.specs.Runs.{CanRun}
 
 -- no phase ends from the one place up to and without the other
 abbrev pub AreWithin : List Line → ℕ → ℕ → Type 0

@@ -20,9 +20,9 @@ use Rattle.lst_replies.specs.States.{state_of, unbegun}
 use Rattle.lst_session.specs.declared.crew.Crew.{Crew}
 use Rattle.lst_session.specs.Crews.{IsCrewOf, store_told}
 use Rattle.lst_session.specs.Lines.{IsOpen, IsSpent, CanBegin}
-use Rattle.lst_legal_work.specs.Laws.{commits_told}
-use Rattle.lst_legal_work.specs.Worked.{IsWorked}
-use Rattle.lst_legal_work.specs.Works.{MergerWorks}
+use Rattle.lst_work_laws.specs.Laws.{commits_told}
+use Rattle.lst_work_laws.specs.Worked.{HaveSeenTheHistory, IsWorked}
+use Rattle.lst_work_laws.specs.Works.{MergerWorks}
 use Rattle.lst_work.specs.ParSums.{HasReadOnce}
 
 -- ---- the states behind a script
@@ -45,11 +45,6 @@ MayNotBegin limits state = ((transaction : Transaction) × (state.current ≡ So
 -- the table that the commits of the store make
 abbrev pub table_told : View → Rows
 table_told v = table_at (store_told v).history (length (store_told v).history)
-
--- the view knows each word, and each session has seen the whole history
-pub record HaveSeenTheHistory (v : View) : Type 0 where
-  pub whole : v.whole ≡ true
-  pub seen : (s : ℕ) → s < v.limits.sessions → (knows v s).seen ≡ (store_told v).history
 
 -- each session of the view may begin one more transaction
 abbrev pub MayAllBegin : View → Type 0

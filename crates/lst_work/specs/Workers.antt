@@ -6,7 +6,7 @@ use Rattle.lst_model.specs.declared.replies.Reply.{Reply}
 use Rattle.lst_rule.specs.declared.store.Store.{Store}
 use Rattle.lst_session.specs.Passes.{IsReady}
 use Rattle.lst_work.specs.declared.workers.Worker.{Worker}
-use Rattle.lst_legal_work.specs.Runs.{lines_of, Runs}
+use Rattle.lst_work_laws.specs.Runs.{lines_of, Runs}
 use Rattle.lst_work.specs.Blocks.{blocks_of, joined}
 
 -- The worker has run its session's lines among these, and has put their replies behind those that it had.

@@ -8,7 +8,7 @@ ghost use Rattle.lst_work.specs.Blocks.{block_length, queues_of, AreAsLong, AreI
 
 use crate::orders::put_in_order;
 use lst_model::{Line, Reply};
-use lst_queue::ReplyQueue;
+use lst_reply_queue::ReplyQueue;
 use std::sync::Wait;
 use std::thread::{Threads, join_mut};
 

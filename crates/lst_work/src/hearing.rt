@@ -1,7 +1,7 @@
 //! Between two phases the sessions hear of each other.
 ghost use Rattle.std.specs.Prelude.{◌≡◌};
-ghost use Rattle.lst_legal_work.specs.Phases.{HaveHeard};
-ghost use Rattle.lst_legal_work.specs.Whole.{AreAll};
+ghost use Rattle.lst_work_laws.specs.Phases.{HaveHeard};
+ghost use Rattle.lst_work_laws.specs.Whole.{AreAll};
 
 use lst_rule::Store;
 use lst_session::{Session, Sessions, next_phase};

@@ -8,7 +8,7 @@ ghost use Rattle.lst_work.specs.Workers.{parts_of};
 use crate::blocks::Block;
 use crate::workers::Worker;
 use lst_model::OutOfMemory;
-use lst_queue::ReplyQueue;
+use lst_reply_queue::ReplyQueue;
 use lst_session::Session;
 use std::alloc::Global;
 

@@ -3,7 +3,7 @@ ghost use Rattle.std.specs.Prelude.{◌≡◌, IfOk, OnErr};
 ghost use Rattle.lst_model.specs.Lines.{CallFits};
 ghost use Rattle.lst_session.specs.Passes.{IsReady};
 ghost use Rattle.lst_scan.specs.Sessions.{LooksInVain};
-ghost use Rattle.lst_legal_work.specs.Lines.{AfterLine};
+ghost use Rattle.lst_work_laws.specs.Lines.{AfterLine};
 
 use lst_model::{Call, OutOfMemory, Reply};
 use lst_rule::Store;

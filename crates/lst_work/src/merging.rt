@@ -5,13 +5,13 @@ ghost use Rattle.lst_session.specs.Parting.{IsMergerOf};
 ghost use Rattle.lst_session.specs.Replies as replies;
 ghost use Rattle.lst_work.specs.Merges.{Merged, MergedBlocks, HasMerged};
 ghost use Rattle.lst_work.specs.Blocks.{blocks_of};
-ghost use Rattle.lst_legal_work.specs.Runs.{CanRun};
+ghost use Rattle.lst_work_laws.specs.Runs.{CanRun};
 
 use crate::blocks::first_block;
 use crate::gates::Gate;
 use crate::paces::Pace;
 use lst_model::{Line, OutOfMemory, Reply};
-use lst_queue::ReplyQueue;
+use lst_reply_queue::ReplyQueue;
 use lst_rule::Store;
 use lst_session::{Merge, Merger};
 use std::alloc::Global;

@@ -4,10 +4,10 @@ ghost use Rattle.std.specs.List.{All};
 ghost use Rattle.lst_model.specs.Lines.{LineFits};
 ghost use Rattle.lst_replies.specs.Runs.{speaker_of};
 ghost use Rattle.lst_work.specs.Orders.{queue_at, lines_from, placeholder, AreInOrder};
-ghost use Rattle.lst_legal_work.specs.Orders.{queue_of};
+ghost use Rattle.lst_work_laws.specs.Orders.{queue_of};
 
 use lst_model::{Line, OutOfMemory, Reply};
-use lst_queue::ReplyQueue;
+use lst_reply_queue::ReplyQueue;
 
 /// Takes the first reply from a queue.
 fn taken(queues: &mut [ReplyQueue], queue: usize) -> Reply

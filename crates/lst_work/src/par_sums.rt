@@ -12,12 +12,12 @@ ghost use Rattle.lst_session.specs.Crews.{IsCrewOf};
 ghost use Rattle.lst_session.specs.Calls.{Begins, Ends, OnlyLooks};
 ghost use Rattle.lst_session.specs.Parting.{seen_at};
 ghost use Rattle.lst_session.specs.Passes.{IsReady};
-ghost use Rattle.lst_work.specs.ParSums.{CanBeginAsOf, HasSeenFirst, HaveSeenAlike, table_of, share_start, IsSumOf, CanShare, HaveShared, HasSummed, HaveSummed, PartedHaveSeenAlike, TellersKnow, HearersKnow, KnowersHaveSeenAlike, SeenAlikeIsKept, HearersHaveGrown, SummersHaveGrown};
+ghost use Rattle.lst_work.specs.ParSums.{CanBeginAsOf, HasSeenFirst, HaveSeenAlike, table_of, share_start, IsSumOf, CanShare, HaveShared, HasSummed, HaveSummed, PartedHaveSeenAlike, GatheredHaveSeenAlike, PhasesSeeAlike, TellersKnow, HearersKnow, KnowersHaveSeenAlike, SeenAlikeIsKept, HearersHaveGrown, SummersHaveGrown};
 
 use lst_model::Time;
 use lst_rule::Store;
 use lst_scan::sum_part;
-use lst_session::{Crew, Reader, Session};
+use lst_session::{Crew, Reader, Session, Sessions};
 use std::thread::{Threads, join_mut};
 
 /// Begins a transaction as of a time that the session has seen.
@@ -184,6 +184,24 @@ fn sum_both<R: Threads + Sync>(
 pub fn par_sum<R: Threads + Sync>(
     rt: &R,
     store: &Store,
+    sessions: &mut Sessions,
+    time: Time,
+    column: u32,
+) -> u128
+    requires some { 0 < length sessions.old }
+    requires can { All (CanBeginAsOf store.now time) sessions.old }
+    requires alike { HaveSeenAlike time sessions.old }
+    requires column { column < store.now.layout.limits.columns }
+    ensures sum { (i : ℕ) (none : SessionValue) → i < length sessions.old → result ≡ sum_of (table_at (seen_at sessions.old i none) time) column }
+    ensures sessions { HaveSummed store.now sessions.old sessions.new }
+{
+    sum_all(rt, store, sessions.as_mut_slice(), time, column)
+}
+
+/// The same by the sessions of a slice.
+fn sum_all<R: Threads + Sync>(
+    rt: &R,
+    store: &Store,
     sessions: &mut [Session],
     time: Time,
     column: u32,
@@ -229,12 +247,15 @@ pub fn all_can_begin(store: &Store, sessions: &[Session], time: Time) -> bool
     true
 }
 
-/// The sessions of a crew that is parted have seen alike up to each time that all of them had seen then. So have the one that tells a note and those that
-/// hear it, up to each time that the note tells. It stays so where what each has seen and its
+/// The sessions of a crew that is parted have seen alike up to each time that all of them had seen then; where the crew was gathered before, up to each time
+/// of its history. So have those that `next_phase` let hear of each other, up to each time that one of them had seen before, each at a seat of its own. So
+/// have the one that tells a note and those that hear it, up to each time that the note tells. It stays so where what each has seen and its
 /// facts only grow; where the sessions hear of each other, as in `next_phase`, and where they add up a column, they only grow. A law: its contract holds
 /// at all values, and its body does nothing.
 pub fn sessions_see_alike()
     ensures parted { PartedHaveSeenAlike }
+    ensures gathered { GatheredHaveSeenAlike }
+    ensures phase { PhasesSeeAlike }
     ensures teller { TellersKnow }
     ensures hearer { HearersKnow }
     ensures told { KnowersHaveSeenAlike }

@@ -5,7 +5,7 @@ ghost use Rattle.std.specs.Thread.{IsSync};
 ghost use Rattle.lst_session.specs.Parting.{IsMergerOf};
 ghost use Rattle.lst_work.specs.Merges.{HasMerged};
 ghost use Rattle.lst_work.specs.Orders.{placeholder};
-ghost use Rattle.lst_legal_work.specs.Runs.{CanRun};
+ghost use Rattle.lst_work_laws.specs.Runs.{CanRun};
 ghost use Rattle.lst_session.specs.Passes.{IsReady};
 ghost use Rattle.lst_work.specs.Workers.{AreReady, AllHaveWorked, HasWorked};
 

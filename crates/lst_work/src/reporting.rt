@@ -5,11 +5,10 @@ ghost use Rattle.lst_model.specs.Lines.{LineFits};
 ghost use Rattle.lst_replies.specs.Legal.{stamp_of};
 ghost use Rattle.lst_session.specs.Crews.{IsCrewOf};
 ghost use Rattle.lst_session.specs.Parting.{IsMergerOf, IsGathered};
-ghost use Rattle.lst_legal_work.specs.Legal.{HaveDoneNothing};
-ghost use Rattle.lst_legal_work.specs.Whole.{AreAll};
-ghost use Rattle.lst_legal_work.specs.Worked.{IsWorked};
+ghost use Rattle.lst_work_laws.specs.Legal.{HaveDoneNothing};
+ghost use Rattle.lst_work_laws.specs.Whole.{AreAll};
+ghost use Rattle.lst_work_laws.specs.Worked.{HaveSeenTheHistory, IsWorked};
 ghost use Rattle.lst_work.specs.Reporting.{KnowTheOpening, IsReported};
-ghost use Rattle.lst_work.specs.Totals.{HaveSeenTheHistory};
 
 use crate::gates::Gate;
 use crate::working::work_on;
@@ -101,8 +100,7 @@ pub(crate) fn worked<R: Threads + Wait + Sync, G: Gate + Sync>(
     gate: &G,
 ) -> Result<(Report, Store, Crew), OutOfMemory>
     requires fits { All (LineFits layout.now.limits.sessions layout.now.limits.ranges layout.now.limits.columns) script.now }
-    ensures worked { IfOk result (λ done. IsWorked layout.now script.now done.0 done.1 done.2) }
-    ensures seen { IfOk result (λ done. HaveSeenTheHistory done.2.seat.view) }
+    ensures { IfOk result (λ done. IsWorked layout.now script.now done.0 done.1 done.2) }
 {
     let (store, sessions, mut merger) = opened(alloc, layout)?;
     let (sessions, replies) = work_on(rt, alloc, &store, sessions, &mut merger, script, gate)?;
@@ -114,7 +112,8 @@ pub(crate) fn worked<R: Threads + Wait + Sync, G: Gate + Sync>(
 /// Runs a script by all sessions of a new store and its merger, as `work_on` does. Answers the report, the store, and its crew, which is gathered
 /// again.
 ///
-/// The report is legal for the script, whatever the sessions' steps between each other: it is so under the history that the store then has.
+/// The report is legal for the script, whatever the sessions' steps between each other: it is so under the history that the store then has, and that
+/// each session has seen.
 /// The only error is want of memory. Nothing is promised of when the call returns.
 pub fn work<R: Threads + Wait + Sync, G: Gate + Sync>(
     rt: &R,

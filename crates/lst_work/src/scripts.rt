@@ -8,9 +8,9 @@ ghost use Rattle.lst_replies.specs.Runs.{is_phase};
 ghost use Rattle.lst_work.specs.Orders.{GrowsBy, placeholder};
 ghost use Rattle.lst_work.specs.Blocks.{blocks_of};
 ghost use Rattle.lst_work.specs.Parts.{AreWithin, EndsAt, IsPart};
-ghost use Rattle.lst_legal_work.specs.Phases.{HaveRunThrough};
-ghost use Rattle.lst_legal_work.specs.Whole.{AreAll, IsPhase};
-ghost use Rattle.lst_legal_work.specs.Runs.{CanRun};
+ghost use Rattle.lst_work_laws.specs.Phases.{HaveRunThrough};
+ghost use Rattle.lst_work_laws.specs.Whole.{AreAll, IsPhase};
+ghost use Rattle.lst_work_laws.specs.Runs.{CanRun};
 ghost use Rattle.lst_work.specs.Workers.{AreReady, HaveRun};
 
 use crate::blocks::order_phase;

@@ -8,9 +8,10 @@ ghost use Rattle.lst_rule.specs.Rule.{knows};
 ghost use Rattle.lst_session.specs.declared.session.Session.{Session as SessionValue};
 ghost use Rattle.lst_session.specs.Crews.{IsCrewOf};
 ghost use Rattle.lst_session.specs.Parting.{seen_at, IsMergerOf, IsParted};
-ghost use Rattle.lst_legal_work.specs.Whole.{AreAll};
+ghost use Rattle.lst_work_laws.specs.Whole.{AreAll};
 ghost use Rattle.lst_work.specs.ParSums.{CanBeginAsOf, HaveSeenAlike, HaveSummed};
-ghost use Rattle.lst_work.specs.Totals.{HaveSeenTheHistory, MayAllBegin, IsHeldUp, IsSummed, HasTotal, IsWorkedTotal};
+ghost use Rattle.lst_work_laws.specs.Worked.{HaveSeenTheHistory};
+ghost use Rattle.lst_work.specs.Totals.{MayAllBegin, IsHeldUp, IsSummed, HasTotal, IsWorkedTotal};
 
 use crate::gates::Gate;
 use crate::par_sums::par_sum;
@@ -69,9 +70,9 @@ fn summed_as_of<R: Threads + Sync>(
     ensures sum { (i : ℕ) (none : SessionValue) → i < length sessions → result.0 ≡ sum_of (table_at (seen_at sessions i none) time) column }
     ensures sessions { HaveSummed store.now sessions result.1 }
 {
-    let mut passes = sessions.into_vec();
-    let total = par_sum(rt, store, passes.as_mut_slice(), time, column);
-    (total, Sessions::from_vec(passes))
+    let mut sessions = sessions;
+    let total = par_sum(rt, store, &mut sessions, time, column);
+    (total, sessions)
 }
 
 /// Adds up a column by all sessions of a crew, side by side, over the table that the store's commits make.

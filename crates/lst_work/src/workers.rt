@@ -2,7 +2,7 @@
 ghost use Rattle.std.specs.Prelude.{◌≡◌, ◌+◌, ◌<◌, ◌^◌, length, OnOk, [], ◌∷◌};
 ghost use Rattle.std.specs.List.{All};
 ghost use Rattle.lst_session.specs.Passes.{IsReady};
-ghost use Rattle.lst_legal_work.specs.Runs.{CanRun};
+ghost use Rattle.lst_work_laws.specs.Runs.{CanRun};
 ghost use Rattle.lst_work.specs.Workers.{Ran, RanBlocks, HasWorked};
 ghost use Rattle.lst_work.specs.Blocks.{blocks_of};
 
@@ -11,7 +11,7 @@ use crate::gates::Gate;
 use crate::lines::line_reply;
 use crate::paces::Pace;
 use lst_model::{Call, Line, OutOfMemory};
-use lst_queue::ReplyQueue;
+use lst_reply_queue::ReplyQueue;
 use lst_rule::Store;
 use lst_session::{CommitLock, Session};
 use std::alloc::Global;

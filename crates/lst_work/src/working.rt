@@ -3,9 +3,9 @@ ghost use Rattle.std.specs.Prelude.{◌≡◌, IfOk};
 ghost use Rattle.std.specs.List.{All};
 ghost use Rattle.lst_model.specs.Lines.{LineFits};
 ghost use Rattle.lst_session.specs.Parting.{IsMergerOf};
-ghost use Rattle.lst_legal_work.specs.Phases.{HaveRunThrough};
-ghost use Rattle.lst_legal_work.specs.Whole.{AreAll};
-ghost use Rattle.lst_legal_work.specs.Works.{Works};
+ghost use Rattle.lst_work_laws.specs.Phases.{HaveRunThrough};
+ghost use Rattle.lst_work_laws.specs.Whole.{AreAll};
+ghost use Rattle.lst_work_laws.specs.Works.{Works};
 
 use crate::gates::Gate;
 use crate::scripts::run_script;
@@ -18,9 +18,10 @@ use std::alloc::Global;
 use std::sync::Wait;
 use std::thread::Threads;
 
-/// Runs a script by the sessions of a store and its merger. In each phase a worker of each session runs its lines in order, beside the others and
-/// beside a merge worker, which runs the merges in order, each once all sessions have come past it; the gate is called before and after each line.
-/// Between any two phases the sessions hear of each other. The list has every session of the store, in order.
+/// Runs a script by the sessions of a store and its merger. In each phase a worker of each session runs its lines in order, and a merge worker the
+/// merges in order. Between any two phases the sessions hear of each other. The list has every session of the store, in order.
+/// No clause says that the workers go beside each other, that a merge is made once all sessions have come past it, or that the gate is called before and
+/// after each line.
 ///
 /// Answers the sessions and the replies, in the order of the script's lines. `Works` says what the replies tell, by those rules of a legal report
 /// that speak of one session or of the merger, and what the lines leave of what each of them knows; `HaveRunThrough` says of each line what its

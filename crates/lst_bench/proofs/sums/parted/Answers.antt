@@ -1,9 +1,6 @@
-use Rattle.std.proofs.Common.{sym, subst}
 use Rattle.lst_session.proofs.Recounting.{hosts_all}
-use Rattle.lst_work.specs.ParSums.{HaveSeenAlike}
 use Rattle.lst_work.proofs.SeenAlike.{parted_have_seen_alike}
 use Rattle.lst_bench.proofs.sums.parted.Goals as goal
 
 pub returns-in-Ok-clause-alike : goal.returns-in-Ok-clause-alike
-returns-in-Ok-clause-alike c = subst (HaveSeenAlike c.args.time) (sym c.into_vec.ensures)
-    (parted_have_seen_alike c.args.store.now c.args.crew.seat.view _ _ c.args.time c.in-Ok.ensures.parted c.consider.ensures (hosts_all c.args.store.now c.args.crew c.requires) (c.all_have_seen.ensures.0 c.if-not-all_have_seen.false))
+returns-in-Ok-clause-alike c = parted_have_seen_alike c.args.store.now c.args.crew.seat.view _ _ c.args.time c.in-Ok.ensures.parted c.consider.ensures (hosts_all c.args.store.now c.args.crew c.requires) (c.all_have_seen.ensures.0 c.if-not-all_have_seen.false)

@@ -1,6 +1,6 @@
 use Rattle.std.proofs.Common.{◌<◌, ap, arith}
 use Rattle.lst_core_state.specs.Cells.{record_count}
-use Rattle.lst_sights.proofs.Keying.{record_low}
+use Rattle.lst_rule.proofs.Keying.{record_low}
 use Rattle.lst_scan.proofs.finds.by_all.Goals as goal
 
 pub returns-in-Ok-clause-candidates : goal.returns-in-Ok-clause-candidates

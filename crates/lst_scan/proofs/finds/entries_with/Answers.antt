@@ -2,7 +2,7 @@ use Rattle.std.proofs.Common.{◌≡◌, get_or, ◌∙◌, arith}
 use Rattle.std.specs.Prelude.{Some, None, slice_index_or}
 use Rattle.std.proofs.lemmas.List.{get_or_default}
 use Rattle.lst_rule.specs.declared.records.RecordId.{RecordId}
-use Rattle.lst_sights.proofs.Watching.{watches_join}
+use Rattle.lst_rule.proofs.Watching.{watches_join}
 use Rattle.lst_scan.proofs.Finding.{finds_start, finds_next, finds_done}
 use Rattle.lst_scan.proofs.finds.entries_with.Goals.{in-Some+in_ok-insert, in_default}
 use Rattle.lst_scan.proofs.finds.entries_with.Goals as goal

@@ -3,7 +3,7 @@ use Rattle.lst_model.specs.Tables.{Rows, find_of}
 use Rattle.lst_core_state.specs.Cells.{record_count}
 use Rattle.lst_rule.specs.declared.records.RecordId.{RecordId}
 use Rattle.lst_rule.specs.Rule.{knows}
-use Rattle.lst_sights.proofs.Watching.{watches_join}
+use Rattle.lst_rule.proofs.Watching.{watches_join}
 use Rattle.lst_scan.specs.Scans.{AreCandidates}
 use Rattle.lst_scan.proofs.Loops.{still_free}
 use Rattle.lst_scan.proofs.finds.find.Goals as goal

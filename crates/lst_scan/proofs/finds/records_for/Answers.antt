@@ -1,5 +1,5 @@
 use Rattle.std.proofs.lemmas.Result.{IfOk-weaker}
-use Rattle.lst_sights.proofs.Watching.{watched_same}
+use Rattle.lst_rule.proofs.Watching.{watched_same}
 use Rattle.lst_scan.proofs.Naming.{no_whole_tail}
 use Rattle.lst_scan.proofs.finds.records_for.Goals as goal
 

@@ -4,7 +4,7 @@ use Rattle.std.specs.FinMap.{entries}
 use Rattle.lst_layout.specs.declared.layout.Layout.{Layout}
 use Rattle.lst_core_state.specs.Cells.{record_count}
 use Rattle.lst_rule.specs.Rule.{knows}
-use Rattle.lst_sights.proofs.Watching.{watches_join}
+use Rattle.lst_rule.proofs.Watching.{watches_join}
 use Rattle.lst_scan.specs.Scans.{table_seen, between}
 use Rattle.lst_scan.proofs.Seeing.{place_of, places_of, all_rows}
 use Rattle.lst_scan.proofs.Loops.{collects_start, collects_next}

@@ -3,7 +3,7 @@ use Rattle.std.specs.Prelude.{Some, None, IfOk}
 use Rattle.lst_layout.specs.declared.layout.Layout.{Layout}
 use Rattle.lst_model.specs.Tables.{Rows, scan_of}
 use Rattle.lst_core_state.specs.Cells.{record_count}
-use Rattle.lst_sights.proofs.Watching.{watches_join}
+use Rattle.lst_rule.proofs.Watching.{watches_join}
 use Rattle.lst_scan.proofs.Loops.{AreUpTo, scans_next, collects_start, collects_next, comes_below, next_last, collects_whole, scan_later}
 use Rattle.lst_scan.proofs.lists.rows.Goals.{in-Some+then-comes_next+in_ok-push, in_default}
 use Rattle.lst_scan.proofs.lists.rows.Goals as goal

@@ -4,11 +4,14 @@ use Rattle.lst_layout.specs.Areas.{frame_count}
 use Rattle.lst_model.specs.Tables.{count_of}
 use Rattle.lst_core_state.specs.declared.known.Known.{Known}
 use Rattle.lst_rule.specs.Rule.{knows}
-use Rattle.lst_sights.proofs.Watching.{watches_join}
+use Rattle.lst_rule.proofs.Watching.{watches_join}
 use Rattle.lst_walk.specs.Packed.{Skims}
 use Rattle.lst_scan.specs.Scans.{table_seen, between}
 use Rattle.lst_scan.specs.Paged.{entries_add}
+use Rattle.lst_scan.specs.Savings.{SavesPart}
+use Rattle.lst_scan.proofs.Folded.{none_saves, saves_join}
 use Rattle.lst_scan.proofs.Sheets.{hand_low, stamps_loaded, stamps_skim, count_before}
+use Rattle.lst_scan.proofs.Untold.{stamps_told}
 use Rattle.lst_scan.proofs.paged.count_by_page.Goals as goal
 
 pub load_times-requires-clause-run : goal.load_times-requires-clause-run
@@ -17,6 +20,21 @@ load_times-requires-clause-run c = let r = c.requires.reader in λ i short. (sub
 pub count_untold-walked-requires-clause-page : goal.count_untold-walked-requires-clause-page
 count_untold-walked-requires-clause-page c = let r = c.requires.reader in stamps_loaded c.args.seat.now.view c.load_frame-tps.new.seat.view c.load_times.new.seat.view c.args.s c.args.range 0 c.args.frame c.load_frame-tps.result c.load_times.new.out
     r.own (subst (λ (l : Limits). c.args.s < l.sessions) (sym c.load_frame-tps.ensures.loaded.looked.view.limits) r.own) c.requires.frame c.load_frame-tps.ensures.loaded c.load_times.array_long c.load_times.ensures.found
+
+pub count_untold-walked-requires-clause-told : goal.count_untold-walked-requires-clause-told
+count_untold-walked-requires-clause-told c = let r = c.requires.reader in
+    let skims : Skims c.args.seat.now.view c.load_times.new.seat.view c.args.s = stamps_skim c.args.seat.now.view c.load_frame-tps.new.seat.view c.load_times.new.seat.view c.args.s c.args.frame c.load_frame-tps.result (slice_index c.load_times.new.out) r.host
+    (hand_low c.args.seat.now.view c.args.s c.args.range 0 c.args.frame c.consider.ensures r.host r.own c.requires.frame) c.load_frame-tps.ensures.loaded c.load_times.ensures.loads c.load_times.ensures.found in
+    stamps_told c.args.seat.now.view c.load_frame-tps.new.seat.view c.load_times.new.seat.view c.args.s c.args.range 0 c.args.frame c.load_frame-tps.result c.load_times.new.out skims.watched c.requires.told c.load_frame-tps.ensures.loaded c.load_times.ensures.loads
+
+pub returns-clause-saves : goal.returns-clause-saves
+returns-clause-saves c = let r = c.requires.reader in
+    let skims : Skims c.args.seat.now.view c.load_times.new.seat.view c.args.s = stamps_skim c.args.seat.now.view c.load_frame-tps.new.seat.view c.load_times.new.seat.view c.args.s c.args.frame c.load_frame-tps.result (slice_index c.load_times.new.out) r.host
+    (hand_low c.args.seat.now.view c.args.s c.args.range 0 c.args.frame c.consider.ensures r.host r.own c.requires.frame) c.load_frame-tps.ensures.loaded c.load_times.ensures.loads c.load_times.ensures.found in
+    let end : 256 * c.args.range + 256 ≡ 256 * (c.args.range + 1) = omega arith in
+    subst (λ (n : ℕ). SavesPart c.args.seat.now.view c.count_untold-walked.new.seat.view c.args.s 0 (256 * c.args.range) n) end
+    (saves_join c.args.seat.now.view c.load_times.new.seat.view c.count_untold-walked.new.seat.view c.args.s 0 (256 * c.args.range) (256 * c.args.range) (256 * c.args.range + 256) skims.watched (omega arith) (omega arith)
+    (none_saves c.args.seat.now.view c.load_times.new.seat.view c.args.s 0 (256 * c.args.range) skims.finds) c.count_untold-walked.ensures.saves)
 
 pub returns-clause-watched : goal.returns-clause-watched
 returns-clause-watched c = let r = c.requires.reader in

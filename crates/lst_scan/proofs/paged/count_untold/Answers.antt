@@ -4,7 +4,9 @@ use Rattle.lst_kernel.specs.Entries.{lane_of}
 use Rattle.lst_core_state.specs.declared.known.Known.{Known}
 use Rattle.lst_model.specs.Tables.{count_of}
 use Rattle.lst_rule.specs.Rule.{knows}
+use Rattle.lst_rule.specs.Seats.{Sitting}
 use Rattle.lst_walk.specs.Packed.{Skims}
+use Rattle.lst_scan.specs.Savings.{SavesPart}
 use Rattle.lst_scan.specs.Scans.{table_seen, between}
 use Rattle.lst_scan.specs.Paged.{entries_add}
 use Rattle.lst_scan.proofs.Dividing.{cells_stay}
@@ -12,6 +14,7 @@ use Rattle.lst_scan.proofs.Parts.{count_is}
 use Rattle.lst_scan.proofs.Seeing.{one_weight, no_weight}
 use Rattle.lst_scan.proofs.Sheets.{heads_skim, told_both, put_short, walks_start, walks_told, walks_walked, covers_start, covers_put}
 use Rattle.lst_scan.proofs.Told.{one_told, ones_told, covers_told, covers_same, stands_first, stands_told, stands_put}
+use Rattle.lst_scan.proofs.Untold.{saves_told, saves_untold, not_told}
 use Rattle.lst_scan.proofs.paged.count_untold.Goals.{then-not-is_told+then-is_some, then-not-is_told+else-is_some, else-not-is_told}
 use Rattle.lst_scan.proofs.paged.count_untold.Goals as goal
 
@@ -35,6 +38,7 @@ loop-slot-init c = let r = c.requires.reader in
       walks_start c.args.store.now c.args.seat.now c.load_heads.new.seat c.args.s 1 c.consider.ensures r skims c.load_heads.ensures.seat,
       covers_start c.args.seat.now.view c.args.s (λ _. 1) (256 * c.args.range) (knows c.args.seat.now.view c.args.s).begin (λ (slot : ℕ). 1) c.args.times.now,
       stands_first c.args.times.now,
+      λ whole pinned needs. skims.finds,
     )
 
 pub cell_by_chain-requires-clause-column : goal.cell_by_chain-requires-clause-column
@@ -54,6 +58,9 @@ loop-slot-preserved c = let r = c.requires.reader in let walks = c.loop-slot.inv
                 0 1 (put_short c.loop-slot.times c.if-not-is_told.times c.loop-slot.slot 0 few c.if-not-is_told.array_long w.times-is) c.consider.ensures r.host on.0 on.1
                 (omega arith) (let e = w.total-is in omega arith) w.times-is c.loop-slot.invariant.1,
             stands_put c.loop-slot.slot 0 c.args.times.now c.loop-slot.times c.if-not-is_told.times w.times-is stands,
+            saves_untold c.args.seat.now.view c.load_heads.new.seat.view c.if-not-is_told.seat.view c.args.s c.args.range 0 c.args.tps c.loop-slot.slot c.args.times.now (slice_index c.load_heads.new.out) few c.requires.told c.load_heads.ensures.loads
+                (λ both. not_told (slice_index c.load_heads.new.out c.loop-slot.slot) (slice_index c.loop-slot.times c.loop-slot.slot) c.args.tps c.begin-begin.result c.is_told.result c.is_told.ensures w.if-not-is_told.true
+                (both.0, subst (λ (n : ℕ). time_of n ≤ c.begin-begin.result) (sym here) (subst (λ (n : ℕ). time_of (slice_index c.args.times.now c.loop-slot.slot) ≤ n) (sym begin_is) both.1))),
           )
       | then-not-is_told+else-is_some w ↦
           let on = cells_stay c.args.seat.now.view c.loop-slot.seat.view c.args.s (256 * c.args.range + c.loop-slot.slot) 0 w.cell_by_chain.result c.consider.ensures c.consider-in-loop-slot.ensures r.host r.opened walks.scans.watched w.cell_by_chain.ensures.cell in
@@ -63,6 +70,9 @@ loop-slot-preserved c = let r = c.requires.reader in let walks = c.loop-slot.inv
                 0 0 (put_short c.loop-slot.times c.if-not-is_told.times c.loop-slot.slot 0 few c.if-not-is_told.array_long w.times-is) c.consider.ensures r.host on.0 on.1
                 (omega arith) (let e = w.total-is in omega arith) w.times-is c.loop-slot.invariant.1,
             stands_put c.loop-slot.slot 0 c.args.times.now c.loop-slot.times c.if-not-is_told.times w.times-is stands,
+            saves_untold c.args.seat.now.view c.load_heads.new.seat.view c.if-not-is_told.seat.view c.args.s c.args.range 0 c.args.tps c.loop-slot.slot c.args.times.now (slice_index c.load_heads.new.out) few c.requires.told c.load_heads.ensures.loads
+                (λ both. not_told (slice_index c.load_heads.new.out c.loop-slot.slot) (slice_index c.loop-slot.times c.loop-slot.slot) c.args.tps c.begin-begin.result c.is_told.result c.is_told.ensures w.if-not-is_told.true
+                (both.0, subst (λ (n : ℕ). time_of n ≤ c.begin-begin.result) (sym here) (subst (λ (n : ℕ). time_of (slice_index c.args.times.now c.loop-slot.slot) ≤ n) (sym begin_is) both.1))),
           )
       | else-not-is_told w ↦
           let both = told_both (slice_index c.load_heads.new.out c.loop-slot.slot) (slice_index c.loop-slot.times c.loop-slot.slot) c.args.tps c.begin-begin.result c.is_told.result c.is_told.ensures w.if-not-is_told.false in
@@ -73,6 +83,7 @@ loop-slot-preserved c = let r = c.requires.reader in let walks = c.loop-slot.inv
                 (covers_told c.args.seat.now.view c.args.s (λ _. 1) (256 * c.args.range) c.loop-slot.slot c.loop-slot.total (knows c.args.seat.now.view c.args.s).begin (λ (slot : ℕ). 1) c.loop-slot.times c.consider.ensures r.host told.0 told.1
                 (ap (λ (n : ℕ). lane_of (knows c.args.seat.now.view c.args.s).begin 1 n) here ∙ told.2) c.loop-slot.invariant.1),
             stands_told c.loop-slot.slot c.args.times.now c.loop-slot.times c.if-not-is_told.times w.times-is stands,
+            saves_told c.args.seat.now.view c.loop-slot.seat.view c.if-not-is_told.seat.view c.args.s 0 (256 * c.args.range) c.loop-slot.slot (ap (λ (x : Sitting). (knows x.view c.args.s).finds) w.seat-is) c.loop-slot.invariant.3,
           )
     ]
 
@@ -80,3 +91,7 @@ pub returns-clause-count : goal.returns-clause-count
 returns-clause-count c = λ place places. let invariant = c.loop-slot.invariant in let end : c.loop-slot.slot ≡ 256 = (let t = c.loop-slot-test.false in let few = invariant.0.few in omega arith) in
     subst (λ (n : ℕ). c.loop-slot.total + entries_add (knows c.args.seat.now.view c.args.s).begin (λ (slot : ℕ). 1) c.loop-slot.times n ≡ count_of (between place (256 * c.args.range) (256 * c.args.range + n) (table_seen (knows c.args.seat.now.view c.args.s)))) end
     (invariant.1 place places ∙ sym (count_is (between place (256 * c.args.range) (256 * c.args.range + c.loop-slot.slot) (table_seen (knows c.args.seat.now.view c.args.s)))))
+
+pub returns-clause-saves : goal.returns-clause-saves
+returns-clause-saves c = let invariant = c.loop-slot.invariant in let end : c.loop-slot.slot ≡ 256 = (let t = c.loop-slot-test.false in let few = invariant.0.few in omega arith) in
+    subst (λ (n : ℕ). SavesPart c.args.seat.now.view c.loop-slot.seat.view c.args.s 0 (256 * c.args.range) (256 * c.args.range + n)) end invariant.3

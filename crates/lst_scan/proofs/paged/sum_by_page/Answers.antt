@@ -3,7 +3,7 @@ use Rattle.lst_model.specs.Cells.{number_at}
 use Rattle.lst_model.specs.Tables.{sum_of}
 use Rattle.lst_core_state.specs.declared.known.Known.{Known}
 use Rattle.lst_rule.specs.Rule.{knows}
-use Rattle.lst_sights.proofs.Watching.{watches_join}
+use Rattle.lst_rule.proofs.Watching.{watches_join}
 use Rattle.lst_scan.specs.Scans.{table_seen, between}
 use Rattle.lst_scan.specs.Savings.{SavesPart}
 use Rattle.lst_scan.specs.Paged.{entries_add}

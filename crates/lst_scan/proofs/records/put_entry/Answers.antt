@@ -1,7 +1,7 @@
 use Rattle.std.proofs.Common.{subst}
 use Rattle.std.specs.Prelude.{Bool}
 use Rattle.lst_rule.specs.Rule.{knows}
-use Rattle.lst_sights.proofs.Watching.{watches_join}
+use Rattle.lst_rule.proofs.Watching.{watches_join}
 use Rattle.lst_walk.specs.Whole.{row_where}
 use Rattle.lst_scan.specs.Scans.{IsRowOn}
 use Rattle.lst_scan.proofs.Seeing.{entry_on}

@@ -1,5 +1,5 @@
-use Rattle.std.proofs.Common.{◌+◌, ◌*◌}
-use Rattle.lst_sights.proofs.Watching.{watches_join}
+use Rattle.std.proofs.Common.{◌+◌, ◌*◌, refl}
+use Rattle.lst_rule.proofs.Watching.{watches_join}
 use Rattle.lst_scan.proofs.Sheets.{count_before}
 use Rattle.lst_scan.proofs.sums.count_range.Goals as goal
 
@@ -14,3 +14,9 @@ returns-in-None-clause-watched c = watches_join c.args.seat.now.view c.frame_of.
 
 pub returns-in-None-clause-count : goal.returns-in-None-clause-count
 returns-in-None-clause-count c = let r = c.requires.reader in count_before c.args.seat.now.view c.frame_of.new.seat.view c.args.s (256 * c.args.range) (256 * (c.args.range + 1)) c.count_by_records.result c.consider.ensures r.host r.opened c.frame_of.ensures.skims.watched c.count_by_records.ensures.count
+
+pub count_by_page-requires-clause-told : goal.count_by_page-requires-clause-told
+count_by_page-requires-clause-told c = c.in-Some.ensures.told
+
+pub count_by_records-requires-clause-none : goal.count_by_records-requires-clause-none
+count_by_records-requires-clause-none c = c.in-None.ensures.none refl

@@ -1,6 +1,6 @@
 use Rattle.std.proofs.Common.{◌+◌, ◌*◌, refl}
 use Rattle.lst_model.specs.Cells.{number_at}
-use Rattle.lst_sights.proofs.Watching.{watches_join}
+use Rattle.lst_rule.proofs.Watching.{watches_join}
 use Rattle.lst_scan.proofs.Sheets.{part_before}
 use Rattle.lst_scan.proofs.sums.sum_range.Goals as goal
 

@@ -1,6 +1,6 @@
 use Rattle.std.proofs.Common.{◌≡◌, ◌+◌, length}
 use Rattle.std.specs.List.{All}
-use Rattle.lst_legal_work.specs.Runs.{CanRun}
+use Rattle.lst_work_laws.specs.Runs.{CanRun}
 use Rattle.lst_work.specs.Merges.{IsMergingBlocks}
 use Rattle.lst_work.proofs.merging.merge_blocks.Given as goal
 

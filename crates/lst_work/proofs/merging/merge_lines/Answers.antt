@@ -1,6 +1,6 @@
 use Rattle.std.proofs.Common.{sym, subst}
 use Rattle.lst_model.specs.declared.lines.Line.{Line}
-use Rattle.lst_legal_work.specs.Runs.{CanRun}
+use Rattle.lst_work_laws.specs.Runs.{CanRun}
 use Rattle.lst_work.proofs.Merges.{merging_first, merging_then, merging_all}
 use Rattle.lst_work.proofs.merging.merge_lines.Goals as goal
 

@@ -1,8 +1,14 @@
-use Rattle.lst_work.proofs.SeenAlike.{parted_have_seen_alike, tellers_know, hearers_know, knowers_have_seen_alike, seen_alike_is_kept, hearers_have_grown, summers_have_grown}
+use Rattle.lst_work.proofs.SeenAlike.{parted_have_seen_alike, gathered_have_seen_alike, phases_see_alike, tellers_know, hearers_know, knowers_have_seen_alike, seen_alike_is_kept, hearers_have_grown, summers_have_grown}
 use Rattle.lst_work.proofs.par_sums.sessions_see_alike.Goals as goal
 
 pub returns-clause-parted : goal.returns-clause-parted
 returns-clause-parted c = parted_have_seen_alike
+
+pub returns-clause-gathered : goal.returns-clause-gathered
+returns-clause-gathered c = gathered_have_seen_alike
+
+pub returns-clause-phase : goal.returns-clause-phase
+returns-clause-phase c = phases_see_alike
 
 pub returns-clause-teller : goal.returns-clause-teller
 returns-clause-teller c = tellers_know

@@ -1,6 +1,6 @@
 use Rattle.std.proofs.Common.{ap}
 use Rattle.lst_layout.specs.declared.layout.Layout.{Layout}
-use Rattle.lst_legal_work.proofs.Nothing.{known_first, merger_first, merger_limits, have_done_nothing}
+use Rattle.lst_work_laws.proofs.Nothing.{known_first, merger_first, merger_limits, have_done_nothing}
 use Rattle.lst_work.proofs.reporting.opened.Goals as goal
 
 pub returns-in-Ok-clause-nothing : goal.returns-in-Ok-clause-nothing

@@ -10,7 +10,7 @@ use Rattle.lst_work.specs.Blocks.{joined, parts_at, AreAsLong, AreInBlockOrder}
 use Rattle.lst_work.specs.Merges.{merge_parts}
 use Rattle.lst_work.specs.Orders.{placeholder}
 use Rattle.lst_work.specs.Hiring.{HaveSaid, sessions_of, said_in}
-use Rattle.lst_legal_work.specs.Whole.{AreAll, IsPhase}
+use Rattle.lst_work_laws.specs.Whole.{AreAll, IsPhase}
 use Rattle.lst_work.proofs.Growing.{grown_as, grown_from}
 use Rattle.lst_work.proofs.Merges.{fresh_merging, fresh_long}
 use Rattle.lst_work.proofs.Wholes.{written, ready_first, wide, all_after, have_said, as_many, as_long, in_order, phase_is}

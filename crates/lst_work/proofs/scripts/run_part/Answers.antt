@@ -1,6 +1,6 @@
 use Rattle.std.proofs.Common.{sym, subst}
 use Rattle.std.specs.List.{All}
-use Rattle.lst_legal_work.specs.Runs.{CanRun}
+use Rattle.lst_work_laws.specs.Runs.{CanRun}
 use Rattle.lst_work.proofs.Cutting.{cut_can, part_is}
 use Rattle.lst_work.proofs.Growing.{grown_as}
 use Rattle.lst_work.proofs.scripts.run_part.Goals as goal

@@ -1,4 +1,4 @@
-use Rattle.lst_legal_work.proofs.Lists.{element}
+use Rattle.lst_work_laws.proofs.Lists.{element}
 use Rattle.lst_work.proofs.Totalling.{some_session, some_parted, all_seen_so, can_begin_now, sum_now, all_summed, have_read_once, is_summed}
 use Rattle.lst_work.proofs.totals.summed.Goals as goal
 

@@ -1,7 +1,7 @@
 use Rattle.std.proofs.Common.{◌<◌, length, sym, subst, rules, arith}
 use Rattle.std.specs.List.{All}
 use Rattle.std.proofs.lemmas.List.Elements.{All-drop}
-use Rattle.lst_legal_work.specs.Runs.{CanRun}
+use Rattle.lst_work_laws.specs.Runs.{CanRun}
 use Rattle.lst_work.specs.Blocks.{block_length}
 use Rattle.lst_work.proofs.InBlocks.{cut_sizes}
 use Rattle.lst_work.proofs.Running.{running_blocks_on}

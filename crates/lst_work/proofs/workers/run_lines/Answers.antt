@@ -1,7 +1,7 @@
 use Rattle.std.proofs.Common.{sym, subst}
 use Rattle.lst_walk.proofs.Lists.{take_whole}
 use Rattle.lst_model.specs.declared.lines.Line.{Line}
-use Rattle.lst_legal_work.specs.Runs.{CanRun}
+use Rattle.lst_work_laws.specs.Runs.{CanRun}
 use Rattle.lst_work.proofs.Running.{running_first, running_on, ran_whole}
 use Rattle.lst_work.proofs.workers.run_lines.Goals as goal
 

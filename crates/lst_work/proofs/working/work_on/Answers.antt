@@ -1,7 +1,7 @@
 use Rattle.std.proofs.Common.{rules}
-use Rattle.lst_legal_work.specs.Phases.{HaveRunThrough}
-use Rattle.lst_legal_work.specs.Whole.{AreAll}
-use Rattle.lst_legal_work.proofs.Working.{they_work}
+use Rattle.lst_work_laws.specs.Phases.{HaveRunThrough}
+use Rattle.lst_work_laws.specs.Whole.{AreAll}
+use Rattle.lst_work_laws.proofs.Working.{they_work}
 use Rattle.lst_work.proofs.working.work_on.Goals as goal
 
 pub returns-clause-works : goal.returns-clause-works

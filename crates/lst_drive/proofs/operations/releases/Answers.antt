@@ -1,6 +1,0 @@
-use Rattle.lst_drive.specs.declared.stages.Stage.TheVariants.{In}
-use Rattle.lst_drive.proofs.Stepping.{drives}
-use Rattle.lst_drive.proofs.operations.releases.Goals as goal
-
-pub returns : goal.returns
-returns c = drives _ _ _ _ _ c.requires.crew c.release.ensures.seat c.release.ensures.view In c.requires.driven.low c.requires.driven.hand c.release.ensures.free

@@ -1,5 +1,0 @@
-use Rattle.lst_drive.specs.Idle.{IsPair}
-use Rattle.lst_drive.proofs.post_tests.play.Given as goal
-
-abbrev pub invariant-loop-at : goal.invariant-loop-at
-invariant-loop-at g l = IsPair l.store l.seat

@@ -1,8 +1,0 @@
-use Rattle.lst_drive.proofs.Idling.{pair_found, pair_watched}
-use Rattle.lst_drive.proofs.read_tests.see_cell.Goals as goal
-
-pub returns-in_default : goal.returns-in_default
-returns-in_default c = pair_found c.args.store.now c.args.seat.now c.args.s c.requires.pair c.requires.session c.find.new.seat c.find.ensures.seat c.find.ensures.works c.find.ensures.keeps
-
-pub returns : goal.returns
-returns c = pair_watched c.args.store.now c.find.new.seat c.args.s (pair_found c.args.store.now c.args.seat.now c.args.s c.requires.pair c.requires.session c.find.new.seat c.find.ensures.seat c.find.ensures.works c.find.ensures.keeps) c.requires.session c.column.new.seat c.column.ensures.seat c.column.ensures.watched

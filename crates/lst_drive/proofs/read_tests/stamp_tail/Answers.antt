@@ -1,5 +1,0 @@
-use Rattle.lst_drive.proofs.Idling.{pair_watched}
-use Rattle.lst_drive.proofs.read_tests.stamp_tail.Goals as goal
-
-pub returns : goal.returns
-returns c = pair_watched c.args.store.now c.args.seat.now c.args.s c.requires.pair c.requires.session c.stamp.new.seat c.stamp.ensures.seat c.stamp.ensures.watched

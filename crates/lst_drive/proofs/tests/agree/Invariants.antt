@@ -1,9 +1,0 @@
-use Rattle.std.proofs.Common.{◌-◌, ◌≤◌, length}
-use Rattle.lst_drive.specs.Driving.{IsOpened}
-use Rattle.lst_drive.proofs.tests.agree.Given as goal
-
-abbrev pub invariant-loop-turn : goal.invariant-loop-turn
-invariant-loop-turn l = IsOpened l.store l.seat l.pair
-
-abbrev pub decreases-loop-turn : goal.decreases-loop-turn
-decreases-loop-turn l = length l.operations - l.turn

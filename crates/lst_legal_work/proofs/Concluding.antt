@@ -1,8 +1,0 @@
--- The law of a whole script: from the laws of what its replies tell.
-use Rattle.lst_legal_work.specs.Legal.{WorkedScriptIsLegal}
-use Rattle.lst_legal_work.proofs.Ended.{tails_are_written, script_is_explained}
-use Rattle.lst_legal_work.proofs.Fresh.{script_is_told}
-use Rattle.lst_legal_work.proofs.Legality.{worked_is_legal}
-
-pub worked_script_is_legal : WorkedScriptIsLegal
-worked_script_is_legal = worked_is_legal script_is_told script_is_explained tails_are_written

@@ -1,5 +1,0 @@
-use Rattle.lst_load.proofs.Assembling.{generated_script_has_total}
-use Rattle.lst_load.proofs.laws.generated_script_has_total.Goals as goal
-
-pub returns : goal.returns
-returns c = generated_script_has_total

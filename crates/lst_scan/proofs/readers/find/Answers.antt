@@ -1,0 +1,5 @@
+use Rattle.lst_scan.proofs.Loops.{lent_still}
+use Rattle.lst_scan.proofs.readers.find.Goals as goal
+
+pub returns-clause-reader : goal.returns-clause-reader
+returns-clause-reader c = lent_still c.args.store.now c.args.reader.now.seat.now c.find.new.seat c.args.reader.now.s c.find.ensures.reader c.find.ensures.watched c.requires.reader

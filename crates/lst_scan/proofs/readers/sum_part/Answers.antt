@@ -1,0 +1,5 @@
+use Rattle.lst_scan.proofs.Loops.{lent_still}
+use Rattle.lst_scan.proofs.readers.sum_part.Goals as goal
+
+pub returns-clause-still : goal.returns-clause-still
+returns-clause-still c = lent_still c.args.store.now c.args.reader.now.seat.now c.sum_part.new.seat c.args.reader.now.s c.sum_part.ensures.reader c.sum_part.ensures.watched

@@ -1,0 +1,6 @@
+use Rattle.std.proofs.Common.{arith}
+use Rattle.lst_test_steps.proofs.Idling.{pair_on}
+use Rattle.lst_test_steps.proofs.candidate_tests.listed.Goals as goal
+
+pub returns : goal.returns
+returns c = let i = c.requires.pair.idle 0 (omega arith) in pair_on c.args.store.now c.args.seat.now 0 c.requires.pair (omega arith) c.candidates.new.seat _ c.candidates.ensures.seat c.candidates.ensures.probes.view i.hand i.away i.free

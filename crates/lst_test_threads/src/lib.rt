@@ -1,0 +1,17 @@
+//! Tests of sessions that are parted, tell each other what they have seen, work on threads of their own, and are gathered.
+#![tactic(auto)]
+
+#[cfg(test)]
+mod block_tests;
+#[cfg(test)]
+mod line_tests;
+#[cfg(test)]
+mod par_tests;
+#[cfg(test)]
+mod part_tests;
+#[cfg(test)]
+mod step_tests;
+#[cfg(test)]
+mod thread_tests;
+#[cfg(test)]
+mod work_tests;
