@@ -1,0 +1,5 @@
+pub mod Disk
+pub mod Images
+pub mod ImageLaws
+pub mod Memory
+pub mod MemoryLaws

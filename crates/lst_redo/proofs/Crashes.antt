@@ -1,0 +1,138 @@
+-- What an image stands for while a record is stored behind the closed gate, and while the gate is opened.
+use Rattle.std.proofs.Common.{◌≡◌, ◌≢◌, inl, inr, ℕ, suc, ◌+◌, ◌≤◌, List, [], ◌∷◌, ◌++◌, length, get_or, take, drop, sym, ◌∙◌, ap, subst, arith, append_assoc, length-append}
+use Rattle.std.specs.List.{AllByRecursion}
+use Rattle.std.proofs.lemmas.Bool.{cases_eq}
+use Rattle.std.proofs.lemmas.List.{append-nil, take_at, drop_at, drop_more, take-append-drop}
+use Rattle.std.proofs.lemmas.Grind.{flat_map-append}
+use Rattle.lst_model.specs.declared.commits.Commit.{Commit}
+use Rattle.lst_model.specs.Soundness.{IsSound}
+use Rattle.lst_model.proofs.Sounding.{sound_snoc}
+use Rattle.lst_disk.specs.Disk.{Torn}
+use Rattle.lst_redo.specs.Format.{body, record_of, journal, HasRecord}
+use Rattle.lst_snapshots.specs.Replays.{numbered_at, numbered_from, IsRecovered, MayFollow}
+use Rattle.lst_redo.specs.Journals.{Ends, StandsFor, StandsForOrOneMore}
+use Rattle.lst_redo.specs.Stores.{staged, opened, HalfStored}
+
+-- ---- one commit more
+
+pub each_more : (P : Commit → Type 0) (commits : List Commit) (commit : Commit) → AllByRecursion P commits → P commit → AllByRecursion P (commits ++ commit ∷ [])
+each_more P [] commit before one = (one, tt)
+each_more P (c ∷ commits) commit before one = (before.0, each_more P commits commit before.1 one)
+
+pub numbered_more : (time : ℕ) (commits : List Commit) (commit : Commit) → numbered_from time (commits ++ commit ∷ []) ≡ numbered_from time commits ++ numbered_at (length commits + time) commit ∷ []
+numbered_more time [] commit = ap (λ (t : ℕ). numbered_at t commit ∷ []) (omega arith)
+numbered_more time (c ∷ commits) commit =
+    ap (λ (cs : List Commit). numbered_at time c ∷ cs) (numbered_more (suc time) commits commit ∙ ap (λ (t : ℕ). numbered_from (suc time) commits ++ numbered_at t commit ∷ []) (omega arith))
+
+pub recovered_more : (commits : List Commit) (commit : Commit) → IsRecovered commits → MayFollow commits commit → IsRecovered (commits ++ commit ∷ [])
+recovered_more commits commit recovered follows =
+    subst IsSound (sym (numbered_more 1 commits commit)) (sound_snoc (numbered_from 1 commits) (numbered_at (length commits + 1) commit) recovered follows)
+
+pub journal_more : (columns : ℕ) (commits : List Commit) (commit : Commit) (rest : List ℕ) → journal columns (commits ++ commit ∷ []) ++ rest ≡ journal columns commits ++ 1 ∷ (body columns commit ++ rest)
+journal_more columns commits commit rest =
+    let one : journal columns (commit ∷ []) ≡ record_of columns commit = append-nil (record_of columns commit) in
+    ap (λ (bytes : List ℕ). bytes ++ rest) (flat_map-append (record_of columns) commits (commit ∷ []) ∙ ap (λ (bytes : List ℕ). journal columns commits ++ bytes) one)
+    ∙ append_assoc (journal columns commits) (record_of columns commit) rest
+
+pub journal_length : (columns : ℕ) (commits : List Commit) (commit : Commit) → length (journal columns (commits ++ commit ∷ [])) ≡ length (journal columns commits) + 1 + length (body columns commit)
+journal_length columns commits commit =
+    let whole = ap length (sym (append-nil (journal columns (commits ++ commit ∷ []))) ∙ journal_more columns commits commit []) in
+    omega (arith, whole, length-append (journal columns commits) (1 ∷ (body columns commit ++ [])), ap length (append-nil (body columns commit)))
+
+-- ---- the closed gate
+
+pub record Closed (front content : List ℕ) : Type 0 where
+  pub gate : ℕ
+  pub more : List ℕ
+  pub shut : gate ≢ 1
+  pub whole : content ≡ front ++ gate ∷ more
+
+closed : (front content rest : List ℕ) → content ≡ front ++ rest → Ends rest → length front + 1 ≤ length content → Closed front content
+closed front content [] whole ended long = absurd (omega (arith, ap length whole, length-append front []))
+closed front content (gate ∷ more) whole ended long = record { gate = gate; more = more; shut = ended; whole = whole }
+
+-- the front and one place behind it
+front_and_one : (front more : List ℕ) (x : ℕ) (n : ℕ) → n ≡ length front → take (n + 1) (front ++ x ∷ more) ≡ front ++ x ∷ []
+front_and_one front more x n is =
+    ap (take (n + 1)) (sym (append_assoc front (x ∷ []) more)) ∙ take_at (front ++ x ∷ []) more (n + 1) (omega (arith, length-append front (x ∷ [])))
+
+behind_one : (front more : List ℕ) (x : ℕ) (n : ℕ) → n ≡ length front → drop (n + 1) (front ++ x ∷ more) ≡ more
+behind_one front more x n is =
+    ap (drop (n + 1)) (sym (append_assoc front (x ∷ []) more)) ∙ drop_at (front ++ x ∷ []) more (n + 1) (omega (arith, length-append front (x ∷ [])))
+
+module _ (columns : ℕ) (content : List ℕ) (commits : List Commit) (stands : StandsFor columns content commits) (gate : ℕ) (end : gate ≡ length (journal columns commits)) (long : gate + 1 ≤ length content) where
+  abbrev pub front : List ℕ
+  front = journal columns commits
+
+  pub shut : Closed front content
+  shut = closed front content stands.lists.rest stands.lists.whole stands.lists.ended (omega (arith, long, end))
+
+  -- behind the closed gate anything may stand
+  pub torn_behind : (n : ℕ) (image : List ℕ) → Torn (gate + 1) n content image → StandsFor columns image commits
+  torn_behind n image torn =
+      let kept : take (gate + 1) image ≡ front ++ shut.gate ∷ [] = torn.before ∙ ap (take (gate + 1)) shut.whole ∙ front_and_one front shut.more shut.gate gate end in
+      let whole : image ≡ front ++ shut.gate ∷ drop (gate + 1) image =
+      sym (take-append-drop (gate + 1) image) ∙ ap (λ (bytes : List ℕ). bytes ++ drop (gate + 1) image) kept ∙ append_assoc front (shut.gate ∷ []) (drop (gate + 1) image) in
+      record { lists = record { rest = shut.gate ∷ drop (gate + 1) image; whole = whole; ended = shut.shut; each = stands.lists.each }; recovered = stands.recovered }
+
+  -- with a piece behind the gate
+  abbrev pub tail : List ℕ → List ℕ
+  tail piece = piece ++ drop (gate + 1 + length piece) content
+
+  pub staged_is : (piece : List ℕ) → staged content gate piece ≡ front ++ shut.gate ∷ tail piece
+  staged_is piece =
+      let kept : take (gate + 1) content ≡ front ++ shut.gate ∷ [] = ap (take (gate + 1)) shut.whole ∙ front_and_one front shut.more shut.gate gate end in
+      ap (λ (bytes : List ℕ). bytes ++ piece ++ drop (gate + 1 + length piece) content) kept
+      ∙ append_assoc (front ++ shut.gate ∷ []) piece (drop (gate + 1 + length piece) content) ∙ append_assoc front (shut.gate ∷ []) (tail piece)
+
+  pub opened_is : (piece : List ℕ) → opened content gate piece ≡ front ++ 1 ∷ tail piece
+  opened_is piece =
+      let s = staged content gate piece in
+      let before : take gate s ≡ front = ap (take gate) (staged_is piece) ∙ take_at front (shut.gate ∷ tail piece) gate (sym end) in
+      let behind : drop (gate + 1) s ≡ tail piece = ap (drop (gate + 1)) (staged_is piece) ∙ behind_one front (tail piece) shut.gate gate end in
+      (λ i. before i ++ (1 ∷ []) ++ behind i) ∙ append_assoc front (1 ∷ []) (tail piece)
+
+  module _ (commit : Commit) (has : HasRecord columns commit) (follows : MayFollow commits commit) (piece : List ℕ) (piece_is : piece ≡ body columns commit ++ 0 ∷ []) where
+    abbrev pub after : List ℕ
+    after = drop (gate + 1 + length piece) content
+
+    tail_is : tail piece ≡ body columns commit ++ 0 ∷ after
+    tail_is = ap (λ (bytes : List ℕ). bytes ++ after) piece_is ∙ append_assoc (body columns commit) (0 ∷ []) after
+
+    -- an open gate makes it one commit more
+    one_more : (image : List ℕ) → image ≡ front ++ 1 ∷ tail piece → StandsFor columns image (commits ++ commit ∷ [])
+    one_more image is = record {
+      lists = record {
+        rest = 0 ∷ after;
+        whole = is ∙ ap (λ (bytes : List ℕ). front ++ 1 ∷ bytes) tail_is ∙ sym (journal_more columns commits commit (0 ∷ after));
+        ended = omega arith;
+        each = each_more (HasRecord columns) commits commit stands.lists.each has;
+      };
+      recovered = recovered_more commits commit stands.recovered follows;
+    }
+
+    -- any byte in the gate's place makes it one commit more, or none
+    any_gate : (x : ℕ) (image : List ℕ) → image ≡ front ++ x ∷ tail piece → StandsForOrOneMore columns commits commit image
+    any_gate x image is = elim (cases_eq x 1) [
+      | inl is_open ↦ inr (one_more image (is ∙ ap (λ (y : ℕ). front ++ y ∷ tail piece) is_open))
+      | inr is_shut ↦ inl (record { lists = record { rest = x ∷ tail piece; whole = is; ended = is_shut; each = stands.lists.each }; recovered = stands.recovered })
+    ]
+
+    torn_gate : (image : List ℕ) → Torn gate 1 (staged content gate piece) image → StandsForOrOneMore columns commits commit image
+    torn_gate image torn =
+        let s = staged content gate piece in
+        let before : take gate image ≡ front = torn.before ∙ ap (take gate) (staged_is piece) ∙ take_at front (shut.gate ∷ tail piece) gate (sym end) in
+        let behind : drop (gate + 1) image ≡ tail piece = torn.behind ∙ ap (drop (gate + 1)) (staged_is piece) ∙ behind_one front (tail piece) shut.gate gate end in
+        let wide : length image ≡ length front + suc (length (tail piece)) = torn.size ∙ ap length (staged_is piece) ∙ length-append front (shut.gate ∷ tail piece) in
+        let x = get_or image gate 0 in
+        let rest : drop gate image ≡ x ∷ tail piece = drop_more image gate 0 (omega (arith, wide, end)) ∙ ap (λ (bytes : List ℕ). x ∷ bytes) behind in
+        let whole : image ≡ front ++ x ∷ tail piece = sym (take-append-drop gate image) ∙ (λ i. before i ++ rest i) in
+        any_gate x image whole
+
+    -- at any moment of the two
+    pub half_stored : (image : List ℕ) → HalfStored content gate piece image → StandsForOrOneMore columns commits commit image
+    half_stored image (inl first) = inl (torn_behind (length piece) image first)
+    half_stored image (inr second) = torn_gate image second
+
+    pub stored : (image : List ℕ) → image ≡ opened content gate piece → StandsFor columns image (commits ++ commit ∷ [])
+    stored image is = one_more image (is ∙ opened_is piece)

@@ -1,0 +1,11 @@
+mod Again
+mod Crashes
+mod Loops
+mod Moments
+mod Ones
+mod Pushes
+mod Found
+mod Rows
+mod Scans
+mod Sizes
+mod Values

@@ -1,0 +1,22 @@
+//! A journal of commits on a disk. Each is on the disk before it is acknowledged, and a crash at any moment leaves the commits so
+//! far, or these and the one under way.
+#![tactic(auto)]
+
+mod acts;
+#[cfg(test)]
+mod drawn_tests;
+#[cfg(test)]
+mod field_tests;
+mod laws;
+mod log;
+mod opening;
+mod read;
+mod store;
+#[cfg(test)]
+mod tests;
+mod write;
+
+pub use laws::image_has_one_history;
+pub use log::{AppendFault, Log};
+pub use opening::{OpenCause, OpenRefusal, open};
+pub use read::is_record;
