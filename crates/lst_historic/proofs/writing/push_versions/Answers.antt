@@ -1,0 +1,42 @@
+use Rattle.std.proofs.Common.{◌≡◌, ◌∙◌, ◌+◌, ◌++◌, ◌∷◌, false, true, drop, get_or, ap, subst, sym, List, arith}
+use Rattle.std.specs.Prelude.{Option, None}
+use Rattle.lst_model.specs.Cells.{Cell}
+use Rattle.lst_snapshots.specs.declared.versions.Version.{Version}
+use Rattle.lst_snapshots.specs.Versions.{version_at}
+use Rattle.lst_historic.specs.Blocks.{versions_text, HaveNumbers}
+use Rattle.lst_historic.specs.Moves.{moves, move_of, made_of, goes_on}
+use Rattle.lst_historic.proofs.Written.{at_step, no_step, step_followed, step_ended, version_more, AreRest, rest_first, rest_next}
+use Rattle.lst_historic.proofs.writing.push_versions.Goals as goal
+
+pub loop-place-preserved-then-goes_on : goal.loop-place-preserved-then-goes_on
+loop-place-preserved-then-goes_on c =
+    let step = c.index-steps-place.result in
+    let place = c.loop-place.place in
+    let ms = moves c.args.steps.now in
+    let at = at_step c.args.steps.now place step c.loop-place-test.true (sym c.index-steps-place.is) in
+    let on : true ≡ goes_on step.time (drop (place + 1) ms) = sym c.if-goes_on.true ∙ c.goes_on.ensures in
+    let left : made_of c.row_changed-row.result (drop (place + 1) ms) ≡ made_of c.loop-place.row (drop place ms) =
+    ap (λ r. made_of r (drop (place + 1) ms)) c.row_changed-row.ensures ∙ sym (step_followed place ms (move_of step) c.loop-place.row at on) in
+    record {
+      text = ap (λ vs. c.loop-place.out.items ++ versions_text c.args.columns c.loop-place.at c.loop-place.last vs) left ∙ c.loop-place.invariant.text;
+      rest = subst (λ (vs : List Version). AreRest c.args.columns c.loop-place.last vs (made_of None ms)) (sym left) c.loop-place.invariant.rest;
+    }
+
+pub loop-place-preserved : goal.loop-place-preserved
+loop-place-preserved c =
+    let step = c.index-steps-place.result in
+    let place = c.loop-place.place in
+    let ms = moves c.args.steps.now in
+    let row = c.row_changed-row.result in
+    let at = at_step c.args.steps.now place step c.loop-place-test.true (sym c.index-steps-place.is) in
+    let off : false ≡ goes_on step.time (drop (place + 1) ms) = sym c.if-goes_on.false ∙ c.goes_on.ensures in
+    let made : made_of c.loop-place.row (drop place ms) ≡ version_at step.time row ∷ made_of row (drop (place + 1) ms) =
+    step_ended place ms (move_of step) c.loop-place.row at off ∙ ap (λ r. version_at step.time r ∷ made_of r (drop (place + 1) ms)) (sym c.row_changed-row.ensures) in
+    record {
+      text =
+          ap (λ r. c.push_version.new.out.items ++ versions_text c.args.columns step.time r (made_of row (drop (place + 1) ms))) c.copied-last.ensures
+          ∙ version_more c.loop-place.out.items c.push_version.new.out.items (c.args.out.now.items ++ versions_text c.args.columns 0 None (made_of None ms)) c.args.columns c.loop-place.at c.loop-place.last step.time row place ms c.loop-place.row
+          c.in_ok-push_version.ensures.text made c.loop-place.invariant.text;
+      rest = subst (λ (r : Option (List Cell)). AreRest c.args.columns r (made_of row (drop (place + 1) ms)) (made_of None ms)) (sym c.copied-last.ensures)
+          (rest_next c.args.columns c.loop-place.last (made_of c.loop-place.row (drop place ms)) (made_of None ms) step.time row (made_of row (drop (place + 1) ms)) made c.in_ok-push_version.ensures.numbers c.loop-place.invariant.rest);
+    }

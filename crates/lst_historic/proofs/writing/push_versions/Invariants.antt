@@ -1,0 +1,12 @@
+use Rattle.std.proofs.Common.{◌≡◌, ◌++◌, drop}
+use Rattle.std.specs.Prelude.{None}
+use Rattle.lst_historic.specs.Blocks.{versions_text}
+use Rattle.lst_historic.specs.Moves.{moves, made_of}
+use Rattle.lst_historic.proofs.Written.{AreRest}
+use Rattle.lst_historic.proofs.writing.push_versions.Given as goal
+
+abbrev pub invariant-loop-place : goal.invariant-loop-place
+invariant-loop-place l = record {
+  text : l.out.items ++ versions_text l.columns l.at l.last (made_of l.row (drop l.place (moves l.steps))) ≡ l.fn.out.items ++ versions_text l.columns 0 None (made_of None (moves l.steps));
+  rest : AreRest l.columns l.last (made_of l.row (drop l.place (moves l.steps))) (made_of None (moves l.steps));
+}

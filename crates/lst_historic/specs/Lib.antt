@@ -1,0 +1,10 @@
+pub mod Numbers
+pub mod Blocks
+pub mod Reading
+pub mod Example
+pub mod Places
+pub mod Moves
+pub mod Checking
+pub mod Tabled
+pub mod Refusals
+pub mod Decoding

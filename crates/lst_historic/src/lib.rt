@@ -1,0 +1,27 @@
+//! The versions of all keys of a history in one block of bytes, read as of each time.
+#![tactic(auto)]
+
+mod building;
+mod checking;
+mod decoding;
+mod gathering;
+mod historic;
+mod laws;
+mod numbers;
+mod opening;
+mod places;
+mod reading;
+mod steps;
+mod sums;
+mod tables;
+#[cfg(test)]
+mod tests;
+mod writing;
+
+pub use building::build;
+pub use historic::{Historic, Late, TableRefused};
+pub use laws::{
+    block_has_one_meaning, history_has_its_block, number_has_one_spelling,
+    table_is_that_of_versions, worked_blocks_are_read_aloud,
+};
+pub use opening::{BlockFault, open_block};
