@@ -4,9 +4,8 @@ use Rattle.lst_io.specs.Inputs.{IsWholeInput, ReadsBeyond}
 use Rattle.lst_script.specs.declared.faults.FaultKind.{FaultKind}
 use Rattle.lst_command.specs.declared.status.Status.{Status}
 use Rattle.lst_command.specs.declared.status.Status.TheVariants.{Done, Illegal, Usage, BadScript, TooLong, ReadFault, WriteFault, OutOfMemory}
-use Rattle.lst_script.proofs.Scanning.{text_fault_none}
+use Rattle.lst_script.proofs.Versions.{text_fault_none, one_script}
 use Rattle.lst_layout.specs.declared.limits.Limits.{Limits}
-use Rattle.lst_model.specs.declared.lines.Line.{Line}
 use Rattle.lst_replies.specs.declared.reports.Report.{Report}
 use Rattle.lst_replies.specs.ReportTexts.{IsReportText, text_lines}
 use Rattle.lst_replies.proofs.Faults.{only}
@@ -14,18 +13,15 @@ use Rattle.lst_report.specs.Claims.{IsClaim, report_part, script_lines}
 use Rattle.lst_report.specs.declared.claims.Claim.{Claim}
 use Rattle.lst_report.proofs.Claimed.{read_if_claim}
 use Rattle.lst_script.specs.declared.faults.ScriptFault.TheVariants as faults
-use Rattle.lst_script.specs.Scripts.{AreScript}
-use Rattle.lst_script.specs.Texts.{line_words}
-use Rattle.lst_script.proofs.OneReading.{one_line}
-use Rattle.lst_script.proofs.Scanning.{first_cases}
 use Rattle.lst_options.specs.declared.load.LoadNumbers.{LoadNumbers}
+use Rattle.lst_options.specs.declared.as_of.AsOfOptions.{AsOfOptions}
 use Rattle.lst_options.specs.Options.{NamesLimits, NamesLoad}
-use Rattle.lst_options.proofs.OneStore.{names_one, names_one_load}
+use Rattle.lst_options.proofs.OneStore.{names_one, names_one_as_of, names_one_load}
 use Rattle.lst_command.specs.declared.command.Command.{Command}
 use Rattle.lst_command.specs.declared.command.Command.TheVariants.{Input, Load}
 use Rattle.lst_command.specs.declared.command.Task.{Task}
-use Rattle.lst_command.specs.declared.command.Task.TheVariants.{Run, Work, Check}
-use Rattle.lst_command.specs.Commands.{Names, NamesLoading, NamesTask, task_word}
+use Rattle.lst_command.specs.declared.command.Task.TheVariants.{Run, Work, Check, Migrate, AsOf}
+use Rattle.lst_command.specs.Commands.{Names, NamesLoading, NamesOptions, NamesTask, task_word}
 use Rattle.lst_command.proofs.Naming.{no_load_word}
 use Rattle.lst_command.specs.Runs.{Left}
 use Rattle.lst_command.specs.Owed.{IsFault, IsFaultFor, IsInOrder, IsOrderlyFor, IsVerdict, OwesFor, most_bytes}
@@ -53,19 +49,34 @@ beyond_is_told limit (Some xs) (Some ys) told same beyond =
 first_letter : (a b : Task) → task_word a ≡ task_word b → slice_index_or (task_word a) 0 0 ≡ slice_index_or (task_word b) 0 0
 first_letter a b same = ap (λ (word : List ℕ). slice_index_or word 0 0) same
 
-same_task : (a b : Task) → task_word a ≡ task_word b → a ≡ b
-same_task Run Run same = refl
-same_task Run Work same = let first : 114 ≡ 119 = first_letter Run Work same in absurd (omega (arith, first))
-same_task Run Check same = let first : 114 ≡ 99 = first_letter Run Check same in absurd (omega (arith, first))
-same_task Work Run same = let first : 119 ≡ 114 = first_letter Work Run same in absurd (omega (arith, first))
-same_task Work Work same = refl
-same_task Work Check same = let first : 119 ≡ 99 = first_letter Work Check same in absurd (omega (arith, first))
-same_task Check Run same = let first : 99 ≡ 114 = first_letter Check Run same in absurd (omega (arith, first))
-same_task Check Work same = let first : 99 ≡ 119 = first_letter Check Work same in absurd (omega (arith, first))
-same_task Check Check same = refl
-
-same_input : (a b : Task) (limits other : Limits) → a ≡ b → limits ≡ other → Input a limits ≡ Input b other
-same_input a b limits other task same = λ i. Input (task i) (same i)
+-- the word of a task with its options names one task with its limits
+same_named : (options : List (List ℕ)) (a b : Task) (limits other : Limits) → task_word a ≡ task_word b → NamesOptions options a limits → NamesOptions options b other → Input a limits ≡ Input b other
+same_named options Run Run limits other word first second = ap (λ (l : Limits). Input Run l) (names_one options limits other first second)
+same_named options Run Work limits other word first second = let letter : 114 ≡ 119 = first_letter Run Work word in absurd (omega (arith, letter))
+same_named options Run Check limits other word first second = let letter : 114 ≡ 99 = first_letter Run Check word in absurd (omega (arith, letter))
+same_named options Run Migrate limits other word first second = let letter : 114 ≡ 109 = first_letter Run Migrate word in absurd (omega (arith, letter))
+same_named options Run (AsOf late) limits other word first second = let letter : 114 ≡ 97 = first_letter Run (AsOf late) word in absurd (omega (arith, letter))
+same_named options Work Run limits other word first second = let letter : 119 ≡ 114 = first_letter Work Run word in absurd (omega (arith, letter))
+same_named options Work Work limits other word first second = ap (λ (l : Limits). Input Work l) (names_one options limits other first second)
+same_named options Work Check limits other word first second = let letter : 119 ≡ 99 = first_letter Work Check word in absurd (omega (arith, letter))
+same_named options Work Migrate limits other word first second = let letter : 119 ≡ 109 = first_letter Work Migrate word in absurd (omega (arith, letter))
+same_named options Work (AsOf late) limits other word first second = let letter : 119 ≡ 97 = first_letter Work (AsOf late) word in absurd (omega (arith, letter))
+same_named options Check Run limits other word first second = let letter : 99 ≡ 114 = first_letter Check Run word in absurd (omega (arith, letter))
+same_named options Check Work limits other word first second = let letter : 99 ≡ 119 = first_letter Check Work word in absurd (omega (arith, letter))
+same_named options Check Check limits other word first second = ap (λ (l : Limits). Input Check l) (names_one options limits other first second)
+same_named options Check Migrate limits other word first second = let letter : 99 ≡ 109 = first_letter Check Migrate word in absurd (omega (arith, letter))
+same_named options Check (AsOf late) limits other word first second = let letter : 99 ≡ 97 = first_letter Check (AsOf late) word in absurd (omega (arith, letter))
+same_named options Migrate Run limits other word first second = let letter : 109 ≡ 114 = first_letter Migrate Run word in absurd (omega (arith, letter))
+same_named options Migrate Work limits other word first second = let letter : 109 ≡ 119 = first_letter Migrate Work word in absurd (omega (arith, letter))
+same_named options Migrate Check limits other word first second = let letter : 109 ≡ 99 = first_letter Migrate Check word in absurd (omega (arith, letter))
+same_named options Migrate Migrate limits other word first second = ap (λ (l : Limits). Input Migrate l) (names_one options limits other first second)
+same_named options Migrate (AsOf late) limits other word first second = let letter : 109 ≡ 97 = first_letter Migrate (AsOf late) word in absurd (omega (arith, letter))
+same_named options (AsOf time) Run limits other word first second = let letter : 97 ≡ 114 = first_letter (AsOf time) Run word in absurd (omega (arith, letter))
+same_named options (AsOf time) Work limits other word first second = let letter : 97 ≡ 119 = first_letter (AsOf time) Work word in absurd (omega (arith, letter))
+same_named options (AsOf time) Check limits other word first second = let letter : 97 ≡ 99 = first_letter (AsOf time) Check word in absurd (omega (arith, letter))
+same_named options (AsOf time) Migrate limits other word first second = let letter : 97 ≡ 109 = first_letter (AsOf time) Migrate word in absurd (omega (arith, letter))
+same_named options (AsOf time) (AsOf late) limits other word first second =
+    ap (λ (o : AsOfOptions). Input (AsOf o.time) o.limits) (names_one_as_of options (record { limits = limits; time = time }) (record { limits = other; time = late }) first second)
 
 -- words name one task with its limits at most, and one load
 one_input : (words : List (List ℕ)) (a b : Task) (limits other : Limits) → NamesTask words a limits → NamesTask words b other → Input a limits ≡ Input b other
@@ -73,8 +84,7 @@ one_input words a b limits other first second =
     let both : task_word a ∷ first.options ≡ task_word b ∷ second.options = sym first.word ∙ second.word in
     let word : task_word a ≡ task_word b = cc in
     let options : first.options ≡ second.options = cc in
-    same_input a b limits other (same_task a b word)
-    (names_one second.options limits other (subst (λ (words : List (List ℕ)). NamesLimits words limits) options first.gives) second.gives)
+    same_named second.options a b limits other word (subst (λ (words : List (List ℕ)). NamesOptions words a limits) options first.gives) second.gives
 
 one_load : (words : List (List ℕ)) (a b : LoadNumbers) → NamesLoading words a → NamesLoading words b → Load a ≡ Load b
 one_load words a b first second =
@@ -106,23 +116,15 @@ not_both Run limits input status line kind orderly faulty =
 not_both Work limits input status line kind orderly faulty =
     let none = text_fault_none limits input orderly.0.0 orderly.0.1 in
     cc
+not_both Migrate limits input status line kind orderly faulty =
+    let none = text_fault_none limits input orderly.0.0 orderly.0.1 in
+    cc
+not_both (AsOf time) limits input status line kind orderly faulty =
+    let none = text_fault_none limits input orderly.0.0 orderly.0.1 in
+    cc
 not_both Check limits input status line kind orderly faulty = read_if_claim limits input (Err (faults.Bad line kind)) faulty orderly.1.claim orderly.1.is_claim
 
 -- an input is one claim at most
-one_script : (limits : Limits) (texts : List (List ℕ)) (a b : List Line) → AreScript limits texts a → AreScript limits texts b → a ≡ b
-one_script limits [] a b first second = first ∙ sym second
-one_script limits (text ∷ texts) a b first second =
-    elim (first_cases limits text texts a first) [
-      | inl skipped ↦ elim (first_cases limits text texts b second) [
-        | inl also ↦ one_script limits texts a b skipped.1 also.1
-        | inr read ↦ absurd (true≢false (sym skipped.0 ∙ read.0))
-      ]
-      | inr read ↦ elim (first_cases limits text texts b second) [
-        | inl skipped ↦ absurd (true≢false (sym skipped.0 ∙ read.0))
-        | inr also ↦ read.1.parts ∙ (ap (λ (line : Line). line ∷ read.1.rest) (one_line limits (line_words text) read.1.first also.1.first read.1.is_line also.1.is_line) ∙ (ap (λ (lines : List Line). also.1.first ∷ lines) (one_script limits texts read.1.rest also.1.rest read.1.is_rest also.1.is_rest) ∙ sym also.1.parts))
-      ]
-    ]
-
 one_report : (columns : ℕ) (some : 0 < columns) (text : List ℕ) (a b : Report) → IsReportText columns text a → IsReportText columns text b → a ≡ b
 one_report columns some text a b first second =
     let same : Ok a ≡ Ok b = sym (only columns some (text_lines text) a first.fits first.lines) ∙ only columns some (text_lines text) b second.fits second.lines in
@@ -150,6 +152,8 @@ one_verdict limits claim first second a b verdict other = elim verdict [
 one_status : (task : Task) (limits : Limits) (input : List ℕ) (a b : Status) → IsOrderlyFor task limits input a → IsOrderlyFor task limits input b → a ≡ b
 one_status Run limits input a b orderly other = orderly.1 ∙ sym other.1
 one_status Work limits input a b orderly other = orderly.1 ∙ sym other.1
+one_status Migrate limits input a b orderly other = orderly.1 ∙ sym other.1
+one_status (AsOf time) limits input a b orderly other = orderly.1 ∙ sym other.1
 one_status Check limits input a b orderly other =
     let same = one_claim limits orderly.1.wide input orderly.1.claim other.1.claim orderly.1.is_claim other.1.is_claim in
     one_verdict limits other.1.claim orderly.0 other.0 a b (subst (λ (claim : Claim). IsVerdict limits claim orderly.0 a) same orderly.1.verdict) other.1.verdict
@@ -159,6 +163,8 @@ owed_orderly : (task : Task) (limits : Limits) (input text : List ℕ) (status :
 owed_orderly Run limits input text status old new owed = ((owed.0.script, owed.0.is_script), owed.1)
 owed_orderly Work limits input text status old new owed = ((owed.0.script, owed.0.is_script), owed.1)
 owed_orderly Check limits input text status old new owed = (text, owed.0)
+owed_orderly Migrate limits input text status old new owed = ((owed.0.named.script, (owed.0.named.names, owed.0.is_named)), owed.1)
+owed_orderly (AsOf time) limits input text status old new owed = ((owed.0.script, owed.0.is_script), owed.1)
 
 in_order : (command : Command) (source : Change) (input text : List ℕ) (status : Status) (old new : Left) → source.before.bytes ≡ Some input → Makes command source text status old new → IsInOrder command input status
 in_order (Input task limits) source input text status old new told made =

@@ -4,22 +4,24 @@ use Rattle.std.specs.Prelude.{take, ◌<◌, ◌↔◌, Bool, true, false, IsTru
 use Rattle.std.specs.Io.KnownBytes.{Appends}
 use Rattle.lst_layout.specs.declared.layout.Layout.{Layout}
 use Rattle.lst_layout.specs.declared.limits.Limits.{Limits}
-use Rattle.lst_legal_work.specs.Worked.{IsWorked}
+use Rattle.lst_work_laws.specs.Worked.{IsWorked}
 use Rattle.lst_rule.specs.declared.store.Store.{Store}
 use Rattle.lst_session.specs.declared.crew.Crew.{Crew}
-use Rattle.lst_load.specs.declared.loading.Loaded.{Loaded}
-use Rattle.lst_load.specs.Loaded.{IsLoaded}
+use Rattle.lst_work.specs.declared.loading.Loaded.{Loaded}
+use Rattle.lst_work.specs.Loaded.{IsLoaded}
 use Rattle.lst_options.specs.declared.load.LoadNumbers.{LoadNumbers}
 use Rattle.lst_command.specs.declared.command.Command.{Command}
 use Rattle.lst_command.specs.declared.command.Command.TheVariants.{Input, Load}
 use Rattle.lst_command.specs.declared.command.Task.{Task}
-use Rattle.lst_command.specs.declared.command.Task.TheVariants.{Run, Work, Check}
+use Rattle.lst_command.specs.declared.command.Task.TheVariants.{Run, Work, Check, Migrate, AsOf}
 use Rattle.lst_command.specs.declared.output.Output.{Output}
 use Rattle.lst_command.specs.declared.status.Status.{Status}
 use Rattle.lst_command.specs.declared.status.Status.TheVariants.{Done, Illegal, Usage, BadScript, TooLong, ReadFault, WriteFault, OutOfMemory}
 use Rattle.lst_command.specs.Commands.{Names}
 use Rattle.lst_model.specs.declared.lines.Line.{Line}
-use Rattle.lst_script.specs.Scripts.{IsScript, Explains}
+use Rattle.lst_script.specs.Canonical.{named_text}
+use Rattle.lst_script.specs.Scripts.{IsScript, IsNamed, Explains}
+use Rattle.lst_script.specs.declared.scripts.Named.{Named}
 use Rattle.lst_script.specs.declared.faults.ScriptFault.{ScriptFault}
 use Rattle.lst_script.specs.declared.faults.ScriptFault.TheVariants as faults
 use Rattle.lst_replies.specs.Legal.{IsLegalReport}
@@ -42,6 +44,8 @@ IsFinal status = ⊥
 final : (task : Task) (limits : Limits) (input text : List ℕ) (status : Status) (old new : Left) → OwesFor task limits input text status old new → IsFinal status
 final Run limits input text status old new owed = subst IsFinal (sym owed.1) tt
 final Work limits input text status old new owed = subst IsFinal (sym owed.1) tt
+final Migrate limits input text status old new owed = subst IsFinal (sym owed.1) tt
+final (AsOf time) limits input text status old new owed = subst IsFinal (sym owed.1) tt
 final Check limits input text status old new owed = elim owed.0.verdict [
   | inl legal ↦ subst IsFinal (sym legal.2) tt
   | inr illegal ↦ subst IsFinal (sym illegal.2) tt
@@ -82,6 +86,18 @@ taken_over Work limits input text status both old new owed over = (
   owed.1,
 )
 taken_over Check limits input text status both old new owed over = (owed.0, over.1 owed.1)
+taken_over Migrate limits input text status both old new owed over = (owed.0, owed.1, over.1 owed.2)
+taken_over (AsOf time) limits input text status both old new owed over = (
+  record {
+    script = owed.0.script;
+    is_script = owed.0.is_script;
+    is_text = owed.0.is_text;
+    both = owed.0.both;
+    is_left = is_over both old new owed.0.both owed.0.is_left over;
+    by = owed.0.by;
+  },
+  owed.1,
+)
 
 -- what a command makes has a status with which an output is written
 made_final : (command : Command) (source : Change) (text : List ℕ) (status : Status) (old new : Left) → Makes command source text status old new → IsFinal status
@@ -202,6 +218,14 @@ check_refused : (limits : Limits) (input : List ℕ) (fault : ScriptFault) → E
 check_refused limits input (faults.Bad line kind) is = is
 check_refused limits input faults.OutOfMemory is = tt
 
+migrate_refused : (limits : Limits) (input : List ℕ) (fault : ScriptFault) → Explains limits input fault → IsRefusalFor Migrate limits input (fault_status fault)
+migrate_refused limits input (faults.Bad line kind) is = is
+migrate_refused limits input faults.OutOfMemory is = tt
+
+pub migrate_fault : (limits : Limits) (input bytes : List ℕ) (fault : ScriptFault) (status : Status) → status ≡ fault_status fault → bytes ≡ input → Explains limits bytes fault → IsRefusalFor Migrate limits input status
+migrate_fault limits input bytes fault status same same_input is =
+    subst (IsRefusalFor Migrate limits input) (sym same) (migrate_refused limits input fault (subst (λ (text : List ℕ). Explains limits text fault) same_input is))
+
 pub run_fault : (limits : Limits) (input bytes : List ℕ) (fault : ScriptFault) (status : Status) → status ≡ fault_status fault → bytes ≡ input → Explains limits bytes fault → IsRefusalFor Run limits input status
 run_fault limits input bytes fault status same same_input is =
     subst (IsRefusalFor Run limits input) (sym same) (run_refused limits input fault (subst (λ (text : List ℕ). Explains limits text fault) same_input is))
@@ -253,6 +277,24 @@ work_output limits input bytes script layout report both (Err status) same_input
 pub work_refusal : (limits : Limits) (input : List ℕ) (result : Result Output Status) → IfErr result (λ status. status ≡ OutOfMemory) → IfErr result (IsRefusalFor Work limits input)
 work_refusal limits input (Ok output) is = tt
 work_refusal limits input (Err status) is = subst (IsRefusalFor Work limits input) (sym is) tt
+
+-- the text of version 2 alone is the output of a migration
+pub migrate_output : (limits : Limits) (input bytes : List ℕ) (named : Named) (result : Result Output Status) → bytes ≡ input → IsNamed limits bytes named
+    → IfOk result (HasSaid (named_text named.names named.script) Done) → IfOk result (IsOutputFor Migrate limits input)
+migrate_output limits input bytes named (Ok output) same_input is made = (
+  record {
+    named = named;
+    is_named = subst (λ (bytes : List ℕ). IsNamed limits bytes named) same_input is;
+    is_text = made.said;
+  },
+  made.ended,
+  made.alone,
+)
+migrate_output limits input bytes named (Err status) same_input is made = tt
+
+pub migrate_refusal : (limits : Limits) (input : List ℕ) (result : Result Output Status) → IfErr result (λ status. status ≡ OutOfMemory) → IfErr result (IsRefusalFor Migrate limits input)
+migrate_refusal limits input (Ok output) is = tt
+migrate_refusal limits input (Err status) is = subst (IsRefusalFor Migrate limits input) (sym is) tt
 
 -- the output for the whole input is the task's
 pub made_output : (task : Task) (limits : Limits) (source : Change) (input : List ℕ) (result : Result Output Status) → ReadsInput source input → IfOk result (IsOutputFor task limits input) → IfOk result (IsOutputOf (Input task limits) source)

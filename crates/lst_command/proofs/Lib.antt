@@ -7,3 +7,4 @@ mod Leaving
 mod Loads
 mod Others
 mod Processes
+mod Pasts

@@ -1,12 +1,14 @@
 -- Which words are no command line.
-use Rattle.std.proofs.Common.{◌≡◌, ℕ, List, ◌∷◌, Some, slice_get, slice_index_or, codes, drop, sym, ap, ◌∙◌, arith, subst}
+use Rattle.std.proofs.Common.{◌≡◌, ℕ, List, [], ◌∷◌, Some, slice_get, slice_index_or, codes, drop, refl, sym, ap, ◌∙◌, arith, subst, inl, inr}
+use Rattle.std.specs.Prelude.{◌⊎◌}
 use Rattle.lst_layout.specs.declared.limits.Limits.{Limits}
+use Rattle.lst_options.specs.declared.as_of.AsOfOptions.{AsOfOptions}
 use Rattle.lst_options.specs.declared.load.LoadNumbers.{LoadNumbers}
-use Rattle.lst_options.specs.Options.{NamesLimits, NamesLoad}
+use Rattle.lst_options.specs.Options.{NamesAsOf, NamesLimits, NamesLoad}
 use Rattle.lst_command.specs.declared.command.Command.TheVariants.{Input, Load}
 use Rattle.lst_command.specs.declared.command.Task.{Task}
-use Rattle.lst_command.specs.declared.command.Task.TheVariants.{Run, Work, Check}
-use Rattle.lst_command.specs.Commands.{NamesNone, task_word}
+use Rattle.lst_command.specs.declared.command.Task.TheVariants.{Run, Work, Check, Migrate, AsOf}
+use Rattle.lst_command.specs.Commands.{NamesNone, NamesOptions, NamesTask, TakesLimits, task_word}
 
 first_letter : (a b : List ℕ) → a ≡ b → slice_index_or a 0 0 ≡ slice_index_or b 0 0
 first_letter a b same = ap (λ (word : List ℕ). slice_index_or word 0 0) same
@@ -16,6 +18,39 @@ pub no_load_word : (task : Task) → task_word task ≡ codes "load" → ⊥
 no_load_word Run same = let first : 114 ≡ 108 = first_letter (codes "run") (codes "load") same in omega (arith, first)
 no_load_word Work same = let first : 119 ≡ 108 = first_letter (codes "work") (codes "load") same in omega (arith, first)
 no_load_word Check same = let first : 99 ≡ 108 = first_letter (codes "check") (codes "load") same in omega (arith, first)
+no_load_word Migrate same = let first : 109 ≡ 108 = first_letter (codes "migrate") (codes "load") same in omega (arith, first)
+no_load_word (AsOf time) same = let first : 97 ≡ 108 = first_letter (codes "asof") (codes "load") same in omega (arith, first)
+
+-- nor is that of a task with the options of a store alone `asof`
+no_as_of_word : (task : Task) → TakesLimits task → task_word task ≡ codes "asof" → ⊥
+no_as_of_word Run plain same = let first : 114 ≡ 97 = first_letter (codes "run") (codes "asof") same in omega (arith, first)
+no_as_of_word Work plain same = let first : 119 ≡ 97 = first_letter (codes "work") (codes "asof") same in omega (arith, first)
+no_as_of_word Check plain same = let first : 99 ≡ 97 = first_letter (codes "check") (codes "asof") same in omega (arith, first)
+no_as_of_word Migrate plain same = let first : 109 ≡ 97 = first_letter (codes "migrate") (codes "asof") same in omega (arith, first)
+no_as_of_word (AsOf time) plain same = plain
+
+-- behind its word stand the options of a store
+plain_options : (options : List (List ℕ)) (task : Task) (limits : Limits) → TakesLimits task → NamesLimits options limits → NamesOptions options task limits
+plain_options options Run limits plain names = names
+plain_options options Work limits plain names = names
+plain_options options Check limits plain names = names
+plain_options options Migrate limits plain names = names
+plain_options options (AsOf time) limits plain names = absurd plain
+
+words_are : (words : List (List ℕ)) (word : List ℕ) → slice_get words 0 ≡ Some word → words ≡ word ∷ drop 1 words
+words_are [] word first = absurd (cc)
+words_are (other ∷ words) word first = let same : other ≡ word = cc in ap (λ (w : List ℕ). w ∷ words) same
+
+-- words that begin with the word of a task with the options of a store alone, and name these limits behind it
+pub task_is : (words : List (List ℕ)) (task : Task) (limits : Limits) → TakesLimits task → slice_get words 0 ≡ Some (task_word task) → NamesLimits (drop 1 words) limits → NamesTask words task limits
+task_is words task limits plain first names = record { options = drop 1 words; word = words_are words (task_word task) first; gives = plain_options (drop 1 words) task limits plain names }
+
+options_or_time : (options : List (List ℕ)) (task : Task) (limits : Limits) → NamesOptions options task limits → (NamesLimits options limits) ⊎ (task_word task ≡ codes "asof")
+options_or_time options Run limits names = inl names
+options_or_time options Work limits names = inl names
+options_or_time options Check limits names = inl names
+options_or_time options Migrate limits names = inl names
+options_or_time options (AsOf time) limits names = inr refl
 
 first_word : (words options : List (List ℕ)) (word : List ℕ) → words ≡ word ∷ options → slice_get words 0 ≡ Some word
 first_word words options word same = ap (λ (all : List (List ℕ)). slice_get all 0) same
@@ -29,9 +64,23 @@ behind : (words options : List (List ℕ)) (word : List ℕ) → words ≡ word 
 behind words options word same = sym (ap (λ (all : List (List ℕ)). drop 1 all) same)
 
 -- words that begin with the word of a task, and name no limits behind it
-pub no_task : (words : List (List ℕ)) (task : Task) → slice_get words 0 ≡ Some (task_word task) → ((limits : Limits) → ¬ NamesLimits (drop 1 words) limits) → NamesNone words
-no_task words task first none (Input other limits) names = none limits (subst (λ (options : List (List ℕ)). NamesLimits options limits) (behind words names.options (task_word other) names.word) names.gives)
-no_task words task first none (Load numbers) names = no_load_word task (sym (same_word words names.options (task_word task) (codes "load") first names.word))
+pub no_task : (words : List (List ℕ)) (task : Task) → TakesLimits task → slice_get words 0 ≡ Some (task_word task) → ((limits : Limits) → ¬ NamesLimits (drop 1 words) limits) → NamesNone words
+no_task words task plain first none (Input other limits) names = elim (options_or_time names.options other limits names.gives) [
+  | inl given ↦ none limits (subst (λ (options : List (List ℕ)). NamesLimits options limits) (behind words names.options (task_word other) names.word) given)
+  | inr is ↦ no_as_of_word task plain (sym (same_word words names.options (task_word task) (task_word other) first names.word) ∙ is)
+]
+no_task words task plain first none (Load numbers) names = no_load_word task (sym (same_word words names.options (task_word task) (codes "load") first names.word))
+
+-- words that begin with `asof`, and name no limits and time behind it
+pub no_as_of : (words : List (List ℕ)) → slice_get words 0 ≡ Some (codes "asof") → ((options : AsOfOptions) → ¬ NamesAsOf (drop 1 words) options) → NamesNone words
+no_as_of words first none (Input Run limits) names = no_as_of_word Run tt (same_word words names.options (codes "asof") (codes "run") first names.word)
+no_as_of words first none (Input Work limits) names = no_as_of_word Work tt (same_word words names.options (codes "asof") (codes "work") first names.word)
+no_as_of words first none (Input Check limits) names = no_as_of_word Check tt (same_word words names.options (codes "asof") (codes "check") first names.word)
+no_as_of words first none (Input Migrate limits) names = no_as_of_word Migrate tt (same_word words names.options (codes "asof") (codes "migrate") first names.word)
+no_as_of words first none (Input (AsOf time) limits) names =
+    let given : AsOfOptions = record { limits = limits; time = time } in
+    none given (subst (λ (options : List (List ℕ)). NamesAsOf options given) (behind words names.options (codes "asof") names.word) names.gives)
+no_as_of words first none (Load numbers) names = let first_is : 108 ≡ 97 = first_letter (codes "load") (codes "asof") (same_word words names.options (codes "asof") (codes "load") first names.word) in omega (arith, first_is)
 
 -- words that begin with no word of a task, and name no load
 pub no_load : (words : List (List ℕ)) → ((task : Task) → ¬ (slice_get words 0 ≡ Some (task_word task))) → ((numbers : LoadNumbers) → ¬ NamesLoad (drop 1 words) numbers) → NamesNone words

@@ -1,7 +1,7 @@
 -- What each status says: of the words, of what was read, of what was written, and of what is left to the caller.
 use Rattle.std.specs.Prelude.{◌≡◌, ◌⊎◌, ℕ, ◌≤◌, ◌<◌, List, [], Option, Some, length, take}
 use Rattle.std.specs.Io.KnownBytes.{Appends}
-use Rattle.lst_io.specs.Faults.{Rose}
+use Rattle.lst_model.specs.Faults.{Rose}
 use Rattle.lst_io.specs.Inputs.{IsWholeInput, ReadsWithin, ReadsBeyond}
 use Rattle.lst_script.specs.declared.faults.FaultKind.{FaultKind}
 use Rattle.lst_layout.specs.declared.limits.Limits.{Limits}

@@ -3,23 +3,38 @@ use Rattle.std.specs.Prelude.{◌≡◌, ℕ, List, ◌∷◌, Option, Some, Non
 use Rattle.lst_layout.specs.declared.limits.Limits.{Limits}
 use Rattle.lst_layout.specs.Limits.{IsValid}
 use Rattle.lst_options.specs.declared.load.LoadNumbers.{LoadNumbers}
-use Rattle.lst_options.specs.Options.{IsLoadable, NamesLimits, NamesLoad}
+use Rattle.lst_options.specs.Options.{IsLoadable, NamesAsOf, NamesLimits, NamesLoad}
 use Rattle.lst_command.specs.declared.command.Command.{Command}
 use Rattle.lst_command.specs.declared.command.Command.TheVariants.{Input, Load}
 use Rattle.lst_command.specs.declared.command.Task.{Task}
-use Rattle.lst_command.specs.declared.command.Task.TheVariants.{Run, Work, Check}
+use Rattle.lst_command.specs.declared.command.Task.TheVariants.{Run, Work, Check, Migrate, AsOf}
 
 -- the word of a task
 abbrev pub task_word : Task → List ℕ
 task_word Run = codes "run"
 task_word Work = codes "work"
 task_word Check = codes "check"
+task_word Migrate = codes "migrate"
+task_word (AsOf time) = codes "asof"
+
+-- the options behind it name these limits, and the time
+abbrev pub NamesOptions : List (List ℕ) → Task → Limits → Type 0
+NamesOptions options Run limits = NamesLimits options limits
+NamesOptions options Work limits = NamesLimits options limits
+NamesOptions options Check limits = NamesLimits options limits
+NamesOptions options Migrate limits = NamesLimits options limits
+NamesOptions options (AsOf time) limits = NamesAsOf options (record { limits = limits; time = time })
+
+-- no other options than those of a store stand behind the word
+abbrev pub TakesLimits : Task → Type 0
+TakesLimits (AsOf time) = ⊥
+TakesLimits task = Unit {0}
 
 -- the words are the word of the task, and behind it options that name these limits
 pub record NamesTask (words : List (List ℕ)) (task : Task) (limits : Limits) : Type 0 where
   pub options : List (List ℕ)
   pub word : words ≡ task_word task ∷ options
-  pub gives : NamesLimits options limits
+  pub gives : NamesOptions options task limits
 
 -- the words are the word of a load, and behind it options that name its numbers
 pub record NamesLoading (words : List (List ℕ)) (numbers : LoadNumbers) : Type 0 where

@@ -1,13 +1,15 @@
 -- What a command owes, a task for its input: its output, its status, and what it leaves to its caller.
-use Rattle.std.specs.Prelude.{◌≡◌, ◌⊎◌, ℕ, ◌*◌, ◌≤◌, ◌<◌, List, ◌++◌, length, Some, codes, decimal}
+use Rattle.std.specs.Prelude.{◌≡◌, ◌⊎◌, ℕ, ◌*◌, ◌≤◌, ◌<◌, List, ◌++◌, length, Some, codes}
 use Rattle.lst_model.specs.declared.lines.Line.{Line}
 use Rattle.lst_layout.specs.declared.layout.Layout.{Layout}
+use Rattle.lst_layout.specs.Limits.{IsValid}
 use Rattle.lst_layout.specs.declared.limits.Limits.{Limits}
-use Rattle.lst_legal_work.specs.Worked.{IsWorked}
-use Rattle.lst_load.specs.declared.loading.Loaded.{Loaded}
-use Rattle.lst_load.specs.Loaded.{IsLoaded}
+use Rattle.lst_work_laws.specs.Worked.{IsWorked}
+use Rattle.lst_work.specs.declared.loading.Loaded.{Loaded}
+use Rattle.lst_work.specs.Loaded.{IsLoaded}
 use Rattle.lst_machine.specs.State.{opening}
-use Rattle.lst_machine.specs.Machine.{replies}
+use Rattle.lst_machine.specs.Machine.{replies, state_after}
+use Rattle.lst_past.specs.Past.{number_line, past_text}
 use Rattle.lst_options.specs.declared.load.LoadNumbers.{LoadNumbers}
 use Rattle.lst_replies.specs.declared.reports.Report.{Report}
 use Rattle.lst_replies.specs.Legal.{IsLegalReport}
@@ -16,13 +18,15 @@ use Rattle.lst_replies.specs.Texts.{script_text}
 use Rattle.lst_report.specs.Claims.{IsClaim, IsFaultAt}
 use Rattle.lst_report.specs.declared.claims.Claim.{Claim}
 use Rattle.lst_rule.specs.declared.store.Store.{Store}
-use Rattle.lst_script.specs.Scripts.{IsScript, text_fault}
+use Rattle.lst_script.specs.Canonical.{named_text}
+use Rattle.lst_script.specs.Scripts.{IsScript, IsNamed, text_fault}
+use Rattle.lst_script.specs.declared.scripts.Named.{Named}
 use Rattle.lst_script.specs.declared.faults.FaultKind.{FaultKind}
 use Rattle.lst_session.specs.declared.crew.Crew.{Crew}
 use Rattle.lst_command.specs.declared.command.Command.{Command}
 use Rattle.lst_command.specs.declared.command.Command.TheVariants.{Input, Load}
 use Rattle.lst_command.specs.declared.command.Task.{Task}
-use Rattle.lst_command.specs.declared.command.Task.TheVariants.{Run, Work, Check}
+use Rattle.lst_command.specs.declared.command.Task.TheVariants.{Run, Work, Check, Migrate, AsOf}
 use Rattle.lst_command.specs.declared.status.Status.{Status}
 use Rattle.lst_command.specs.declared.status.Status.TheVariants.{Done, Illegal}
 use Rattle.lst_command.specs.Runs.{Left, LeftBy}
@@ -75,11 +79,34 @@ pub record OwesVerdict (limits : Limits) (input text : List ℕ) (status : Statu
   pub is_claim : IsClaim limits input claim
   pub verdict : IsVerdict limits claim text status
 
--- ---- what a load owes
+-- ---- what a migration owes
 
--- a word and a number behind it, on a line
-abbrev pub number_line : List ℕ → ℕ → List ℕ
-number_line word number = word ++ decimal number ++ codes "\n"
+-- the input is this script with these names, and the text is theirs in version 2
+pub record OwesMigration (limits : Limits) (input text : List ℕ) : Type 0 where
+  pub named : Named
+  pub is_named : IsNamed limits input named
+  pub is_text : text ≡ named_text named.names named.script
+
+-- a script of the text that is owed has the replies of a script of the input
+abbrev pub MigrationIsTheSame : Limits → List ℕ → List ℕ → Type 0
+MigrationIsTheSame limits input text = IsValid limits → OwesMigration limits input text → (script other : List Line) → IsScript limits input script → IsScript limits text other → run_text limits other ≡ run_text limits script
+
+-- ---- what a look at a past table owes
+
+-- the bytes of the block of the history after the last line, and its table as of a time
+abbrev pub as_of_text : Limits → List Line → ℕ → List ℕ
+as_of_text limits script time = past_text limits.columns (state_after limits opening script).store.history time
+
+-- the input is this script, the text tells the table as of the time, and this store and crew are left, as after a run
+pub record OwesPast (time : ℕ) (limits : Limits) (input text : List ℕ) (left : Left) : Type 0 where
+  pub script : List Line
+  pub is_script : IsScript limits input script
+  pub is_text : text ≡ as_of_text limits script time
+  pub both : Store × Crew
+  pub is_left : left ≡ Some both
+  pub by : LeftBy limits script both
+
+-- ---- what a load owes
 
 -- how many rows there are, and what they add up to
 abbrev pub load_text : ℕ → ℕ → List ℕ
@@ -97,17 +124,21 @@ pub record OwesLoad (numbers : LoadNumbers) (text : List ℕ) (left : Left) : Ty
 -- ---- what a task owes
 
 -- The input is in order for this task, which comes to this text and, where the text is written, to this status. Where `old` was left before, `new` is
--- left now: what the task made, and by a check what there was.
+-- left now: what the task made, and by a check or a migration what there was.
 abbrev pub OwesFor : Task → Limits → List ℕ → List ℕ → Status → Left → Left → Type 0
 OwesFor Run limits input text status old new = OwesAnswers limits input text new × (status ≡ Done)
 OwesFor Work limits input text status old new = OwesReport limits input text new × (status ≡ Done)
 OwesFor Check limits input text status old new = OwesVerdict limits input text status × (new ≡ old)
+OwesFor Migrate limits input text status old new = OwesMigration limits input text × (status ≡ Done) × (new ≡ old)
+OwesFor (AsOf time) limits input text status old new = OwesPast time limits input text new × (status ≡ Done)
 
 -- the input's first faulty line for this task
 abbrev pub IsFaultFor : Task → Limits → List ℕ → ℕ → FaultKind → Type 0
 IsFaultFor Run limits input line kind = text_fault limits input ≡ Some (line, kind)
 IsFaultFor Work limits input line kind = text_fault limits input ≡ Some (line, kind)
 IsFaultFor Check limits input line kind = IsFaultAt limits input line kind
+IsFaultFor Migrate limits input line kind = text_fault limits input ≡ Some (line, kind)
+IsFaultFor (AsOf time) limits input line kind = text_fault limits input ≡ Some (line, kind)
 
 -- a load has no input
 abbrev pub IsFault : Command → List ℕ → ℕ → FaultKind → Type 0
@@ -125,6 +156,8 @@ abbrev pub IsOrderlyFor : Task → Limits → List ℕ → Status → Type 0
 IsOrderlyFor Run limits input status = IsAnyScript limits input × (status ≡ Done)
 IsOrderlyFor Work limits input status = IsAnyScript limits input × (status ≡ Done)
 IsOrderlyFor Check limits input status = (text : List ℕ) × OwesVerdict limits input text status
+IsOrderlyFor Migrate limits input status = IsAnyScript limits input × (status ≡ Done)
+IsOrderlyFor (AsOf time) limits input status = IsAnyScript limits input × (status ≡ Done)
 
 -- the input isn't too long, is in order for this task, and this status is due to it
 pub record IsInOrderFor (task : Task) (limits : Limits) (input : List ℕ) (status : Status) : Type 0 where

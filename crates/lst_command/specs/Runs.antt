@@ -3,6 +3,7 @@ use Rattle.std.specs.Prelude.{◌≡◌, ℕ, List, ◌++◌, Option}
 use Rattle.lst_layout.specs.declared.limits.Limits.{Limits}
 use Rattle.lst_model.specs.declared.lines.Line.{Line}
 use Rattle.lst_model.specs.Lines.{LineFits}
+use Rattle.lst_model.specs.Soundness.{IsSound}
 use Rattle.lst_machine.specs.State.{State, opening}
 use Rattle.lst_machine.specs.Machine.{replies, state_after}
 use Rattle.lst_replies.specs.Texts.{script_text}
@@ -30,3 +31,7 @@ pub record LeftBy (limits : Limits) (script : List Line) (left : Store × Crew) 
   pub crew_of : IsCrewOf left.0 left.1
   pub tells : TellsState left.1.seat.view
   pub last : state_told left.1.seat.view ≡ state_after limits opening script
+
+-- the history that a crew tells after a run is sound
+abbrev pub RunsAreSound : Type 0
+RunsAreSound = (limits : Limits) (script : List Line) (left : Store × Crew) → LeftBy limits script left → IsSound (state_told left.1.seat.view).store.history

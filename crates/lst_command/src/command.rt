@@ -1,11 +1,11 @@
 //! The command that the words of a command line name.
 ghost use Rattle.std.specs.Prelude.{◌≡◌, ◌↔◌, IsTrue, IfOk, IfSome, Some, None, codes, map, slice_get, string_bytes};
 ghost use Rattle.lst_command.specs.declared.command.Task.{Task as TaskNamed};
-ghost use Rattle.lst_command.specs.Commands.{IsRunnable, TellsCommand, task_word};
+ghost use Rattle.lst_command.specs.Commands.{IsRunnable, TakesLimits, TellsCommand, task_word};
 
 use lst_layout::Limits;
-use lst_model::OutOfMemory;
-use lst_options::{LoadNumbers, limits_of_words, load_of_words};
+use lst_model::{OutOfMemory, Time};
+use lst_options::{LoadNumbers, as_of_of_words, limits_of_words, load_of_words};
 use std::alloc::Global;
 
 /// What is done with an input.
@@ -17,6 +17,10 @@ pub enum Task {
     Work,
     /// The input is a script with a report, which is judged: `check`.
     Check,
+    /// The input is a script, which is written in version 2: `migrate`.
+    Migrate,
+    /// The input is a script, which is run line by line, and its table as of a time is told from the block of its history: `asof`.
+    AsOf { time: Time },
 }
 
 /// What is to be done.
@@ -33,6 +37,9 @@ pub(crate) fn command_of(alloc: Global, words: &[String]) -> Result<Option<Comma
     ensures told { IfOk result (TellsCommand (map string_bytes words.now)) }
     ensures valid { IfOk result (λ command. IfSome command IsRunnable) }
 {
+    if begins_with_as_of(words) {
+        return as_of_named(alloc, words);
+    }
     match task_of(words) {
         Some(task) => task_named(alloc, task, words),
         None => load_named(alloc, words),
@@ -41,12 +48,28 @@ pub(crate) fn command_of(alloc: Global, words: &[String]) -> Result<Option<Comma
 
 /// The command that words name whose first is the word of this task.
 fn task_named(alloc: Global, task: Task, words: &[String]) -> Result<Option<Command>, OutOfMemory>
-    requires { slice_get (map string_bytes words.now) 0 ≡ Some (task_word task) }
+    requires plain { TakesLimits task }
+    requires word { slice_get (map string_bytes words.now) 0 ≡ Some (task_word task) }
     ensures told { IfOk result (TellsCommand (map string_bytes words.now)) }
     ensures valid { IfOk result (λ command. IfSome command IsRunnable) }
 {
     match limits_of_words(alloc, words)? {
         Some(limits) => Ok(Some(Command::Input { task, limits })),
+        None => Ok(None),
+    }
+}
+
+/// The command that words name whose first is `asof`.
+fn as_of_named(alloc: Global, words: &[String]) -> Result<Option<Command>, OutOfMemory>
+    requires { slice_get (map string_bytes words.now) 0 ≡ Some (codes "asof") }
+    ensures told { IfOk result (TellsCommand (map string_bytes words.now)) }
+    ensures valid { IfOk result (λ command. IfSome command IsRunnable) }
+{
+    match as_of_of_words(alloc, words)? {
+        Some(options) => Ok(Some(Command::Input {
+            task: Task::AsOf { time: options.time },
+            limits: options.limits,
+        })),
         None => Ok(None),
     }
 }
@@ -73,8 +96,17 @@ fn begins_with_load(words: &[String]) -> bool
     !words.is_empty() && is_word(&words[0], b"load")
 }
 
-/// The task that the first word names.
+/// Whether the first word is that of a look at a past table.
+fn begins_with_as_of(words: &[String]) -> bool
+    ensures { IsTrue result ↔ (slice_get (map string_bytes words.now) 0 ≡ Some (codes "asof")) }
+{
+    !words.is_empty() && is_word(&words[0], b"asof")
+}
+
+/// The task that the first word names, where no other options than those of a store stand behind it.
 fn task_of(words: &[String]) -> Option<Task>
+    requires { ¬ (slice_get (map string_bytes words.now) 0 ≡ Some (codes "asof")) }
+    ensures plain { IfSome result TakesLimits }
     ensures some { IfSome result (λ task. slice_get (map string_bytes words.now) 0 ≡ Some (task_word task)) }
     ensures none { result ≡ None → (task : TaskNamed) → ¬ (slice_get (map string_bytes words.now) 0 ≡ Some (task_word task)) }
 {
@@ -89,6 +121,9 @@ fn task_of(words: &[String]) -> Option<Task>
     }
     if is_word(&words[0], b"check") {
         return Some(Task::Check);
+    }
+    if is_word(&words[0], b"migrate") {
+        return Some(Task::Migrate);
     }
     None
 }

@@ -4,13 +4,20 @@ ghost use Rattle.lst_model.specs.declared.lines.Line.{Line};
 ghost use Rattle.lst_script.specs.Scripts.{IsScript};
 ghost use Rattle.lst_machine.specs.Others.{without_merges};
 ghost use Rattle.lst_layout.specs.declared.limits.Limits.{Limits};
-ghost use Rattle.lst_command.specs.Owed.{run_text};
+ghost use Rattle.lst_command.specs.Owed.{run_text, MigrationIsTheSame};
 ghost use Rattle.lst_command.specs.Merges.{other_text};
 ghost use Rattle.lst_command.specs.Loads.{LoadsReadNothing};
+ghost use Rattle.lst_command.specs.Runs.{RunsAreSound};
 
 /// An input is one script at most, so a run has one output alone. The contract is a law; the body does nothing.
 pub fn input_is_one_script()
     ensures { (limits : Limits) (input : List ℕ) (script other : List Line) → IsScript limits input script → IsScript limits input other → script ≡ other }
+{}
+
+/// What a migration writes is the same script as its input, so a run of it has the same output. The contract is a law; the body does
+/// nothing.
+pub fn a_migration_changes_no_reply()
+    ensures { (limits : Limits) (input text : List ℕ) → MigrationIsTheSame limits input text }
 {}
 
 /// With the merge lines taken out of a script, the output of its run loses exactly the texts of their replies. The contract is a law; the
@@ -23,4 +30,10 @@ pub fn merges_change_no_other_text()
 /// nothing.
 pub fn a_load_reads_nothing()
     ensures { LoadsReadNothing }
+{}
+
+/// The history that a store's crew tells after a run is sound: so no two overlapping transactions that were committed wrote one key. The
+/// contract is a law; the body does nothing.
+pub fn histories_of_runs_are_sound()
+    ensures { RunsAreSound }
 {}

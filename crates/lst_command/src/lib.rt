@@ -5,6 +5,7 @@ mod command;
 mod ending;
 mod execution;
 mod laws;
+mod looking;
 mod messages;
 mod output;
 mod printing;
@@ -13,7 +14,10 @@ mod status;
 
 pub use command::{Command, Task};
 pub use ending::{ended, program};
-pub use laws::{a_load_reads_nothing, input_is_one_script, merges_change_no_other_text};
+pub use laws::{
+    a_load_reads_nothing, a_migration_changes_no_reply, histories_of_runs_are_sound,
+    input_is_one_script, merges_change_no_other_text,
+};
 pub use lst_options::LoadNumbers;
 pub use lst_work::{FreeGate, Gate};
 pub use shell::lstore;

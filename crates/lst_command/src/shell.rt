@@ -12,23 +12,24 @@ ghost use Rattle.lst_options.specs.Options.{IsLoadable};
 ghost use Rattle.lst_command.specs.Statuses.{fault_status};
 ghost use Rattle.lst_legal.specs.Judged.{AreSessionsBelow};
 ghost use Rattle.lst_replies.specs.ReportTexts.{report_text};
+ghost use Rattle.lst_script.specs.Canonical.{named_text};
 
 use crate::command::{Command, Task, command_of};
 use crate::execution::{Ran, execute, layout};
+use crate::looking::look_back;
 use crate::messages::report;
 use crate::output::Output;
 use crate::printing::print_loaded;
 use crate::status::Status;
 use lst_io::{Failed, ReadAllFault, Sink, Source, read_all, write_all};
 use lst_layout::Limits;
-use lst_load::{Loaded, load};
-use lst_model::{OutOfMemory, Text};
+use lst_model::{OutOfMemory, Text, Time};
 use lst_options::LoadNumbers;
 use lst_report::{Claim, Report, legal, print_report, read_claim};
 use lst_rule::Store;
-use lst_script::{ScriptFault, parse};
+use lst_script::{Named, ScriptFault, parse, parse_named, print2};
 use lst_session::Crew;
-use lst_work::{Gate, work};
+use lst_work::{Gate, Loaded, load, work};
 use std::alloc::Global;
 use std::sync::Wait;
 use std::thread::Threads;
@@ -39,23 +40,26 @@ const MOST_BYTES: u64 = 16_777_216;
 /// Runs the command that the words name: reads its input from `source` to the end, unless the command is `load`, writes its output to `sink` as a
 /// whole, and leaves a line on `errors` where it ends with another status than `Done` or `Illegal`.
 ///
-/// The command is `run`, `work` or `check`, with the options of a store behind it, which name limits, or `load`, with a seed and numbers of keys and
-/// sessions as its options. The input has at most 16,777,216 bytes.
+/// The command is `run`, `work`, `check` or `migrate`, with the options of a store behind it, which name limits, `asof` with `--time` beside
+/// them, or `load`, with a seed and numbers of keys and sessions as its options. The input has at most 16,777,216 bytes.
 /// For `run` it is a script, and the output is what the machine of one thread answers to each line under the limits. For `work` it is a script
 /// too, on which all sessions of a store work side by side, and the output is a report of it: which one is up to their steps, but it is legal for
 /// the script. For `check` it is a script, the line `report` and a report: the output is `legal`, with `Done`, exactly where the report is legal for
-/// the script under the limits, and `illegal`, with `Illegal`, where it isn't. The words are looked at first, then the whole input is
-/// read, then its lines are, then they are run, and then the output is written at once. Want of memory may come at any of these but the last,
-/// so at the words too: then nothing is read.
+/// the script under the limits, and `illegal`, with `Illegal`, where it isn't.
+/// For `migrate` it is a script, and the output is its text of version 2, which is read as the same script.
+/// For `asof` it is a script too, which is run as for `run`. The output has a line `bytes` with the length of the block of the history after
+/// the last line, and behind it `rows` with the table as of the time, by rising key, or `future` with the length of the history where the time is above it.
+/// The words are looked at first, then the whole input is read, then its lines are, then they are run, and then the output is written at once.
+/// Want of memory may come at any of these but the last, so at the words too: then nothing is read.
 ///
 /// For `load` nothing is read. All sessions of a new store work on the script that the seed generates, and the output is two lines: `rows` with the
 /// number of keys, which is that of the rows, and `total` with 1,000 times as much, which is what they add up to. It ends with `Done`, unless the
 /// sink fails or memory is wanting.
 ///
-/// With `Done` and with `WriteFault` of a run, `left` receives a store with those limits and the crew that hosts all of it, which tells the machine's
-/// state after the last line; of sessions at work the store and the crew in which they are gathered, under whose history the very report that was
-/// written is legal. Of a load it receives the store and the crew in which its sessions are gathered. With any other status, and of a check, `left`
-/// stays as it is.
+/// With `Done` and with `WriteFault` of a run, and of a look at a past table, `left` receives a store with those limits and the crew that hosts all of
+/// it, which tells the machine's state after the last line; of sessions at work the store and the crew in which they are gathered, under whose history
+/// the very report that was written is legal. Of a load it receives the store and the crew in which its sessions are gathered. With any other status,
+/// and of a check or a migration, `left` stays as it is.
 ///
 /// A worker calls the gate before each of its lines, and after each that was answered, which no clause says. Nothing is promised of when the call returns: a session that commits
 /// waits while another one does.
@@ -248,6 +252,8 @@ fn make<R: Threads + Wait + Sync, G: Gate + Sync>(
         Task::Run => run_input(alloc, limits, input),
         Task::Work => work_input(rt, alloc, limits, input, gate),
         Task::Check => check_input(alloc, limits, input),
+        Task::Migrate => migrate_input(alloc, limits, input),
+        Task::AsOf { time } => as_of_input(alloc, limits, time, input),
     }
 }
 
@@ -273,6 +279,23 @@ fn run_input(alloc: Global, limits: &Limits, input: &Text) -> Result<Output, Sta
         Err(fault) => return Err(of_fault(fault)),
     };
     match execute(alloc, script.items(), limits) {
+        Ok(ran) => Ok(output_of(ran)),
+        Err(OutOfMemory) => Err(Status::OutOfMemory),
+    }
+}
+
+/// The output of a look at a past table.
+#[tactic(auto, using(crate::proofs::Pasts::past_fault))]
+fn as_of_input(alloc: Global, limits: &Limits, time: Time, input: &Text) -> Result<Output, Status>
+    requires { IsValid limits.now }
+    ensures output { IfOk result (IsOutputFor (TaskOf.AsOf time) limits.now input.now) }
+    ensures refusal { IfErr result (IsRefusalFor (TaskOf.AsOf time) limits.now input.now) }
+{
+    let script = match parse(alloc, input.as_bytes(), limits) {
+        Ok(script) => script,
+        Err(fault) => return Err(of_fault(fault)),
+    };
+    match look_back(alloc, script.items(), limits, time) {
         Ok(ran) => Ok(output_of(ran)),
         Err(OutOfMemory) => Err(Status::OutOfMemory),
     }
@@ -337,6 +360,34 @@ fn check_input(alloc: Global, limits: &Limits, input: &Text) -> Result<Output, S
     match read_claim(alloc, input.as_bytes(), limits) {
         Ok(claim) => judge(alloc, limits, &claim),
         Err(fault) => Err(of_fault(fault)),
+    }
+}
+
+/// The output of a migration.
+#[tactic(auto, using(crate::proofs::Leaving::migrate_fault, crate::proofs::Leaving::migrate_output, crate::proofs::Leaving::migrate_refusal))]
+fn migrate_input(alloc: Global, limits: &Limits, input: &Text) -> Result<Output, Status>
+    requires { IsValid limits.now }
+    ensures output { IfOk result (IsOutputFor TaskOf.Migrate limits.now input.now) }
+    ensures refusal { IfErr result (IsRefusalFor TaskOf.Migrate limits.now input.now) }
+{
+    match parse_named(alloc, input.as_bytes(), limits) {
+        Ok(named) => migrated(alloc, &named),
+        Err(fault) => Err(of_fault(fault)),
+    }
+}
+
+/// The output of a script with its names: their text of version 2.
+fn migrated(alloc: Global, named: &Named) -> Result<Output, Status>
+    ensures output { IfOk result (HasSaid (named_text named.now.names named.now.script) StatusOf.Done) }
+    ensures refusal { IfErr result (λ status. status ≡ StatusOf.OutOfMemory) }
+{
+    match print2(alloc, named) {
+        Ok(text) => Ok(Output {
+            text,
+            status: Status::Done,
+            both: None,
+        }),
+        Err(OutOfMemory) => Err(Status::OutOfMemory),
     }
 }
 

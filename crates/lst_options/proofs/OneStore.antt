@@ -2,8 +2,9 @@
 use Rattle.std.proofs.Common.{◌≡◌, List, Option, Some, codes, sym, ap, ◌∙◌}
 use Rattle.clap.specs.Words.{Text}
 use Rattle.lst_layout.specs.declared.limits.Limits.{Limits}
+use Rattle.lst_options.specs.declared.as_of.AsOfOptions.{AsOfOptions}
 use Rattle.lst_options.specs.declared.load.LoadNumbers.{LoadNumbers}
-use Rattle.lst_options.specs.Options.{GivesLimits, GivesLoad, NamesLimits, NamesLoad, index_or}
+use Rattle.lst_options.specs.Options.{GivesAsOf, GivesLimits, GivesLoad, NamesAsOf, NamesLimits, NamesLoad, index_or}
 
 same_value : {X : Type 0} (o : Option X) (a b : X) → o ≡ Some a → o ≡ Some b → a ≡ b
 same_value o a b first second = let same : Some a ≡ Some b = sym first ∙ second in cc
@@ -45,3 +46,14 @@ gives_one_load value a b first second =
 
 pub names_one_load : (words : List Text) (a b : LoadNumbers) → NamesLoad words a → NamesLoad words b → a ≡ b
 names_one_load words a b first second = gives_one_load _ a b first.gives second.gives
+
+-- ---- a time
+
+same_as_of : (a b : AsOfOptions) → a.limits ≡ b.limits → a.time ≡ b.time → a ≡ b
+same_as_of a b limits time = λ i. record { limits = limits i; time = time i }
+
+gives_one_as_of : (value : Text → Option Text) (a b : AsOfOptions) → GivesAsOf value a → GivesAsOf value b → a ≡ b
+gives_one_as_of value a b first second = same_as_of a b (gives_one value a.limits b.limits first.limits second.limits) (same_value _ a.time b.time first.time second.time)
+
+pub names_one_as_of : (words : List Text) (a b : AsOfOptions) → NamesAsOf words a → NamesAsOf words b → a ≡ b
+names_one_as_of words a b first second = gives_one_as_of _ a b first.gives second.gives

@@ -4,8 +4,9 @@ use Rattle.clap.specs.Words.{Text, fault_of, first_of, matches_of}
 use Rattle.lst_layout.specs.declared.limits.Limits.{Limits}
 use Rattle.lst_layout.specs.Limits.{default_limits}
 use Rattle.lst_script.specs.Numbers.{number_of}
+use Rattle.lst_options.specs.declared.as_of.AsOfOptions.{AsOfOptions}
 use Rattle.lst_options.specs.declared.load.LoadNumbers.{LoadNumbers}
-use Rattle.lst_options.specs.Words.{load_options, run_options}
+use Rattle.lst_options.specs.Words.{as_of_options, load_options, run_options}
 
 -- ---- the values
 
@@ -32,6 +33,11 @@ abbrev pub seed_or_one : Option Text → Option ℕ
 seed_or_one None = Some 1
 seed_or_one (Some text) = number_of text
 
+-- a time, which is any number; where it isn't given, 0
+abbrev pub time_or_zero : Option Text → Option ℕ
+time_or_zero None = Some 0
+time_or_zero (Some text) = number_of text
+
 -- ---- the options of a store
 
 -- the value of each option gives its limit
@@ -53,6 +59,23 @@ pub record NamesLimits (words : List Text) (limits : Limits) : Type 0 where
 abbrev pub TellsLimits : List Text → Option Limits → Type 0
 TellsLimits words (Some limits) = NamesLimits words limits
 TellsLimits words None = (limits : Limits) → ¬ NamesLimits words limits
+
+-- ---- the options of a store, and a time
+
+-- the value of each option gives its limit, or the time
+pub record GivesAsOf (value : Text → Option Text) (options : AsOfOptions) : Type 0 where
+  pub limits : GivesLimits value options.limits
+  pub time : time_or_zero (value (codes "time")) ≡ Some options.time
+
+-- the words behind `asof` are taken, each option with one value and none twice, and their values give the limits and the time
+pub record NamesAsOf (words : List Text) (options : AsOfOptions) : Type 0 where
+  pub taken : fault_of as_of_options ([] ∷ words) ≡ []
+  pub gives : GivesAsOf (λ name. first_of name (matches_of as_of_options ([] ∷ words))) options
+
+-- these are the limits and the time that the words name, or they name none
+abbrev pub TellsAsOf : List Text → Option AsOfOptions → Type 0
+TellsAsOf words (Some options) = NamesAsOf words options
+TellsAsOf words None = (options : AsOfOptions) → ¬ NamesAsOf words options
 
 -- ---- the options of a load
 

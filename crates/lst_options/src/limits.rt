@@ -27,7 +27,7 @@ pub fn limits_of_words(alloc: Global, words: &[String]) -> Result<Option<Limits>
 }
 
 /// The limits by the values of all options.
-fn limits_in(matches: &ArgMatches) -> Option<Limits>
+pub(crate) fn limits_in(matches: &ArgMatches) -> Option<Limits>
     ensures some { IfSome result (GivesLimits (λ (name : Text). first_of name (rows_of (found_of matches.now)))) }
     ensures none { result ≡ None → (limits : LimitsOf) → ¬ GivesLimits (λ (name : Text). first_of name (rows_of (found_of matches.now))) limits }
     ensures valid { IfSome result IsValid }

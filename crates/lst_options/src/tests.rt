@@ -1,6 +1,6 @@
 //! Words of command lines, and the limits or the load that they name.
 
-use crate::{LoadNumbers, limits_of_words, load_of_words};
+use crate::{LoadNumbers, as_of_of_words, limits_of_words, load_of_words};
 use lst_layout::Limits;
 use lst_model::OutOfMemory;
 use std::alloc::Global;
@@ -217,6 +217,28 @@ fn other_words_name_no_load(rt: HostRuntime) -> Result<(), Fail> {
     ] {
         let found = load_of(rt.alloc(), line)?;
         assert_eq!(rt; found, None, "{line}");
+    }
+    Ok(())
+}
+
+#[test]
+fn time_is_named_beside_limits(rt: HostRuntime) -> Result<(), Fail> {
+    for (line, wanted) in [
+        ("asof", Some((4, 0))),
+        ("asof --time 3 --ranges 2", Some((2, 3))),
+        ("asof --time=18446744073709551615", Some((4, u64::MAX))),
+        ("asof --time 18446744073709551616", None),
+        ("asof --time", None),
+        ("asof --time 1 --time 1", None),
+        ("asof --ranges 65", None),
+        ("asof --seed 1", None),
+    ] {
+        let words = words_of(rt.alloc(), line)?;
+        let found = as_of_of_words(rt.alloc(), words.as_slice())?;
+        assert_eq!(rt;
+            found.map(|options| (options.limits.ranges, options.time)),
+            wanted
+        );
     }
     Ok(())
 }

@@ -1,5 +1,5 @@
 use Rattle.std.proofs.Common.{Ok}
-use Rattle.lst_script.proofs.OneReading.{answers_script}
+use Rattle.lst_script.proofs.Versions.{answers_script}
 use Rattle.lst_command.proofs.laws.input_is_one_script.Goals as goal
 
 pub returns : goal.returns
