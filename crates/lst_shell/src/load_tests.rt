@@ -28,7 +28,7 @@ fn loads(
     let shown = called(rt, alloc, line, b"0 begin\n", UNREADABLE, &FreeGate)?;
     assert_eq!(rt; shown.status, Status::Done);
     assert_eq!(rt; shown.sink.taken(), output.as_bytes());
-    assert!(rt; shown.has_left && shown.errors.taken().is_empty());
+    assert!(rt; shown.left.is_some() && shown.errors.taken().is_empty());
     Ok(())
 }
 

@@ -1,15 +1,17 @@
 //! The program `lstore`: it runs a script on the store, line by line or by all sessions side by side, and writes what is answered;
-//! it judges a report; or it generates a script for its sessions.
+//! it judges a report; it tells a past table; or it generates a script for its sessions.
 #![tactic(auto)]
 
+#[cfg(test)]
+mod asof_tests;
 #[cfg(test)]
 mod check_tests;
 #[cfg(test)]
 mod drawn_tests;
 #[cfg(test)]
-mod gate_tests;
-#[cfg(test)]
 mod load_tests;
+#[cfg(test)]
+mod named_tests;
 #[cfg(test)]
 mod option_tests;
 #[cfg(test)]
@@ -18,8 +20,6 @@ mod row_tests;
 mod tests;
 #[cfg(test)]
 mod thread_tests;
-#[cfg(test)]
-mod work_tests;
 
 use lst_command::program;
 use lst_io::{StdSink, StdSource};

@@ -29,58 +29,6 @@ fn gives(
 }
 
 #[test]
-fn a_session_that_ends_lets_a_frame_go(rt: HostRuntime) -> Result<(), Fail> {
-    gives(
-        &rt,
-        rt.alloc(),
-        "run --spare 1",
-        "0 begin\n0 insert 7 10 20\n0 commit\n1 begin\nmerge 0 0\nmerge 0 1\n1 commit\nmerge 0 1\n",
-        "0 begun 0\n0 ok\n0 committed 1\n1 begun 1\nmerged 1\nnoframe 1\n1 ended 1\nmerged 1\n",
-    )
-}
-
-#[test]
-fn transactions_and_tails_are_used_up(rt: HostRuntime) -> Result<(), Fail> {
-    let alloc = rt.alloc();
-    let spent = "0 begin\n0 insert 7 10 20\n0 commit\n0 begin\n";
-    let told = "0 begun 0\n0 ok\n0 committed 1\n0 refused spent\n";
-    gives(&rt, alloc, "run --txns 1", spent, told)?;
-    gives(&rt, alloc, "run --txns=1", spent, told)?;
-    gives(
-        &rt,
-        alloc,
-        "run --tails 1",
-        "0 begin\n0 insert 1 1 1\n0 insert 2 2 2\n0 commit\n",
-        "0 begun 0\n0 ok\n0 full tail\n0 committed 1\n",
-    )
-}
-
-#[test]
-fn the_key_behind_256_finds_the_table_full(rt: HostRuntime) -> Result<(), Fail> {
-    let alloc = rt.alloc();
-    let mut input = String::from_str(alloc, "0 begin\n")?;
-    let mut output = String::from_str(alloc, "0 begun 0\n")?;
-    let mut digits = itoa::Buffer::new();
-    for key in 1u32..258 {
-        input.push_str("0 insert ")?;
-        input.push_str(digits.format(key))?;
-        input.push_str(" 1 1\n")?;
-        output.push_str(if key < 257 {
-            "0 ok\n"
-        } else {
-            "0 full table\n"
-        })?;
-    }
-    gives(
-        &rt,
-        alloc,
-        "run --ranges 1",
-        input.as_str(),
-        output.as_str(),
-    )
-}
-
-#[test]
 fn a_sum_does_not_wrap(rt: HostRuntime) -> Result<(), Fail> {
     gives(
         &rt,

@@ -1,10 +1,10 @@
 //! The program over memory: what it answers, where it stops, and how it fails.
 
-use lst_command::{FreeGate, Gate, Status, lstore};
-use lst_io::{MemSink, MemSource};
-use lst_model::{Call, KeyList, Line, Reply, Text};
+use lst_command::{FreeGate, Gate, Status};
+use lst_model::{Call, Line, Reply};
 use lst_report::print_line;
 use lst_script::FaultKind;
+use lst_test_memory::{Ends, Shown, call};
 use std::alloc::Global;
 use std::process::Abort;
 use std::sync::Wait;
@@ -25,14 +25,6 @@ pub(crate) const NOTHING: Fails = Fails {
     report: 0,
 };
 
-fn failing(alloc: Global, call: u64) -> Result<KeyList, Fail> {
-    let mut calls = KeyList::new(alloc);
-    if call > 0 {
-        calls.push(call)?;
-    }
-    Ok(calls)
-}
-
 /// The words of a command line, which spaces separate.
 fn words_of(alloc: Global, line: &str) -> Result<Vec<String>, Fail> {
     let mut words = Vec::new(alloc);
@@ -40,15 +32,6 @@ fn words_of(alloc: Global, line: &str) -> Result<Vec<String>, Fail> {
         words.push(String::from_str(alloc, word)?)?;
     }
     Ok(words)
-}
-
-/// What a call over memory came to.
-#[derive(Drop)]
-pub(crate) struct Shown {
-    pub status: Status,
-    pub sink: MemSink,
-    pub errors: MemSink,
-    pub has_left: bool,
 }
 
 /// A call over memory with these words and this gate.
@@ -61,28 +44,14 @@ pub(crate) fn called<R: Threads + Wait + Sync, G: Gate + Sync>(
     gate: &G,
 ) -> Result<Shown, Fail> {
     let words = words_of(alloc, line)?;
-    let step = 7 + input.len() / 256;
-    let text = Text::from_bytes(input.to_vec(alloc)?);
-    let mut source = MemSource::new(text, failing(alloc, fails.read)?, step);
-    let mut sink = MemSink::new(alloc, failing(alloc, fails.write)?, 5)?;
-    let mut errors = MemSink::new(alloc, failing(alloc, fails.report)?, 5)?;
-    let mut left = None;
-    let status = lstore(
-        rt,
-        alloc,
-        words.as_slice(),
-        &mut source,
-        &mut sink,
-        &mut errors,
-        gate,
-        &mut left,
-    );
-    Ok(Shown {
-        status,
-        sink,
-        errors,
-        has_left: left.is_some(),
-    })
+    let ends = Ends {
+        read_step: 7 + input.len() / 256,
+        write_step: 5,
+        failing_read: fails.read,
+        failing_write: fails.write,
+        failing_report: fails.report,
+    };
+    Ok(call(rt, alloc, words.as_slice(), input, &ends, gate)?)
 }
 
 /// A call over memory with these words: how it ends, and what the sink and the sink of errors took.
@@ -237,23 +206,6 @@ fn a_session_sees_what_was_committed_before_its_begin(rt: HostRuntime) -> Result
 }
 
 #[test]
-fn of_two_sessions_that_write_a_row_one_is_refused(rt: HostRuntime) -> Result<(), Fail> {
-    let alloc = rt.alloc();
-    answers_after_a_row(
-        &rt,
-        alloc,
-        "0 begin\n1 begin\n0 update 7 11 _\n0 commit\n1 get 7\n1 update 7 _ 21\n1 commit\n",
-        "0 begun 1\n1 begun 1\n0 ok\n0 committed 2\n1 row 10 20\n1 conflict newer 2\n1 ended 1\n",
-    )?;
-    answers_after_a_row(
-        &rt,
-        alloc,
-        "0 begin\n1 begin\n0 update 7 11 _\n1 update 7 _ 21\n0 abort\n1 update 7 _ 21\n1 commit\n1 begin\n1 get 7\n",
-        "0 begun 1\n1 begun 1\n0 ok\n1 conflict open 0 2\n0 aborted\n1 ok\n1 committed 2\n1 begun 2\n1 row 10 21\n",
-    )
-}
-
-#[test]
 fn what_cannot_be_done_is_refused_and_the_transaction_goes_on(rt: HostRuntime) -> Result<(), Fail> {
     let alloc = rt.alloc();
     answers(
@@ -314,35 +266,6 @@ fn rows_are_found_by_the_index(rt: HostRuntime) -> Result<(), Fail> {
         "run --index 0",
         "0 begin\n0 insert 1 5 5\n0 commit\n0 begin\n0 update 1 6 _\n0 find 0 5\n0 find 0 6\n1 begin\n1 find 0 5\n1 find 0 6\n",
         "0 begun 0\n0 ok\n0 committed 1\n0 begun 1\n0 ok\n0 keys\n0 keys 1\n1 begun 1\n1 keys 1\n1 keys\n",
-    )
-}
-
-#[test]
-fn merges_change_no_other_answer(rt: HostRuntime) -> Result<(), Fail> {
-    let alloc = rt.alloc();
-    answers_after_a_row(
-        &rt,
-        alloc,
-        "merge 0 1\nmerge 0 1\n1 begin\n1 get 7\n",
-        "merged 1\nidle 1\n1 begun 1\n1 row 10 20\n",
-    )?;
-    answers(
-        &rt,
-        alloc,
-        "0 begin\n1 begin\n2 begin\n0 insert 1 1 1\n1 insert 2 2 2\n2 insert 3 3 3\n0 commit\n2 commit\nmerge 0 0\n1 abort\nmerge 0 0\n",
-        "0 begun 0\n1 begun 0\n2 begun 0\n0 ok\n1 ok\n2 ok\n0 committed 1\n2 committed 2\nmerged 1\n1 aborted\nmerged 3\n",
-    )?;
-    answers_after_a_row(
-        &rt,
-        alloc,
-        "1 begin\n0 begin\n0 update 7 11 21\n0 commit\nmerge 0 0\n1 get 7\n0 begin\n0 get 7\n",
-        "1 begun 1\n0 begun 1\n0 ok\n0 committed 2\nmerged 2\n1 row 10 20\n0 begun 2\n0 row 11 21\n",
-    )?;
-    answers(
-        &rt,
-        alloc,
-        "0 begin\n0 insert 1001 40 250\n0 insert 1002 15 900\n0 insert 1003 8 1200\n0 commit\n2 begin\n2 sum 0\n1 begin\n1 update 1002 14 _\n1 update 1003 6 _\n1 commit\nmerge 0 0\nmerge 0 1\n2 sum 0\n2 commit\n2 begin\n2 sum 0\n2 scan\n2 commit\n",
-        "0 begun 0\n0 ok\n0 ok\n0 ok\n0 committed 1\n2 begun 1\n2 sum 63\n1 begun 1\n1 ok\n1 ok\n1 committed 2\nmerged 5\nmerged 5\n2 sum 63\n2 ended 1\n2 begun 2\n2 sum 60\n2 rows 1001:40,250 1002:14,900 1003:6,1200\n2 ended 2\n",
     )
 }
 

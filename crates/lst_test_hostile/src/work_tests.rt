@@ -1,8 +1,9 @@
 //! Sessions at work: what `work` writes for a script is a report that `check` judges to be legal.
 
-use crate::tests::{Fails, NOTHING, called, shows};
+use crate::calls::{SOUND, Wanted, called, comes_to};
 use lst_command::{FreeGate, Gate, Status};
 use lst_script::FaultKind;
+use lst_test_memory::Ends;
 use std::alloc::Global;
 use std::process::Abort;
 use std::sync::Wait;
@@ -53,23 +54,23 @@ pub(crate) fn report_of<R: Abort + Threads + Wait + Sync, G: Gate + Sync>(
     gate: &G,
 ) -> Result<Vec<u8>, Fail> {
     let words = format!(in alloc; "work {options}")?;
-    let worked = called(rt, alloc, words.as_str(), script.as_bytes(), NOTHING, gate)?;
+    let worked = called(rt, alloc, words.as_str(), script.as_bytes(), &SOUND, gate)?;
     assert_eq!(rt; worked.status, Status::Done);
-    assert!(rt; worked.has_left && worked.errors.taken().is_empty());
+    assert!(rt; worked.left.is_some() && worked.errors.taken().is_empty());
     let report = worked.sink.taken().to_vec(alloc)?;
     let mut claim = script.as_bytes().to_vec(alloc)?;
     claim.extend_from_slice(b"report\n")?;
     claim.extend_from_slice(report.as_slice())?;
     let words = format!(in alloc; "check {options}")?;
-    shows(
+    let wanted = Wanted::output("legal\n");
+    comes_to(
         rt,
         alloc,
+        0,
         words.as_str(),
         claim.as_slice(),
-        NOTHING,
-        Status::Done,
-        "legal\n",
-        "",
+        &SOUND,
+        &wanted,
     )?;
     Ok(report)
 }
@@ -139,43 +140,29 @@ fn merges_over_tight_limits_give_a_legal_report(rt: HostRuntime) -> Result<(), F
 #[test]
 fn the_edges_of_work_are_those_of_run(rt: HostRuntime) -> Result<(), Fail> {
     let alloc = rt.alloc();
-    shows(
-        &rt,
-        alloc,
-        "work",
-        b"",
-        NOTHING,
-        Status::Done,
-        "history 0\n",
-        "",
-    )?;
-    let status = Status::BadScript {
-        line: 2,
-        kind: FaultKind::BadSession,
+    let nothing = Wanted::output("history 0\n");
+    comes_to(&rt, alloc, 0, "work", b"", &SOUND, &nothing)?;
+    let faulty = Wanted {
+        status: Status::BadScript {
+            line: 2,
+            kind: FaultKind::BadSession,
+        },
+        output: b"",
+        message: b"lstore: line 2: no such session\n",
     };
-    shows(
-        &rt,
-        alloc,
-        "work --sessions 1",
-        b"0 begin\n1 begin\n",
-        NOTHING,
-        status,
-        "",
-        "lstore: line 2: no such session\n",
-    )?;
-    let fails = Fails {
-        read: 0,
-        write: 2,
-        report: 0,
+    let input = b"0 begin\n1 begin\n".as_slice();
+    comes_to(&rt, alloc, 1, "work --sessions 1", input, &SOUND, &faulty)?;
+    let ends = Ends {
+        read_step: 7,
+        write_step: 5,
+        failing_read: 0,
+        failing_write: 2,
+        failing_report: 0,
     };
-    shows(
-        &rt,
-        alloc,
-        "work",
-        b"0 begin\n",
-        fails,
-        Status::WriteFault,
-        "0 beg",
-        "lstore: write failed\n",
-    )
+    let cut = Wanted {
+        status: Status::WriteFault,
+        output: b"0 beg",
+        message: b"lstore: write failed\n",
+    };
+    comes_to(&rt, alloc, 2, "work", b"0 begin\n", &ends, &cut)
 }

@@ -1,0 +1,159 @@
+//! A script with its report, of which each byte is replaced.
+
+use crate::calls::{SOUND, Wanted, comes_to};
+use lst_command::Status;
+use lst_layout::Limits;
+use lst_legal::are_sessions_below;
+use lst_report::{Report, ReportFault, legal, parse_report};
+use lst_script::{FaultKind, Script, ScriptFault, parse};
+use std::alloc::Global;
+use std::process::Abort;
+use std::sync::Wait;
+use std::test::Fail;
+use std::thread::Threads;
+
+/// A report of a commit and of a sum that sees it, behind its script. It is legal.
+const CLAIM: &str =
+    "0 begin\n0 insert 7 10 20\n0 commit\n1 begin\n1 sum 0\n1 commit\nreport\n0 begun 0\n0 ok\n0 committed 1\n1 begun 1\n1 sum 10\n1 ended 1\nhistory 1\n1 0 1 0\n";
+
+/// How many newlines a text has.
+fn newlines(text: &[u8]) -> u64 {
+    text.iter().filter(|byte| **byte == b'\n').count() as u64
+}
+
+/// Where the first line `report` begins and where the next one does, or None.
+fn mark_in(text: &[u8]) -> Option<(usize, usize)> {
+    let mut start = 0usize;
+    for line in text.split(|byte| *byte == b'\n') {
+        let behind = start.wrapping_add(line.len()).wrapping_add(1);
+        if line == b"report".as_slice() {
+            return Some((start, behind));
+        }
+        start = behind;
+    }
+    None
+}
+
+/// A fault of a line.
+fn fault(line: u64, kind: FaultKind) -> Status {
+    Status::BadScript { line, kind }
+}
+
+/// The status of a fault of a script.
+fn of_script(found: ScriptFault) -> Result<Status, Fail> {
+    match found {
+        ScriptFault::Bad { line, kind } => Ok(fault(line, kind)),
+        ScriptFault::OutOfMemory => Err(Fail::from("there is memory")),
+    }
+}
+
+/// The status of a script and of a report that are read.
+fn of_report(alloc: Global, script: &Script, report: &Report) -> Result<Status, Fail> {
+    let limits = Limits::default();
+    if !are_sessions_below(limits.sessions, script.items()) {
+        return Err(Fail::from("each line is of a session that there is"));
+    }
+    if legal(alloc, &limits, script.items(), report)? {
+        Ok(Status::Done)
+    } else {
+        Ok(Status::Illegal)
+    }
+}
+
+/// The status of a text, by its script and its report, read apart.
+fn status_of(alloc: Global, text: &[u8]) -> Result<Status, Fail> {
+    let Some((front, behind)) = mark_in(text) else {
+        if let Err(found) = parse(alloc, text, &Limits::default()) {
+            return of_script(found);
+        }
+        let is_open = text.last().copied().unwrap_or(b'\n') != b'\n';
+        let lines = newlines(text).wrapping_add(u64::from(is_open));
+        return Ok(fault(lines.wrapping_add(1), FaultKind::NoReport));
+    };
+    let front = text.get(..front).unwrap_or(b"0 fly");
+    let script = match parse(alloc, front, &Limits::default()) {
+        Ok(script) => script,
+        Err(found) => return of_script(found),
+    };
+    match parse_report(alloc, text.get(behind..).unwrap_or(b""), 2) {
+        Ok(report) => of_report(alloc, &script, &report),
+        Err(ReportFault::Bad { line }) => {
+            let lines = newlines(front).wrapping_add(1);
+            Ok(fault(lines.wrapping_add(line), FaultKind::BadReport))
+        }
+        Err(ReportFault::OutOfMemory) => Err(Fail::from("there is memory")),
+    }
+}
+
+/// The verdict of a status, and its line of errors.
+fn texts_of(alloc: Global, status: &Status) -> Result<(&'static str, String), Fail> {
+    match status {
+        Status::Done => Ok(("legal\n", String::new(alloc))),
+        Status::Illegal => Ok(("illegal\n", String::new(alloc))),
+        Status::BadScript { line, kind } => {
+            let fault = kind.text();
+            Ok(("", format!(in alloc; "lstore: line {line}: {fault}\n")?))
+        }
+        _ => Err(Fail::from("a text is judged or refused")),
+    }
+}
+
+/// How many texts came to each verdict.
+#[derive(Drop)]
+struct Counts {
+    legal: u64,
+    illegal: u64,
+    faulty: u64,
+}
+
+impl Counts {
+    fn count(&mut self, status: &Status) {
+        match status {
+            Status::Done => self.legal = self.legal.wrapping_add(1),
+            Status::Illegal => self.illegal = self.illegal.wrapping_add(1),
+            _ => self.faulty = self.faulty.wrapping_add(1),
+        }
+    }
+}
+
+/// Compares what `check` makes of a text with what its parts are.
+fn is_judged(
+    rt: &(impl Abort + Threads + Wait + Sync),
+    alloc: Global,
+    label: u64,
+    text: &[u8],
+    counts: &mut Counts,
+) -> Result<(), Fail> {
+    let status = status_of(alloc, text)?;
+    let (verdict, message) = texts_of(alloc, &status)?;
+    counts.count(&status);
+    let wanted = Wanted {
+        status,
+        output: verdict.as_bytes(),
+        message: message.as_bytes(),
+    };
+    comes_to(rt, alloc, label, "check", text, &SOUND, &wanted)
+}
+
+#[test]
+fn a_report_of_which_a_byte_is_replaced_is_judged_as_its_parts_are(
+    rt: HostRuntime,
+) -> Result<(), Fail> {
+    let alloc = rt.alloc();
+    let mut counts = Counts {
+        legal: 0,
+        illegal: 0,
+        faulty: 0,
+    };
+    for place in 0..CLAIM.len() {
+        for byte in [b' ', b'9', b'\n'] {
+            let mut text = Vec::new(alloc);
+            for (at, old) in CLAIM.as_bytes().iter().enumerate() {
+                text.push(if at == place { byte } else { *old })?;
+            }
+            is_judged(&rt, alloc, place as u64, text.as_slice(), &mut counts)?;
+        }
+    }
+    assert!(rt; counts.legal > 5 && counts.illegal > 5 && counts.faulty > 200);
+    Ok(())
+}

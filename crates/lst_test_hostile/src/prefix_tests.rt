@@ -1,0 +1,111 @@
+//! A script that is cut off at each of its bytes.
+ghost use Rattle.std.specs.Prelude.{◌<◌, IsTrue};
+ghost use Rattle.lst_model.specs.Lines.{CallFits, LineFits};
+
+use crate::calls::{SOUND, Wanted, comes_to};
+use crate::rows::STOCK;
+use lst_command::Status;
+use lst_layout::Limits;
+use lst_machine::Machine;
+use lst_model::{Call, Line, Text};
+use lst_report::push_line;
+use lst_script::{ScriptFault, parse};
+use std::alloc::Global;
+use std::process::Abort;
+use std::sync::Wait;
+use std::test::Fail;
+use std::thread::Threads;
+
+/// Whether a store with so many columns takes the call.
+fn call_fits(columns: u32, call: &Call) -> bool
+    ensures { IsTrue result → CallFits columns call.now }
+{
+    match call {
+        Call::Insert { row, .. } => row.len() == columns as usize,
+        Call::Update { patch, .. } => { patch.len() == columns as usize && patch.sets_some() }
+        Call::Sum { column } => *column < columns,
+        Call::Find { column, .. } => *column < columns,
+        _ => true,
+    }
+}
+
+/// Whether a store with these limits takes the line.
+pub(crate) fn line_fits(limits: &Limits, line: &Line) -> bool
+    ensures { IsTrue result → LineFits limits.now.sessions limits.now.ranges limits.now.columns line.now }
+{
+    match line {
+        Line::Phase => true,
+        Line::Merge { range, column } => *range < limits.ranges && *column < limits.columns,
+        Line::Call { session, call } => {
+            *session < limits.sessions && call_fits(limits.columns, call)
+        }
+    }
+}
+
+/// What the machine of one thread answers to the lines.
+fn answers_of_machine(alloc: Global, lines: &[Line]) -> Result<Text, Fail> {
+    let limits = Limits::default();
+    let Ok(layout) = limits.check() else {
+        return Err(Fail::from("the limits are in range"));
+    };
+    let mut machine = Machine::new(alloc, &layout)?;
+    let mut text = Text::new(alloc);
+    for line in lines {
+        if !line_fits(&machine.limits(), line) {
+            return Err(Fail::from("each line fits the limits"));
+        }
+        let reply = machine.line(line)?;
+        push_line(&mut text, line, &reply)?;
+    }
+    Ok(text)
+}
+
+/// A front of a script is answered as the machine answers its lines, or its first faulty line is named. Whether it was answered.
+fn is_answered(
+    rt: &(impl Abort + Threads + Wait + Sync),
+    alloc: Global,
+    front: &[u8],
+) -> Result<bool, Fail> {
+    let label = front.len() as u64;
+    match parse(alloc, front, &Limits::default()) {
+        Ok(script) => {
+            let text = answers_of_machine(alloc, script.items())?;
+            let wanted = Wanted {
+                status: Status::Done,
+                output: text.as_bytes(),
+                message: b"",
+            };
+            comes_to(rt, alloc, label, "run", front, &SOUND, &wanted)?;
+            Ok(true)
+        }
+        Err(ScriptFault::Bad { line, kind }) => {
+            let fault = kind.text();
+            let message = format!(in alloc; "lstore: line {line}: {fault}\n")?;
+            let wanted = Wanted {
+                status: Status::BadScript { line, kind },
+                output: b"",
+                message: message.as_bytes(),
+            };
+            comes_to(rt, alloc, label, "run", front, &SOUND, &wanted)?;
+            Ok(false)
+        }
+        Err(ScriptFault::OutOfMemory) => Err(Fail::from("there is memory")),
+    }
+}
+
+#[test]
+fn each_front_of_a_script_is_answered_or_its_fault_is_named(rt: HostRuntime) -> Result<(), Fail> {
+    let whole = STOCK.input.as_bytes();
+    let mut answered = 0u64;
+    for end in 0..whole.len().wrapping_add(1) {
+        let front = whole.get(..end).unwrap_or(b"0 fly");
+        if is_answered(&rt, rt.alloc(), front)? {
+            answered = answered.wrapping_add(1);
+        }
+    }
+    assert!(rt;
+        answered > 40 && answered < 180,
+        "{answered} fronts are scripts"
+    );
+    Ok(())
+}
