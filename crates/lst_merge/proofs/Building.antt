@@ -29,8 +29,6 @@ use Rattle.lst_pages.specs.Runs.{frame_known, page_known, tps_known}
 use Rattle.lst_pages.specs.Settled.{tail_in, is_settled, settled_tails}
 use Rattle.lst_pages.specs.Sound.{IsPage}
 use Rattle.lst_pages.proofs.Numbering.{settled_are_numbered}
-use Rattle.lst_retire.proofs.Freeing.{is_unused}
-use Rattle.lst_retire.proofs.Looking.{stock_now, stock_then, still_hosts}
 use Rattle.lst_rule.specs.declared.view.View.{View}
 use Rattle.lst_rule.specs.Rule.{knows, hosts, Allowed}
 use Rattle.lst_rule.specs.Learned.{Possible, Kept}
@@ -39,6 +37,7 @@ use Rattle.lst_layout.specs.declared.place.Place.TheVariants.{DirectoryWord}
 use Rattle.lst_rule.specs.Stores.{Looked}
 use Rattle.lst_rule.proofs.Learning.{kept_on}
 use Rattle.lst_rule.proofs.Paging.{stock_is, directory_is, pages_known, pages_safe}
+use Rattle.lst_rule.proofs.Stocks.{stock_now, stock_then, still_hosts, is_unused}
 use Rattle.lst_merge.specs.Inspections.{merger_of, Inspects}
 use Rattle.lst_merge.specs.Runs.{KnowsSettled, AreSettled}
 use Rattle.lst_merge.specs.Pages.{AreEntriesIn, AreAbsentZero, AreKnown, FoldsRun}

@@ -8,6 +8,3 @@ pub mod Ending
 pub mod Storing
 pub mod Reading
 pub mod Building
-pub mod Learnt
-pub mod Showing
-pub mod Merging

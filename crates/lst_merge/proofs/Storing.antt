@@ -12,11 +12,11 @@ use Rattle.lst_pages.specs.declared.events.PageEvent.TheVariants.{StoreFrame}
 use Rattle.lst_pages.specs.Lists.{word_in}
 use Rattle.lst_pages.specs.Runs.{frame_known}
 use Rattle.lst_pages.proofs.Functions.{word_in-with, put_in_here, length-with}
-use Rattle.lst_retire.proofs.Looking.{stock_same, stock_then}
 use Rattle.lst_rule.specs.declared.view.View.{View}
 use Rattle.lst_rule.specs.Frames.{StoresWords}
 use Rattle.lst_rule.specs.Learned.{PageMade}
 use Rattle.lst_rule.specs.PageSteps.{StockIs, stock_of, frame_stored}
+use Rattle.lst_rule.proofs.Stocks.{stock_same, stock_then}
 use Rattle.lst_merge.specs.Builds.{frames_stored, words_stored, StoresFrame}
 
 -- ---- stores

@@ -29,15 +29,14 @@ use Rattle.lst_layout.proofs.Functions.{put_in_else}
 use Rattle.lst_pages.proofs.Moves.{none_some}
 use Rattle.lst_pages.specs.Frames.{tps_in}
 use Rattle.lst_pages.specs.Pages.{IsRightPage}
-use Rattle.lst_retire.specs.Frames.{AreSpares}
-use Rattle.lst_retire.proofs.Freeing.{spares_some}
-use Rattle.lst_retire.proofs.Looking.{stock_now, stock_then, still_hosts}
 use Rattle.lst_rule.specs.declared.view.View.{View}
 use Rattle.lst_rule.specs.Rule.{knows, hosts, Allowed}
 use Rattle.lst_rule.specs.Learned.{Possible, Learns, Kept, PageCanStand, PageMade}
 use Rattle.lst_rule.specs.PageSteps.{swapped, raised, StockIs, stock_of, Swapped}
 use Rattle.lst_rule.specs.Stores.{Looked}
 use Rattle.lst_rule.proofs.Paging.{stock_is, epoch_is, directory_is, frame_is, pages_safe, swap_stands}
+use Rattle.lst_rule.specs.Spares.{AreSpares}
+use Rattle.lst_rule.proofs.Stocks.{stock_now, stock_then, still_hosts, spares_some}
 use Rattle.lst_merge.specs.Builds.{MayReplace}
 use Rattle.lst_merge.specs.Swaps.{latest_epoch, IsListedAs, Swaps}
 

@@ -16,11 +16,11 @@ use Rattle.lst_pages.specs.Runs.{frame_known, IsSwapKnown, tps_known}
 use Rattle.lst_pages.specs.Settled.{settled_tails}
 use Rattle.lst_pages.specs.Sound.{IsPage}
 use Rattle.lst_pages.specs.Step.{IsClear}
-use Rattle.lst_retire.specs.Frames.{AreSpares}
 use Rattle.lst_rule.specs.declared.view.View.{View}
 use Rattle.lst_rule.specs.Rule.{Allowed}
 use Rattle.lst_rule.specs.Learned.{PageMade}
 use Rattle.lst_rule.specs.PageSteps.{StockIs, stock_of, frame_stored}
+use Rattle.lst_rule.specs.Spares.{AreSpares}
 use Rattle.lst_merge.specs.Inspections.{Inspects}
 use Rattle.lst_merge.specs.Pages.{AreAbsentZero}
 

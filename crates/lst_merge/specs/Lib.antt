@@ -4,5 +4,4 @@ pub mod Pages
 pub mod Builds
 pub mod Swaps
 pub mod Tails
-pub mod Merges
 pub mod Pairs

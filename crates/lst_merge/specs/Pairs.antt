@@ -1,16 +1,13 @@
 -- Two pages of a seat that hosts the merger, as the tests drive them.
-use Rattle.std.specs.Prelude.{◌≡◌, List, true}
-use Rattle.lst_core_state.specs.declared.pages.Retired.{Retired}
-use Rattle.lst_retire.specs.Frames.{AreSpares}
+use Rattle.std.specs.Prelude.{◌≡◌, true}
 use Rattle.lst_rule.specs.declared.store.Store.{Store}
 use Rattle.lst_rule.specs.Rule.{hosts}
 use Rattle.lst_rule.specs.Seats.{Sitting}
 use Rattle.lst_rule.specs.Stores.{IsSeatOf}
 
--- the store has two ranges of one column, its seat hosts the merger, and the spares are the merger's
-pub record IsPair (store : Store) (seat : Sitting) (spares : List Retired) : Type 0 where
+-- the store has two ranges of one column, and its seat hosts the merger
+pub record IsPair (store : Store) (seat : Sitting) : Type 0 where
   pub seat_of : IsSeatOf store seat
   pub ranges : seat.view.limits.ranges ≡ 2
   pub columns : seat.view.limits.columns ≡ 1
   pub hosted : hosts seat.view seat.view.limits.sessions ≡ true
-  pub are : AreSpares seat.view spares

@@ -22,9 +22,9 @@ pub struct Run {
     pub end: u32,
 }
 
-/// Finds the run of a page: the tails of its range after its TPS that are settled, without a gap. Each is found in this call to be stored,
-/// and its transaction to be closed or committed by the clock; and so is the end: the tail after it is beyond the tail counter that is
-/// loaded in this call, or beyond the limit, or found not stored or unfinished.
+/// Finds the run of a page: the tails of its range after its TPS that are settled, without a gap. Of each the merger then knows that it is
+/// stored, and that its transaction is closed or committed by the clock. The end is found in this call: the tail after it is beyond the tail
+/// counter that is loaded in this call, or beyond the limit, or found not stored or unfinished.
 ///
 /// No word of the store changes.
 pub fn run_end(store: &Store, seat: &mut Seat, range: u32, column: u32) -> Run

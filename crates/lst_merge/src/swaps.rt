@@ -1,16 +1,15 @@
 //! A page takes the place of another one.
 ghost use Rattle.std.specs.Prelude.{◌≡◌, true};
 ghost use Rattle.lst_pages.specs.Sound.{IsPage};
-ghost use Rattle.lst_retire.specs.Frames.{AreSpares};
 ghost use Rattle.lst_rule.specs.Rule.{hosts};
+ghost use Rattle.lst_rule.specs.Spares.{AreSpares};
 ghost use Rattle.lst_rule.specs.Stores.{IsSeatOf};
 ghost use Rattle.lst_merge.specs.Builds.{MayReplace};
 ghost use Rattle.lst_merge.specs.Swaps.{latest_epoch, Swaps};
 
 use crate::frames::page_frame;
 use lst_core_state::Retired;
-use lst_retire::Spares;
-use lst_rule::{Seat, Store, step_raise, step_swap};
+use lst_rule::{Seat, Spares, Store, step_raise, step_swap};
 
 /// Puts the page that was built in this frame, the first of the spares, in the place of the page of a range and a column, and raises the
 /// epoch by one. The frame is no spare then, and the one that it replaces is the last of them, retired at the new epoch.

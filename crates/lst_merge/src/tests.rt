@@ -4,11 +4,9 @@ ghost use Rattle.lst_merge.specs.Pairs.{IsPair};
 
 use crate::entries::{put_entry, read_values};
 use crate::words::write_page;
-use crate::{Merge, Run, build, merge, run_end};
-use lst_core_state::Retired;
+use crate::{Run, run_end};
 use lst_layout::{FRAME_NULLS, FRAME_TIMES, FRAME_VALUES, FRAME_WORDS, Limits};
 use lst_pages::Entry;
-use lst_retire::{Spares, free_frame, opening_spares};
 use lst_rule::{Seat, Store, open_store};
 use std::alloc::Global;
 use std::process::Abort;
@@ -33,94 +31,30 @@ const SMALL: Limits = Limits {
     indexed: 0,
 };
 
-fn open_pair(alloc: Global) -> Result<(Store, Seat, Spares), Fail>
-    ensures { IfOk result (λ opened. IsPair opened.0 opened.1 opened.2.items) }
+fn open_pair(alloc: Global) -> Result<(Store, Seat), Fail>
+    ensures { IfOk result (λ opened. IsPair opened.0 opened.1) }
 {
     let limits = SMALL;
     let Ok(layout) = limits.check() else {
         return Err(Fail::from("the small limits are in range"));
     };
-    let spares = opening_spares(&layout.limits);
-    let (store, seat) = open_store(alloc, &layout)?;
-    Ok((store, seat, spares))
-}
-
-/// What a merge of the page of a range comes to.
-fn merged(store: &Store, seat: &mut Seat, spares: &mut Spares, range: u32) -> Merge
-    requires pair { IsPair store.now seat.old spares.old.items }
-    requires low { range < 2 }
-    ensures pair { IsPair store.now seat.new spares.new.items }
-{
-    merge(store, seat, spares, range, 0)
+    Ok(open_store(alloc, &layout)?)
 }
 
 /// The run of the page of a range.
-fn run_of(store: &Store, seat: &mut Seat, spares: &Spares, range: u32) -> Run
-    requires pair { IsPair store.now seat.old spares.now.items }
+fn run_of(store: &Store, seat: &mut Seat, range: u32) -> Run
+    requires pair { IsPair store.now seat.old }
     requires low { range < 2 }
-    ensures pair { IsPair store.now seat.new spares.now.items }
+    ensures pair { IsPair store.now seat.new }
 {
-    let _ = spares;
     run_end(store, seat, range, 0)
 }
 
 #[test]
 fn a_range_without_tails_has_an_empty_run(rt: HostRuntime) -> Result<(), Fail> {
-    let (store, mut seat, spares) = open_pair(rt.alloc())?;
-    assert_eq!(rt;
-        run_of(&store, &mut seat, &spares, 1),
-        Run { tps: 0, end: 0 }
-    );
-    Ok(())
-}
-
-#[test]
-fn an_opening_store_has_nothing_to_merge(rt: HostRuntime) -> Result<(), Fail> {
-    let (store, mut seat, mut spares) = open_pair(rt.alloc())?;
-    assert_eq!(rt;
-        merged(&store, &mut seat, &mut spares, 0),
-        Merge::Idle { tps: 0 }
-    );
-    assert_eq!(rt;
-        merged(&store, &mut seat, &mut spares, 1),
-        Merge::Idle { tps: 0 }
-    );
-    assert_eq!(rt;
-        merged(&store, &mut seat, &mut spares, 0),
-        Merge::Idle { tps: 0 }
-    );
-    assert_eq!(rt; spares.len(), 1);
-    assert_eq!(rt;
-        spares.first().copied(),
-        Some(Retired { frame: 2, epoch: 0 })
-    );
-    assert_eq!(rt;
-        run_of(&store, &mut seat, &spares, 0),
-        Run { tps: 0, end: 0 }
-    );
-    Ok(())
-}
-
-/// Builds the page of a range anew, without tails, in a free frame; tells whether there was one.
-fn built(store: &Store, seat: &mut Seat, spares: &mut Spares, range: u32) -> bool
-    requires pair { IsPair store.now seat.old spares.old.items }
-    requires low { range < 2 }
-{
-    seat.consider();
-    let run = run_end(store, seat, range, 0);
-    match free_frame(store, seat, spares) {
-        Err(_) => false,
-        Ok(frame) => {
-            build(store, seat, frame, range, 0, &run);
-            true
-        }
-    }
-}
-
-#[test]
-fn a_page_without_tails_is_built_in_a_spare_frame(rt: HostRuntime) -> Result<(), Fail> {
-    let (store, mut seat, mut spares) = open_pair(rt.alloc())?;
-    assert!(rt; built(&store, &mut seat, &mut spares, 1));
+    let (store, mut seat) = open_pair(rt.alloc())?;
+    assert_eq!(rt; run_of(&store, &mut seat, 0), Run { tps: 0, end: 0 });
+    assert_eq!(rt; run_of(&store, &mut seat, 1), Run { tps: 0, end: 0 });
     Ok(())
 }
 

@@ -7,14 +7,12 @@ use Rattle.lst_layout.specs.declared.limits.Limits.{Limits}
 use Rattle.lst_core_state.specs.declared.known.Known.{Known}
 use Rattle.lst_core_state.specs.declared.pages.MergerFrames.{MergerFrames}
 use Rattle.lst_core_state.specs.declared.pages.Retired.{Retired}
-use Rattle.lst_pages.specs.declared.events.PageEvent.TheVariants.{StoreFrame}
-use Rattle.lst_pages.specs.Known.{pages_in, IsHeld}
+use Rattle.lst_pages.specs.Known.{IsHeld}
 use Rattle.lst_pages.specs.Lists.{Every, HasFirst}
 use Rattle.lst_pages.proofs.Moves.{none_some}
-use Rattle.lst_pages.specs.Sound.{late, Rise}
+use Rattle.lst_pages.specs.Sound.{Rise}
 use Rattle.lst_pages.specs.State.{oldest_epoch}
-use Rattle.lst_pages.specs.Step.{Enabled, IsClear, lets_go}
-use Rattle.lst_core_state.specs.State.{state_over}
+use Rattle.lst_pages.specs.Step.{IsClear, lets_go}
 use Rattle.lst_core_state.proofs.ListedPart.{contains_last}
 use Rattle.lst_rule.specs.declared.view.View.{View}
 use Rattle.lst_rule.specs.Rule.{hosts, Allowed}
@@ -22,16 +20,10 @@ use Rattle.lst_rule.specs.Learned.{Possible}
 use Rattle.lst_rule.specs.PageSteps.{StockIs, stock_of}
 use Rattle.lst_rule.proofs.Learning.{possible_after}
 use Rattle.lst_rule.proofs.Paging.{stock_is, epoch_is, pages_safe}
-use Rattle.lst_retire.specs.Frames.{AreSpares, pins_found, NoPinHolds, FirstPinHolds, let_go_by, IsUnused, FindsFree, FindsHeld}
+use Rattle.lst_rule.specs.Spares.{AreSpares}
+use Rattle.lst_rule.proofs.Stocks.{stock_now, still_hosts, is_unused}
+use Rattle.lst_retire.specs.Frames.{pins_found, NoPinHolds, FirstPinHolds, let_go_by, FindsFree, FindsHeld}
 use Rattle.lst_retire.proofs.Stocks.{looks_rest, pins_let_go, pins_held, all_clear}
-use Rattle.lst_retire.proofs.Looking.{stock_now, still_hosts}
-
--- there is a spare frame
-pub spares_some : (v : View) (spares : List Retired) → hosts v v.limits.sessions ≡ true → AreSpares v spares → Possible v → 0 < length spares
-spares_some v spares hosted are p = let same : stock_of v ≡ p.merger.pages.stock = stock_is v p.words p.known p.merger p.allowed hosted in
-    let count = (pages_safe v p.words p.known p.merger p.allowed).spare in let some = p.allowed.sound.sized.spare.0 in
-    let long : length spares ≡ length p.merger.pages.stock.retired = ap length are.retired ∙ ap (λ (m : MergerFrames). length m.retired) same in
-    let none : late p.merger.pages.stock.waiting ≡ 0 = ap (λ (m : MergerFrames). late m.waiting) (sym same) ∙ ap late are.idle in omega arith
 
 -- the spares stay what the merger knows, whatever pins were found
 pub spares_stay : (v w : View) (spares : List Retired) (found : ℕ → ℕ) (n : ℕ) → AreSpares v spares → StockIs v w (pins_found (stock_of v) found n) → AreSpares w spares
@@ -60,16 +52,6 @@ first_epoch v spares oldest are first = go spares are.retired first
 first_frame : (rs : List Retired) (oldest : Retired) → HasFirst (λ r. r ≡ oldest) rs → HasFirst (λ r. r.frame ≡ oldest.frame) rs
 first_frame [] oldest none = absurd none
 first_frame (r ∷ rs) oldest is = ap (λ (q : Retired). q.frame) is
-
--- where the merger knows that the frame is the oldest retired one, and that each session lets go of it, it is free
-pub is_unused : (w : View) (f : ℕ) → hosts w w.limits.sessions ≡ true → HasFirst (λ r. r.frame ≡ f) (stock_of w).retired → IsClear w.limits (stock_of w) → IsUnused w f
-is_unused w f hosted first clear = record {
-  unread = λ words known merger may s low. (pages_safe w words known merger may).unread f 0 0 (ready words known merger may) s low;
-  unlisted = λ words known merger may. ((pages_safe w words known merger may).unlisted f 0 0 (ready words known merger may)).1;
-}
-  where
-    ready : (words : List ℕ) (known : ℕ → Known) (merger : Known) → Allowed w words known merger → Enabled (pages_in (state_over w.limits words known merger)) (StoreFrame f 0 0)
-    ready words known merger may = subst (λ (m : MergerFrames). HasFirst (λ r. r.frame ≡ f) m.retired × IsClear w.limits m) (stock_is w words known merger may hosted) (first, clear)
 
 -- a set pin holds what was retired at its epoch plus one or later
 sets_hold : (pin e : ℕ) → 0 < pin → pin ≤ e → lets_go pin e ≡ false

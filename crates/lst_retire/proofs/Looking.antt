@@ -1,5 +1,5 @@
 -- Looks at pins, one after another.
-use Rattle.std.proofs.Common.{◌≡◌, ℕ, suc, ◌+◌, ◌<◌, ◌≤◌, List, Bool, true, false, None, get_or, refl, sym, subst, ap, ◌∙◌, arith}
+use Rattle.std.proofs.Common.{◌≡◌, ℕ, suc, ◌+◌, ◌<◌, ◌≤◌, true, false, None, refl, sym, subst, ap, ◌∙◌, arith}
 use mathlib.Core.Logic.{dite}
 use native.Mathlib.Decide.{ℕ_discrete}
 use Rattle.lst_layout.specs.declared.layout.Layout.{Layout}
@@ -13,29 +13,14 @@ use Rattle.lst_pages.proofs.Safety.{lets_not}
 use Rattle.lst_rule.specs.declared.store.Store.{Store}
 use Rattle.lst_rule.specs.declared.view.View.{View}
 use Rattle.lst_rule.specs.Rule.{knows, hosts}
-use Rattle.lst_rule.specs.Learned.{Learns}
 use Rattle.lst_rule.specs.Seats.{Sitting}
 use Rattle.lst_rule.specs.Stores.{IsSeatOf}
-use Rattle.lst_rule.specs.PageSteps.{with_stock, StockIs, stock_of, pin_found, PinLooked}
-use Rattle.lst_rule.proofs.Learning.{learns_same, learns_then, kept_same, kept_on}
+use Rattle.lst_rule.specs.PageSteps.{StockIs, stock_of, pin_found, PinLooked}
+use Rattle.lst_rule.proofs.Learning.{kept_same, kept_on}
 use Rattle.lst_rule.proofs.Paging.{pin_is}
+use Rattle.lst_rule.proofs.Stocks.{stock_same, stock_now, stock_then, still_hosts}
 use Rattle.lst_retire.specs.Frames.{pins_found, LooksAtPins, AllLetGo, NoPinHolds, FirstPinHolds}
 use Rattle.lst_retire.proofs.Stocks.{looks_rest, pins_same}
-
--- ---- the merger's stock in a later view
-
-pub stock_same : (v : View) → StockIs v v (stock_of v)
-stock_same v = learns_same v v.limits.sessions
-
-pub stock_now : (v u : View) (m : MergerFrames) → StockIs v u m → stock_of u ≡ m
-stock_now v u m a = ap (λ (l : Limits). (knows u l.sessions).pages.stock) a.limits ∙ ap (λ (k : Known). k.pages.stock) a.now
-
-pub stock_then : (v u w : View) (m : MergerFrames) (f : MergerFrames → MergerFrames) → StockIs v u m → StockIs u w (f (stock_of u)) → StockIs v w (f m)
-stock_then v u w m f a b = learns_then v u w v.limits.sessions (with_stock (knows v v.limits.sessions) m) (λ k. with_stock k (f k.pages.stock)) a
-    (subst (λ (l : Limits). Learns u w l.sessions (with_stock (knows u l.sessions) (f (knows u l.sessions).pages.stock))) a.limits b)
-
-pub still_hosts : (v u : View) (m : MergerFrames) → StockIs v u m → (s : ℕ) → hosts v s ≡ true → hosts u s ≡ true
-still_hosts v u m a s hosted = ap (λ (hs : List Bool). get_or hs s false) a.hosted ∙ hosted
 
 -- ---- one look after another
 

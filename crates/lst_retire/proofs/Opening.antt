@@ -10,7 +10,7 @@ use Rattle.lst_core_state.specs.Pages.{retired_at, spares, opening_merger, no_pa
 use Rattle.lst_core_state.specs.State.{newcomer}
 use Rattle.lst_rule.specs.Rule.{crew}
 use Rattle.lst_rule.proofs.Opening.{same_at}
-use Rattle.lst_retire.specs.Frames.{AreSpares}
+use Rattle.lst_rule.specs.Spares.{AreSpares}
 use Rattle.lst_pages.proofs.Starts.{length-spares}
 
 -- these are the first k of the n spares from the frame f on

@@ -1,27 +1,19 @@
--- Spare frames, and the looks at pins by which the oldest of them is found free, or held.
-use Rattle.std.specs.Prelude.{◌≡◌, ℕ, zero, suc, ◌<◌, ◌≤◌, List, [], ◌∷◌, ◌++◌, Bool, true, false, None, slice_set}
+-- The looks at pins by which the oldest retired frame is found free, or held.
+use Rattle.std.specs.Prelude.{◌≡◌, ℕ, zero, suc, ◌<◌, ◌≤◌, List, [], ◌∷◌, ◌++◌, Bool, true, false, slice_set}
 use Rattle.lst_layout.specs.declared.TheConstants.{FRAME_WORDS}
 use Rattle.lst_layout.specs.Words.{shown}
 use Rattle.lst_core_state.specs.declared.known.Known.{Known}
 use Rattle.lst_core_state.specs.declared.pages.MergerFrames.{MergerFrames}
-use Rattle.lst_core_state.specs.declared.pages.Retired.{Retired}
 use Rattle.lst_pages.specs.declared.events.PageEvent.TheVariants.{StoreFrame}
 use Rattle.lst_pages.specs.Known.{PageEnabled, IsHeld}
 use Rattle.lst_pages.specs.Lists.{Every, HasFirst}
-use Rattle.lst_pages.specs.Sound.{Outside}
-use Rattle.lst_pages.specs.State.{hand_of, oldest_epoch}
+use Rattle.lst_pages.specs.State.{oldest_epoch}
 use Rattle.lst_pages.specs.Step.{IsClear, IsWithin, lets_go}
 use Rattle.lst_rule.specs.declared.view.View.{View}
 use Rattle.lst_rule.specs.Rule.{knows, hosts, Allowed}
 use Rattle.lst_rule.specs.Learned.{Kept}
 use Rattle.lst_rule.specs.PageSteps.{StockIs, stock_of, pin_found, PinLooked}
-
--- ---- spares
-
--- these are the retired frames that the merger knows, and no frame waits to be retired. A program that merges keeps it so between its merges
-pub record AreSpares (v : View) (spares : List Retired) : Type 0 where
-  pub retired : spares ≡ (stock_of v).retired
-  pub idle : (stock_of v).waiting ≡ None
+use Rattle.lst_rule.specs.Spares.{IsUnused}
 
 -- ---- looks at pins
 
@@ -76,11 +68,6 @@ sessions_below (suc n) = sessions_below n ++ n ∷ []
 -- the stock once the pins of the sessions below n were found, one after another, to let go of the oldest retired frame
 abbrev pub let_go_by : MergerFrames → ℕ → MergerFrames
 let_go_by m n = record m { clear = with_clear m.clear n; let_go = m.let_go ++ sessions_below n }
-
--- in each state that the view allows, no session has the frame in hand, and no page has it
-pub record IsUnused (v : View) (frame : ℕ) : Type 0 where
-  pub unread : (words : List ℕ) (known : ℕ → Known) (merger : Known) → Allowed v words known merger → (s : ℕ) → s < v.limits.sessions → hand_of (known s).pages.session frame ≡ None
-  pub unlisted : (words : List ℕ) (known : ℕ → Known) (merger : Known) → Allowed v words known merger → Outside v.limits (shown v.limits words).directory frame
 
 -- the merger has looked at each session's pin, and each lets go of the oldest retired frame, which is this one: words may be stored into it
 pub record FindsFree (v w : View) (frame : ℕ) : Type 0 where

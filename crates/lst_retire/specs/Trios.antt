@@ -5,7 +5,7 @@ use Rattle.lst_rule.specs.declared.store.Store.{Store}
 use Rattle.lst_rule.specs.Rule.{hosts}
 use Rattle.lst_rule.specs.Seats.{Sitting}
 use Rattle.lst_rule.specs.Stores.{IsSeatOf}
-use Rattle.lst_retire.specs.Frames.{AreSpares}
+use Rattle.lst_rule.specs.Spares.{AreSpares}
 
 -- the store has three sessions, its seat hosts each of them and the merger, and the spares are the merger's
 pub record IsTrio (store : Store) (seat : Sitting) (spares : List Retired) : Type 0 where

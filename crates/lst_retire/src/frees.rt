@@ -3,11 +3,11 @@ ghost use Rattle.std.specs.Prelude.{◌≡◌, true, IfNone, IfSome, IfOk, IfErr
 ghost use Rattle.lst_rule.specs.Rule.{hosts};
 ghost use Rattle.lst_rule.specs.PageSteps.{stock_of};
 ghost use Rattle.lst_rule.specs.Stores.{IsSeatOf};
-ghost use Rattle.lst_retire.specs.Frames.{AreSpares, NoPinHolds, FirstPinHolds, FindsFree, FindsHeld};
+ghost use Rattle.lst_rule.specs.Spares.{AreSpares};
+ghost use Rattle.lst_retire.specs.Frames.{NoPinHolds, FirstPinHolds, FindsFree, FindsHeld};
 
-use crate::spares::Spares;
 use lst_pages::lets_go;
-use lst_rule::{Seat, Store, step_look_pin};
+use lst_rule::{Seat, Spares, Store, step_look_pin};
 
 /// A session's pin holds the oldest retired frame.
 #[derive(Clone, Copy, PartialEq, Eq, Debug)]

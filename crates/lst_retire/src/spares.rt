@@ -1,16 +1,14 @@
-//! The spare frames that a program keeps.
+//! The spare frames of a store that opens.
 ghost use Rattle.std.specs.Prelude.{◌≡◌};
 ghost use Rattle.lst_layout.specs.Limits.{IsValid};
 ghost use Rattle.lst_core_state.specs.Pages as pages;
 ghost use Rattle.lst_rule.specs.Rule.{crew};
-ghost use Rattle.lst_retire.specs.Frames.{AreSpares};
+ghost use Rattle.lst_rule.specs.Spares.{AreSpares};
 
 use arrayvec::ArrayVec;
 use lst_core_state::Retired;
 use lst_layout::Limits;
-
-/// The retired frames and the epoch of each, oldest first. There are at most 64.
-pub type Spares = ArrayVec<Retired, 64>;
+use lst_rule::Spares;
 
 /// The spares of a store that opens: the frames that no page has, retired at epoch 0. They are those that the merger knows then.
 pub fn opening_spares(limits: &Limits) -> Spares

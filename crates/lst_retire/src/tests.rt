@@ -3,9 +3,9 @@ ghost use Rattle.std.specs.Prelude.{◌<◌, IfOk};
 ghost use Rattle.lst_retire.specs.Trios.{IsTrio};
 
 use crate::frees::first_holder;
-use crate::{Held, Spares, free_frame, opening_spares, pin, unpin};
+use crate::{Held, free_frame, opening_spares, pin, unpin};
 use lst_layout::Limits;
-use lst_rule::{Seat, Store, open_store};
+use lst_rule::{Seat, Spares, Store, open_store};
 use std::alloc::Global;
 use std::test::Fail;
 

@@ -22,6 +22,7 @@ pub mod Joining
 pub mod Changing
 pub mod Seating
 pub mod Paging
+pub mod Stocks
 pub mod Running
 pub mod Wholes
 pub mod Copying

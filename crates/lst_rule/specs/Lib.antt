@@ -10,6 +10,7 @@ pub mod Statuses
 pub mod Resolutions
 pub mod Joins
 pub mod PageSteps
+pub mod Spares
 pub mod Runs
 pub mod Frames
 pub mod Copies

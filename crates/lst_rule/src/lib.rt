@@ -3,6 +3,8 @@
 //!
 //! Each step of a running thread is one event on one word. Between any two steps of any threads the words and the views of all
 //! seats show one sound state of the core, and with what a step tells, a session's program argues about its own part.
+//!
+//! All words are touched here, and nowhere else. Begin with `specs/Rule` and `Seats`, then `steps.rt` and `loads.rt`.
 #![tactic(auto)]
 
 mod actions;
@@ -23,6 +25,7 @@ mod resolutions;
 mod rule;
 mod runs;
 mod seat;
+mod spares;
 mod splits;
 mod status;
 mod steps;
@@ -58,8 +61,9 @@ pub use parts::{Binds, Chooses, Confirms, Hears, Notes, Parts, Unites};
 pub use records::RecordId;
 pub use resolutions::{Resolution, resolve, resolve_from};
 pub use rule::{Adds, Exchanges, Loads, Means, SetsBits, StoreRule, Stores};
-pub use runs::{Run, load_heads, load_times, load_values};
+pub use runs::{Run, load_heads, load_times};
 pub use seat::Seat;
+pub use spares::Spares;
 pub use splits::{Room, note_of, room_for, split_off};
 pub use status::{Status, status_of, transaction_status};
 pub use steps::{step_begin, step_clock, step_close, step_give, step_log, step_state, step_take};

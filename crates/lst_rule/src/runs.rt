@@ -109,19 +109,6 @@ fn load_run(store: &Store, seat: &mut Seat, s: u32, run: Run, out: &mut [u64; 25
     }
 }
 
-/// Loads the packed values of a frame into an array, but the last of the 257 words that the widest form takes. Does what 256 calls of
-/// `load_frame` do, in order.
-pub fn load_values(store: &Store, seat: &mut Seat, s: u32, frame: u32, out: &mut [u64; 256])
-    requires seat { IsSeatOf store.now seat.old }
-    requires host { hosts seat.old.view s ≡ true }
-    requires run { IsRunOf seat.old.view.limits (runs.Values frame) }
-    ensures seat { IsSeatOf store.now seat.new }
-    ensures loads { LoadsRun (runs.Values frame) (slice_index out.new) seat.old.view s RANGE_RECORDS seat.new.view }
-    ensures found { FrameRun seat.old.view seat.new.view s frame FRAME_VALUES (slice_index out.new) }
-{
-    load_run(store, seat, s, Run::Values { frame }, out);
-}
-
 /// Loads the time words of a frame into an array. Does what 256 calls of `load_frame` do, in order.
 pub fn load_times(store: &Store, seat: &mut Seat, s: u32, frame: u32, out: &mut [u64; 256])
     requires seat { IsSeatOf store.now seat.old }

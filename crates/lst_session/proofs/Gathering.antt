@@ -12,7 +12,7 @@ use Rattle.lst_rule.specs.Seats.{Sitting}
 use Rattle.lst_rule.specs.Stores.{IsSeatOf}
 use Rattle.lst_seat.specs.Seats.{AreAllHosted, IsGap, Gathers, HasSeenAll, IsGatheredFrom}
 use Rattle.lst_rule.specs.PageSteps.{stock_of}
-use Rattle.lst_retire.specs.Frames.{AreSpares}
+use Rattle.lst_rule.specs.Spares.{AreSpares}
 use Rattle.lst_refinement.specs.Crews.{IsIdle, IsPinnedWhereOpen}
 use Rattle.lst_session.specs.declared.crew.Crew.{Crew}
 use Rattle.lst_session.specs.declared.session.Session.{Session}

@@ -10,7 +10,7 @@ use Rattle.lst_rule.specs.Rule.{knows}
 use Rattle.lst_core_state.specs.declared.pages.MergerFrames.{MergerFrames}
 use Rattle.lst_core_state.specs.declared.pages.Retired.{Retired}
 use Rattle.lst_rule.specs.PageSteps.{stock_of}
-use Rattle.lst_retire.specs.Frames.{AreSpares}
+use Rattle.lst_rule.specs.Spares.{AreSpares}
 use Rattle.lst_rule.specs.declared.store.Store.{Store}
 use Rattle.lst_rule.specs.Seats.{Sitting}
 use Rattle.lst_rule.specs.Stores.{IsSeatOf}

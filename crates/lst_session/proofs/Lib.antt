@@ -28,6 +28,9 @@ pub mod Peeking
 pub mod Promising
 pub mod Keeping
 pub mod Paged
+pub mod MergerLearnt
+pub mod MergeShown
+pub mod MergeSteps
 pub mod Merging
 pub mod Recounting
 pub mod Parting
@@ -36,3 +39,5 @@ pub mod Telling
 pub mod Waiting
 pub mod Lent
 pub mod Replying
+pub mod Taking
+pub mod Spending

@@ -20,10 +20,10 @@ use Rattle.lst_rule.specs.Rule.{knows, hosts}
 use Rattle.lst_rule.specs.Learned.{Possible}
 use Rattle.lst_rule.specs.PageSteps.{stock_of}
 use Rattle.lst_rule.specs.Stores.{IsSeatOf}
-use Rattle.lst_retire.specs.Frames.{AreSpares}
-use Rattle.lst_merge.specs.declared.answers.Merge.{Merge}
-use Rattle.lst_merge.specs.declared.answers.Merge.TheVariants.{Merged, Idle, NoFrame}
-use Rattle.lst_merge.specs.Merges.{OnlyPages, Merges}
+use Rattle.lst_rule.specs.Spares.{AreSpares}
+use Rattle.lst_session.specs.declared.kinds.Merge.{Merge}
+use Rattle.lst_session.specs.declared.kinds.Merge.TheVariants.{Merged, Idle, NoFrame}
+use Rattle.lst_session.specs.Merges.{OnlyPages, Merges}
 use Rattle.lst_refinement.specs.Crews.{IsIdle, IsPinnedWhereOpen, IsPinnedCrew}
 use Rattle.lst_refinement.specs.Effects.{SamePinEach, TellAlike}
 use Rattle.lst_refinement.specs.Laws.{IsMergedTo, pin_lets_go}

@@ -16,7 +16,7 @@ use Rattle.lst_rule.proofs.Opening.{same_at}
 use Rattle.lst_rule.proofs.Copying.{length-listed, listed_at}
 use Rattle.lst_refinement.specs.Crews.{IsIdle, IsPinnedWhereOpen}
 use Rattle.lst_core_state.specs.Pages.{no_pages, opening_merger}
-use Rattle.lst_retire.specs.Frames.{AreSpares}
+use Rattle.lst_rule.specs.Spares.{AreSpares}
 use Rattle.lst_refinement.specs.Telling.{told_store, told_pages}
 use Rattle.lst_refinement.proofs.PageParts.{opening_pages_are_told}
 use Rattle.lst_refinement.proofs.Openings.{opening_is_told}

@@ -10,7 +10,7 @@ use Rattle.lst_rule.specs.Seats.{Sitting}
 use Rattle.lst_seat.specs.Seats.{Parts}
 use Rattle.lst_seat.proofs.Gathering.{all_first, all_last}
 use Rattle.lst_rule.specs.PageSteps.{stock_of}
-use Rattle.lst_retire.specs.Frames.{AreSpares}
+use Rattle.lst_rule.specs.Spares.{AreSpares}
 use Rattle.lst_refinement.specs.Crews.{IsIdle, IsPinnedWhereOpen}
 use Rattle.lst_session.specs.declared.passes.Merger.{Merger}
 use Rattle.lst_session.specs.declared.session.Session.{Session}

@@ -186,8 +186,8 @@ pub record Refuses (v w : View) (s key most : ℕ) : Type 0 where
   pub after_look : DrawsAfterLook v w s key
 
 -- the key's record was latched in the call, by a step that found its newest version to have the number `head` in its range, and so left the
--- record's indirection word. At last the latch was given back, by a step that left the word with this number: so no chain serves that was found
--- before the latch
+-- record's indirection word. At last the latch was given back, by a step that left the word with this number: so `head` is what the latch of
+-- this call found, and no number from before it serves
 pub record HasLatched (v w : View) (s key : ℕ) : Type 0 where
   pub rec : ℕ
   pub head : ℕ
@@ -219,20 +219,20 @@ pub record FindsLatch (v w : View) (s key : ℕ) : Type 0 where
   pub found : FoundSince v w s (LatchedRecord rec)
   pub other : ¬ ((t : ℕ) → t < v.limits.sessions → (hosts v t ≡ true) × ((knows v t).hold.latch ≢ rec + 1))
 
--- the key's record was latched, and the chain that the latch found was judged: its newest version that isn't closed is one that the open
--- transaction of s sees. The facts that say so stay, whatever comes after
+-- the key's record was latched, and the facts have the chain that the latch found: its newest version that isn't known to be closed is one that
+-- the open transaction of s sees
 pub record WasJudged (v w : View) (s key : ℕ) : Type 0 where
   pub latch : HasLatched v w s key
   pub judged : HasJudged w.limits (knows w s) s latch.rec latch.head
 
--- the key's record was latched, and of the chain that the latch found the newest version that isn't closed was found committed at the time,
--- which is above the begin
+-- the key's record was latched, and the facts have the chain that the latch found: its newest version that isn't known to be closed is known to
+-- be committed at the time, which is above the begin and has been seen
 pub record FindsNewer (v w : View) (s key time : ℕ) : Type 0 where
   pub latch : HasLatched v w s key
   pub newer : FoundNewer w.limits (knows w s) latch.rec latch.head time
 
--- the key's record was latched, and of the chain that the latch found the newest version that isn't closed was found unfinished, by the
--- transaction n of another session j
+-- the key's record was latched, and the facts have the chain that the latch found: its newest version that isn't known to be closed is one of the
+-- transaction n of another session j, which was found unfinished since the view was v
 pub record FindsUnfinished (v w : View) (s key j n : ℕ) : Type 0 where
   pub other : j ≢ s
   pub latch : HasLatched v w s key
@@ -243,7 +243,7 @@ pub record FindsUnfinished (v w : View) (s key j n : ℕ) : Type 0 where
   pub writer : version.writer ≡ name_of j n
   pub found : FoundSince v w s (UnfinishedVersion (latch.rec + 1) version.tail j n ((knows v s).begin + 1))
 
--- the chain was judged, and then every tail of the range of the key's record found drawn, and no other counter full
+-- the chain was judged, and since the view was v every tail of the range of the key's record was found drawn, and no other counter full
 pub record FindsTails (v w : View) (s key : ℕ) : Type 0 where
   pub judged : WasJudged v w s key
   pub found : FoundSince v w s (FullTails (range_of judged.latch.rec))
@@ -254,8 +254,8 @@ abbrev pub IsMisfit : View → ℕ → ℕ → Act → WriteRefusal → Type 0
 IsMisfit v s key act refusal = ¬ Fits (row_seen (knows v s) key) act × (refusal ≡ misfit_of act)
 
 -- why a write is refused: where no transaction is open, or the open one is read-only, nothing was done at all; any other refusal is of one
--- that is open and may write. Once the key has a record, whether the act fits, and whether a tail is left, is asked only where the chain was judged
--- under the latch. Where a counter
+-- that is open and may write. Of a key with a record, that the act doesn't fit, or that no tail is left, is answered only where the chain that the
+-- latch found was judged. Where a counter
 -- was found full, the refusal is TableFull or TailFull, by which of them it was
 abbrev pub Cause : View → View → ℕ → ℕ → Act → WriteRefusal → Type 0
 Cause v w s key act Idle = (w ≡ v) × ((knows v s).is_open ≡ false)

@@ -20,7 +20,7 @@ use Rattle.lst_rule.specs.declared.store.Store.{Store as Table}
 use Rattle.lst_rule.specs.PageSteps.{stock_of}
 use Rattle.lst_rule.specs.Stores.{IsSeatOf}
 use Rattle.lst_rule.specs.Surveys.{Surveyed}
-use Rattle.lst_retire.specs.Frames.{AreSpares}
+use Rattle.lst_rule.specs.Spares.{AreSpares}
 use Rattle.lst_refinement.specs.Crews.{IsIdle, IsPinnedWhereOpen}
 use Rattle.lst_refinement.specs.Folding.{AreFolded}
 use Rattle.lst_refinement.specs.Telling.{told_store, told_pages}

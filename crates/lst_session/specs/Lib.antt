@@ -1,3 +1,4 @@
+pub mod Merges
 pub mod Traces
 pub mod Calls
 pub mod Laws
@@ -8,3 +9,6 @@ pub mod Replies
 pub mod Lines
 pub mod Lending
 pub mod Waits
+pub mod Turns
+pub mod Held
+pub mod Lent

@@ -12,8 +12,8 @@ use Rattle.lst_model.specs.declared.replies.Cause.TheVariants as cause
 use Rattle.lst_rule.specs.declared.view.View.{View}
 use Rattle.lst_rule.specs.Rule.{knows}
 use Rattle.lst_session.specs.declared.kinds.WriteRefusal.{WriteRefusal}
-use Rattle.lst_merge.specs.declared.answers.Merge.TheVariants as merges
-use Rattle.lst_merge.specs.Merges.{Merges}
+use Rattle.lst_session.specs.declared.kinds.Merge.TheVariants as merges
+use Rattle.lst_session.specs.Merges.{Merges}
 use Rattle.lst_session.specs.Calls.{Begins, IsAhead, Gets, Accepts, Refuses, Cause, Commits, Ends}
 use Rattle.lst_session.specs.Crews.{SavesTails}
 use Rattle.lst_session.specs.Replies.{write_cause}

@@ -13,7 +13,7 @@ use Rattle.lst_rule.specs.Rule.{knows, hosts}
 use Rattle.lst_rule.specs.Seats.{Sitting}
 use Rattle.lst_rule.specs.Stores.{IsSeatOf}
 use Rattle.lst_rule.specs.Surveys.{HostsAll}
-use Rattle.lst_retire.specs.Frames.{AreSpares}
+use Rattle.lst_rule.specs.Spares.{AreSpares}
 use Rattle.lst_rule.specs.Copies.{Includes}
 use Rattle.lst_seat.specs.Seats.{IsPartOf, HasSeenAll}
 use Rattle.lst_session.specs.Crews.{store_told}

@@ -16,8 +16,8 @@ use Rattle.lst_session.specs.declared.kinds.WriteRefusal.{WriteRefusal}
 use Rattle.lst_session.specs.declared.kinds.WriteRefusal.TheVariants as writes
 use Rattle.lst_session.specs.declared.kinds.Outcome.{Outcome}
 use Rattle.lst_session.specs.declared.kinds.Outcome.TheVariants as outcome
-use Rattle.lst_merge.specs.declared.answers.Merge.{Merge}
-use Rattle.lst_merge.specs.declared.answers.Merge.TheVariants as merges
+use Rattle.lst_session.specs.declared.kinds.Merge.{Merge}
+use Rattle.lst_session.specs.declared.kinds.Merge.TheVariants as merges
 use Rattle.lst_machine.specs.Calls.{row_reply}
 
 abbrev pub begin_cause : BeginFault → Cause

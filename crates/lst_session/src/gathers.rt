@@ -1,7 +1,7 @@
 //! Sessions and the merger are gathered into a crew.
 ghost use Rattle.std.specs.Prelude.{◌≡◌, [], ◌≤◌, All, IfOk, IfErr, MatchOption, length, map, vec_len, vec_capacity};
 ghost use Rattle.lst_rule.specs.Stores.{IsSeatOf};
-ghost use Rattle.lst_retire.specs.Frames.{AreSpares};
+ghost use Rattle.lst_rule.specs.Spares.{AreSpares};
 ghost use Rattle.lst_session.specs.Crews.{IsCrewOf};
 ghost use Rattle.lst_session.specs.Parting.{IsPass, IsMergerOf, has_number, AreAllThere, IsMissing, IsGathered};
 ghost use Rattle.lst_session.specs.Passes.{IsReady};

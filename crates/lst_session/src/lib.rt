@@ -2,12 +2,16 @@
 //!
 //! What a session is promised holds under every interleaving of other threads' steps; what the crew is promised is that each of its
 //! calls answers as the machine of one thread does.
+//!
+//! It touches words by the calls of the crates below alone. Begin with `Session` in `session.rt` and `Crew` in `crew.rt`;
+//! `specs/Calls` says what each call promises.
 #![tactic(auto)]
 
 mod begins;
 mod commits;
 mod crew;
 mod gathers;
+mod held;
 mod histories;
 mod kinds;
 mod laws;
@@ -21,14 +25,15 @@ mod reader;
 mod reads;
 mod replies;
 mod session;
+mod turns;
 mod writes;
 
 pub use crew::{Crew, open_crew};
 pub use gathers::gather;
-pub use kinds::{CommitRefusal, Outcome, WriteRefusal};
+pub use held::Held;
+pub use kinds::{CommitRefusal, Merge, Outcome, WriteRefusal};
 pub use laws::seen_is_sound;
 pub use locks::CommitLock;
-pub use lst_merge::Merge;
 pub use lst_seat::Note;
 pub use lst_txn::{BeginFault as BeginRefusal, Idle as NotBegun};
 pub use passes::{GatherCause, GatherRefusal, Merger, Sessions};

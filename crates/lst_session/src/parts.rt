@@ -2,7 +2,7 @@
 ghost use Rattle.std.specs.Prelude.{◌≡◌, [], ◌<◌, ◌≤◌, ◌^◌, All, IfOk, IfErr, length, vec_len, vec_capacity};
 ghost use Rattle.lst_rule.specs.Stores.{IsSeatOf};
 ghost use Rattle.lst_rule.specs.Surveys.{HostsAll};
-ghost use Rattle.lst_retire.specs.Frames.{AreSpares};
+ghost use Rattle.lst_rule.specs.Spares.{AreSpares};
 ghost use Rattle.lst_session.specs.Crews.{IsCrewOf};
 ghost use Rattle.lst_session.specs.Parting.{IsParted, IsMergerOf, are_numbered};
 ghost use Rattle.lst_session.specs.Passes.{IsReady};

@@ -4,8 +4,7 @@ ghost use Rattle.std.specs.Borrow.{sem};
 ghost use Rattle.lst_session.specs.Lending.{LendsSessions};
 
 use crate::session::Session;
-use lst_retire::Spares;
-use lst_rule::Seat;
+use lst_rule::{Seat, Spares};
 use std::marker::Model;
 
 /// Sessions of one store. A crew that is parted gives them in order.

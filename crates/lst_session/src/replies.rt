@@ -2,8 +2,7 @@
 ghost use Rattle.std.specs.Prelude.{◌≡◌};
 ghost use Rattle.lst_session.specs.Replies as replies;
 
-use crate::kinds::{Outcome, WriteRefusal};
-use lst_merge::Merge;
+use crate::kinds::{Merge, Outcome, WriteRefusal};
 use lst_model::{Cause, Reply, Row, Time};
 use lst_txn::{BeginFault as BeginRefusal, Idle as NotBegun};
 

@@ -26,8 +26,8 @@ pub struct Session {
 }
 
 impl Session {
-    /// Begins the next transaction, and answers its begin: a clock that is loaded in this call. Before that the session is pinned, at an epoch
-    /// that is loaded in this call. Active comes exactly where a transaction is open; Spent exactly where none is and the session has begun as
+    /// Begins the next transaction, and answers its begin: a clock that is loaded in this call. The session is pinned, at an epoch that
+    /// is loaded in this call before the clock. Active comes exactly where a transaction is open; Spent exactly where none is and the session has begun as
     /// many as it may; Future never. Where it is refused no pin is set.
     pub fn begin(&mut self, store: &Store) -> Result<Time, BeginRefusal>
         requires ready { IsReady store.now self.old }

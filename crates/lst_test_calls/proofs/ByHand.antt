@@ -8,7 +8,7 @@ use Rattle.lst_rule.specs.declared.store.Store.{Store}
 use Rattle.lst_rule.specs.declared.view.View.{View}
 use Rattle.lst_rule.specs.Learned.{Learns}
 use Rattle.lst_rule.specs.Stores.{IsSeatOf}
-use Rattle.lst_retire.specs.Frames.{AreSpares}
+use Rattle.lst_rule.specs.Spares.{AreSpares}
 use Rattle.lst_merge.specs.Inspections.{Inspects}
 use Rattle.lst_merge.proofs.Ending.{stock_inspected}
 use Rattle.lst_refinement.specs.Crews.{IsIdle, IsPinnedWhereOpen}

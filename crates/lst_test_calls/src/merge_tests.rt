@@ -7,12 +7,13 @@ ghost use Rattle.lst_session.specs.Crews.{IsCrewOf};
 
 use crate::crew_tests::{Step, fits};
 use crate::values::{Asked, Told, call_of, reply_of};
+use lst_core_state::Retired;
 use lst_layout::{FRAME_TIMES, FRAME_VALUES, Limits};
 use lst_merge::{Run, build, run_end, swap};
 use lst_model::{Call, Line, Reply};
 use lst_retire::{Held, free_frame};
 use lst_rule::{Seat, Store, load};
-use lst_session::{Crew, open_crew};
+use lst_session::{Crew, Merge, open_crew};
 use std::alloc::Global;
 use std::process::Abort;
 use std::test::Fail;
@@ -126,6 +127,29 @@ fn merged_by_hand(store: &Store, crew: &mut Crew) -> Option<(Run, u32)>
     }
 }
 
+/// What a merge of the first page comes to.
+fn answer_of(rt: &impl Abort, hand: &mut Hand) -> Merge {
+    let limits = hand.crew.seat.limits();
+    assert!(rt; 0 < limits.ranges && 0 < limits.columns);
+    hand.crew.merge(&hand.store, 0, 0)
+}
+
+/// Builds the first page anew in a free frame; tells whether there was one.
+fn built_by_hand(store: &Store, crew: &mut Crew) -> bool
+    requires crew { IsCrewOf store.now crew.old }
+    requires page { IsPage crew.old.seat.view.limits 0 0 }
+{
+    crew.seat.consider();
+    let run = run_end(store, &mut crew.seat, 0, 0);
+    match free_frame(store, &mut crew.seat, &mut crew.spares) {
+        Err(_) => false,
+        Ok(frame) => {
+            build(store, &mut crew.seat, frame, 0, 0, &run);
+            true
+        }
+    }
+}
+
 /// The word at an address, or None where the store has no such word.
 fn word(store: &Store, seat: &mut Seat, address: u64) -> Option<u64>
     requires seat { IsSeatOf store.now seat.old }
@@ -178,6 +202,29 @@ fn words_at(rt: &impl Abort, store: &Store, seat: &mut Seat, areas: &[(u64, &[u6
             "from word {first} on"
         );
     }
+}
+
+#[test]
+fn an_opening_store_has_nothing_to_merge(rt: HostRuntime) -> Result<(), Fail> {
+    let mut hand = opened(rt.alloc())?;
+    runs(&rt, &mut hand, 0, 0);
+    assert_eq!(rt; answer_of(&rt, &mut hand), Merge::Idle { tps: 0 });
+    assert_eq!(rt; answer_of(&rt, &mut hand), Merge::Idle { tps: 0 });
+    assert_eq!(rt; hand.crew.spares.len(), 1);
+    assert_eq!(rt;
+        hand.crew.spares.first().copied(),
+        Some(Retired { frame: 8, epoch: 0 })
+    );
+    Ok(())
+}
+
+#[test]
+fn a_page_without_tails_is_built_in_a_spare_frame(rt: HostRuntime) -> Result<(), Fail> {
+    let Hand { store, mut crew } = opened(rt.alloc())?;
+    let limits = crew.seat.limits();
+    assert!(rt; 0 < limits.ranges && 0 < limits.columns);
+    assert!(rt; built_by_hand(&store, &mut crew));
+    Ok(())
 }
 
 #[test]

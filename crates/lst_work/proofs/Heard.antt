@@ -4,13 +4,15 @@ use Rattle.std.proofs.lemmas.List.{get_or_default}
 use Rattle.lst_model.specs.Histories.{Extends}
 use Rattle.lst_core_state.specs.declared.known.Known.{Known}
 use Rattle.lst_rule.specs.declared.store.Store.{Store}
+use Rattle.lst_rule.specs.Copies.{Includes}
 use Rattle.lst_session.specs.declared.session.Session.{Session}
-use Rattle.lst_session.specs.Parting.{known_by, HearsMore, IsNextPhase}
+use Rattle.lst_session.specs.Parting.{known_by, IsAlone, HearsMore, IsNextPhase}
 use Rattle.lst_work_laws.specs.Phases.{Hears, HaveHeard}
 
 hears_by : (store : Store) (one two : Session) → HearsMore store one two → Hears one two
 hears_by store one two h = let is = h.knows.is in record {
   number = h.number;
+  hosted = h.hosted;
   same = record {
     transaction = record {
       number = ap (λ (k : Known). k.number) is;
@@ -32,10 +34,12 @@ hears_by store one two h = let is = h.knows.is in record {
   finds = ([], ap (λ (k : Known). k.finds) is ∙ sym (append-nil (known_by one).finds));
 }
 
-have_heard : (store : Store) (old new : List Session) → IsNextPhase store old new → HaveHeard old new
+pub have_heard : (store : Store) (old new : List Session) → IsNextPhase store old new → HaveHeard old new
 have_heard store old new next = record {
+  count = next.more.count;
   hears = λ i d low. hears_by store (get_or old i d) (get_or new i d) (next.more.each i d low);
   all = λ i j d e low lower. subst (λ (session : Session). Extends (known_by (get_or new i d)).seen (known_by session).seen) (get_or_default old j d e lower) ((next.all i low j lower).seen d);
+  facts = λ i j d e low lower alone. subst (λ (session : Session). IsAlone session → Includes (known_by (get_or new i d)).facts (known_by session).facts) (get_or_default old j d e lower) (λ own. (next.all i low j lower).facts d own) alone;
 }
 
 -- the same of lists that are equal to these

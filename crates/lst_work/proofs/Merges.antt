@@ -9,9 +9,9 @@ use Rattle.lst_model.specs.declared.lines.Line.TheVariants.{Phase, Merge, Call}
 use Rattle.lst_model.specs.declared.replies.Reply.{Reply}
 use Rattle.lst_rule.specs.declared.store.Store.{Store}
 use Rattle.lst_rule.specs.declared.view.View.{View}
-use Rattle.lst_merge.specs.declared.answers.Merge.{Merge as Answer}
-use Rattle.lst_merge.specs.declared.answers.Merge.TheVariants as merges
-use Rattle.lst_merge.specs.Merges.{Merges}
+use Rattle.lst_session.specs.declared.kinds.Merge.{Merge as Answer}
+use Rattle.lst_session.specs.declared.kinds.Merge.TheVariants as merges
+use Rattle.lst_session.specs.Merges.{Merges}
 use Rattle.lst_session.specs.declared.passes.Merger.{Merger}
 use Rattle.lst_session.specs.Lines.{MergeLeaves}
 use Rattle.lst_session.specs.Parting.{IsMergerOf}

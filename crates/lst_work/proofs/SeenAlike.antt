@@ -3,7 +3,7 @@ use Rattle.std.proofs.Common.{◌≡◌, ◌⊎◌, inl, inr, ⊎_elim, ℕ, ◌
 use Rattle.std.specs.Prelude.{Some, None}
 use Rattle.std.specs.List.{Contains}
 use Rattle.std.proofs.lemmas.List.Elements.{Contains-append_right}
-use Rattle.std.proofs.lemmas.List.{take-append-le, take_all, take-append-drop, length-take-le, get_or_default}
+use Rattle.std.proofs.lemmas.List.{take-append-le, take_all, take-append-drop, length-take-le}
 use Rattle.lst_layout.specs.Words.{shown}
 use Rattle.lst_model.specs.declared.acts.Act.{Act}
 use Rattle.lst_model.specs.declared.commits.Commit.{Commit}
@@ -16,7 +16,6 @@ use Rattle.lst_core_state.specs.declared.facts.Fact.TheVariants.{IndexAt}
 use Rattle.lst_core_state.specs.State.{history_of}
 use Rattle.lst_core_state.specs.Sound.{IsRecorded}
 use Rattle.lst_rule.specs.declared.view.View.{View}
-use Rattle.lst_rule.specs.Copies.{Includes}
 use Rattle.lst_rule.specs.Joins.{noted}
 use Rattle.lst_rule.specs.Rule.{knows, hosts}
 use Rattle.lst_rule.specs.Learned.{Possible}
@@ -28,7 +27,8 @@ use Rattle.lst_session.specs.declared.session.Session.{Session}
 use Rattle.lst_session.specs.Parting.{IsAlone, known_by}
 use Rattle.lst_session.proofs.Growing.{same_extends}
 use Rattle.lst_work_laws.proofs.Telling.{extends_on, later_length}
-use Rattle.lst_work.specs.ParSums.{table_of, PartedHaveSeenAlike, GatheredHaveSeenAlike, PhasesSeeAlike, TellersKnow, HearersKnow, KnowersHaveSeenAlike, SeenAlikeIsKept, HearersHaveGrown, SummersHaveGrown}
+use Rattle.lst_work.proofs.Heard.{have_heard}
+use Rattle.lst_work.specs.ParSums.{table_of, PartedHaveSeenAlike, GatheredHaveSeenAlike, PhasesSeeAlike, PhaseLinesSeeAlike, TellersKnow, HearersKnow, KnowersHaveSeenAlike, SeenAlikeIsKept, HearersHaveGrown, SummersHaveGrown}
 
 -- ---- the keys of rows
 
@@ -114,19 +114,22 @@ pub gathered_have_seen_alike : GatheredHaveSeenAlike
 gathered_have_seen_alike store gathered m w sessions merger time g parted p few =
     parted_have_seen_alike store w sessions merger time parted p g.all (λ s low. subst (λ (cs : List Commit). time ≤ length cs) (sym (g.seen s low)) few)
 
-pub phases_see_alike : PhasesSeeAlike
-phases_see_alike store old new i none time next low pass alone p few =
+pub lines_see_alike : PhaseLinesSeeAlike
+lines_see_alike store old new i none time heard low pass alone p few =
     let from : Session = get_or old i none in let seen = (known_by from).seen in let commits = take time seen in
     let front : Extends seen commits = (drop time seen, sym (take-append-drop time seen)) in record {
       commits = commits;
       count = length-take-le time seen few;
       place = place_by from.seat.view p from.number pass.host pass.own;
-      each = λ j other short. let heard = next.all j (let c = next.more.count in omega arith) i low in let same : get_or old i other ≡ from = get_or_default old i other none low in record {
-        seen = extends_on commits seen (known_by (get_or new j other)).seen front (subst (λ (x : Session). Extends (known_by (get_or new j other)).seen (known_by x).seen) same (heard.seen other));
+      each = λ j other short. let inside : j < length old = (let c = heard.count in omega arith) in record {
+        seen = extends_on commits seen (known_by (get_or new j other)).seen front (heard.all j i other none inside low);
         places = λ key row at. let h = placed from.seat.view p from.number pass.host pass.own commits front key row at in
-            (h.0, subst (λ (x : Session). Includes (known_by (get_or new j other)).facts (known_by x).facts) same (heard.facts other (subst IsAlone (sym same) alone)) (IndexAt h.0 (place_by from.seat.view p from.number pass.host pass.own key) key) h.1);
+            (h.0, heard.facts j i other none inside low alone (IndexAt h.0 (place_by from.seat.view p from.number pass.host pass.own key) key) h.1);
       };
     }
+
+pub phases_see_alike : PhasesSeeAlike
+phases_see_alike store old new i none time next = lines_see_alike store old new i none time (have_heard store old new next)
 
 -- the session that tells a note is the one that its seat hosts
 teller_is : (session : Session) → IsAlone session → (s : ℕ) → hosts session.seat.view s ≡ true → s ≡ session.number

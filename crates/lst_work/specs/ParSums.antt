@@ -25,6 +25,7 @@ use Rattle.lst_session.specs.Lines.{CanBegin}
 use Rattle.lst_session.specs.Crews.{store_told}
 use Rattle.lst_session.specs.Parting.{IsPass, IsAlone, known_by, IsParted, IsGathered, HearMore, IsNextPhase}
 use Rattle.lst_session.specs.Passes.{IsReady}
+use Rattle.lst_work_laws.specs.Phases.{HaveHeard}
 
 -- ---- before
 
@@ -129,6 +130,11 @@ GatheredHaveSeenAlike = (store : Store) (gathered : List Session) (m w : View) (
 -- and those that have heard of each other between two phases, up to each time that one of them had seen before whose seat hosts it alone
 abbrev pub PhasesSeeAlike : Type 0
 PhasesSeeAlike = (store : Store) (old new : List Session) (i : ℕ) (none : Session) (time : ℕ) → IsNextPhase store old new → i < length old → IsPass store (slice_index_or old i none) → IsAlone (slice_index_or old i none)
+    → Possible (slice_index_or old i none).seat.view → time ≤ length (known_by (slice_index_or old i none)).seen → HaveSeenAlike time new
+
+-- so have those that heard of each other at a `phase` line
+abbrev pub PhaseLinesSeeAlike : Type 0
+PhaseLinesSeeAlike = (store : Store) (old new : List Session) (i : ℕ) (none : Session) (time : ℕ) → HaveHeard old new → i < length old → IsPass store (slice_index_or old i none) → IsAlone (slice_index_or old i none)
     → Possible (slice_index_or old i none).seat.view → time ≤ length (known_by (slice_index_or old i none)).seen → HaveSeenAlike time new
 
 -- the session has seen first what the note tells, and its facts have those of the note

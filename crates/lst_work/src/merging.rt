@@ -2,7 +2,6 @@
 ghost use Rattle.std.specs.Prelude.{◌≡◌, ◌+◌, ◌<◌, ◌^◌, length, OnOk, [], ◌∷◌, false};
 ghost use Rattle.std.specs.List.{All};
 ghost use Rattle.lst_session.specs.Parting.{IsMergerOf};
-ghost use Rattle.lst_session.specs.Replies as replies;
 ghost use Rattle.lst_work.specs.Merges.{Merged, MergedBlocks, HasMerged};
 ghost use Rattle.lst_work.specs.Blocks.{blocks_of};
 ghost use Rattle.lst_work_laws.specs.Runs.{CanRun};
@@ -10,10 +9,10 @@ ghost use Rattle.lst_work_laws.specs.Runs.{CanRun};
 use crate::blocks::first_block;
 use crate::gates::Gate;
 use crate::paces::Pace;
-use lst_model::{Line, OutOfMemory, Reply};
+use lst_model::{Line, OutOfMemory};
 use lst_reply_queue::ReplyQueue;
 use lst_rule::Store;
-use lst_session::{Merge, Merger};
+use lst_session::{Merger, merge_reply};
 use std::alloc::Global;
 use std::mem;
 use std::sync::Wait;
@@ -41,17 +40,6 @@ pub(crate) fn empty_queue(alloc: Global) -> MergeQueue
         parts: Vec::new(alloc),
         made: 0,
         has_failed: false,
-    }
-}
-
-/// The reply to a merge.
-fn merge_reply(answer: Merge) -> Reply
-    ensures { result ≡ replies.merge_reply answer }
-{
-    match answer {
-        Merge::Merged { tps } => Reply::Merged { tps },
-        Merge::Idle { tps } => Reply::NothingNew { tps },
-        Merge::NoFrame { session } => Reply::NoFrame { session },
     }
 }
 

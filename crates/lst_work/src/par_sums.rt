@@ -12,7 +12,7 @@ ghost use Rattle.lst_session.specs.Crews.{IsCrewOf};
 ghost use Rattle.lst_session.specs.Calls.{Begins, Ends, OnlyLooks};
 ghost use Rattle.lst_session.specs.Parting.{seen_at};
 ghost use Rattle.lst_session.specs.Passes.{IsReady};
-ghost use Rattle.lst_work.specs.ParSums.{CanBeginAsOf, HasSeenFirst, HaveSeenAlike, table_of, share_start, IsSumOf, CanShare, HaveShared, HasSummed, HaveSummed, PartedHaveSeenAlike, GatheredHaveSeenAlike, PhasesSeeAlike, TellersKnow, HearersKnow, KnowersHaveSeenAlike, SeenAlikeIsKept, HearersHaveGrown, SummersHaveGrown};
+ghost use Rattle.lst_work.specs.ParSums.{CanBeginAsOf, HasSeenFirst, HaveSeenAlike, table_of, share_start, IsSumOf, CanShare, HaveShared, HasSummed, HaveSummed, PartedHaveSeenAlike, GatheredHaveSeenAlike, PhasesSeeAlike, PhaseLinesSeeAlike, TellersKnow, HearersKnow, KnowersHaveSeenAlike, SeenAlikeIsKept, HearersHaveGrown, SummersHaveGrown};
 
 use lst_model::Time;
 use lst_rule::Store;
@@ -248,14 +248,15 @@ pub fn all_can_begin(store: &Store, sessions: &[Session], time: Time) -> bool
 }
 
 /// The sessions of a crew that is parted have seen alike up to each time that all of them had seen then; where the crew was gathered before, up to each time
-/// of its history. So have those that `next_phase` let hear of each other, up to each time that one of them had seen before, each at a seat of its own. So
-/// have the one that tells a note and those that hear it, up to each time that the note tells. It stays so where what each has seen and its
+/// of its history. So have those that `next_phase` let hear of each other, or a `phase` line, up to each time that one of them had seen before, each at a seat of
+/// its own. So have the one that tells a note and those that hear it, up to each time that the note tells. It stays so where what each has seen and its
 /// facts only grow; where the sessions hear of each other, as in `next_phase`, and where they add up a column, they only grow. A law: its contract holds
 /// at all values, and its body does nothing.
 pub fn sessions_see_alike()
     ensures parted { PartedHaveSeenAlike }
     ensures gathered { GatheredHaveSeenAlike }
     ensures phase { PhasesSeeAlike }
+    ensures line { PhaseLinesSeeAlike }
     ensures teller { TellersKnow }
     ensures hearer { HearersKnow }
     ensures told { KnowersHaveSeenAlike }

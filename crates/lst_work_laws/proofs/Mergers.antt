@@ -20,9 +20,9 @@ use Rattle.lst_rule.specs.Rule.{knows}
 use Rattle.lst_rule.specs.PageSteps.{stock_of}
 use Rattle.lst_rule.specs.Statuses.{FoundSince}
 use Rattle.lst_retire.specs.Frames.{FindsHeld}
-use Rattle.lst_merge.specs.declared.answers.Merge.TheVariants as merges
+use Rattle.lst_session.specs.declared.kinds.Merge.TheVariants as merges
 use Rattle.lst_merge.specs.Inspections.{merger_of, Inspects}
-use Rattle.lst_merge.specs.Merges.{MergerLearns, Merges}
+use Rattle.lst_session.specs.Merges.{MergerLearns, Merges}
 use Rattle.lst_merge.specs.Runs.{StopsAt}
 use Rattle.lst_replies.specs.Runs.{Answered, answered, speaker_of}
 use Rattle.lst_replies.specs.Explained.{merged_after}

@@ -11,13 +11,14 @@ use Rattle.lst_rule.specs.declared.view.View.{View}
 use Rattle.lst_rule.specs.Copies.{Includes}
 use Rattle.lst_session.specs.declared.session.Session.{Session}
 use Rattle.lst_session.specs.Calls.{SameWork, SameLists}
-use Rattle.lst_session.specs.Parting.{known_by}
+use Rattle.lst_session.specs.Parting.{known_by, IsAlone}
 use Rattle.lst_work_laws.specs.Whole.{AreAll, IsPhase}
 use Rattle.lst_work_laws.specs.Runs.{CanRun}
 
--- The session may have seen more, learnt facts and made finds. Its transaction, lists and pins are as they were.
+-- The session may have seen more, learnt facts and made finds. Its transaction, lists and pins are as they were, and its seat hosts whom it hosted.
 pub record Hears (old new : Session) : Type 0 where
   pub number : new.number ≡ old.number
+  pub hosted : new.seat.view.hosts ≡ old.seat.view.hosts
   pub same : SameWork old.number (known_by old) (known_by new)
   pub lists : SameLists (known_by old) (known_by new)
   pub pins : (known_by new).pages.pins ≡ (known_by old).pages.pins
@@ -25,10 +26,12 @@ pub record Hears (old new : Session) : Type 0 where
   pub facts : Includes (known_by new).facts (known_by old).facts
   pub finds : (more : List Find) × ((known_by new).finds ≡ (known_by old).finds ++ more)
 
--- each session has seen all that any of them had seen
+-- each session has seen all that any of them had seen, and has the facts of each whose seat hosted it alone
 pub record HaveHeard (old new : List Session) : Type 0 where
+  pub count : length new ≡ length old
   pub hears : (i : ℕ) (d : Session) → i < length old → Hears (slice_index_or old i d) (slice_index_or new i d)
   pub all : (i j : ℕ) (d e : Session) → i < length old → j < length old → Extends (known_by (slice_index_or new i d)).seen (known_by (slice_index_or old j e)).seen
+  pub facts : (i j : ℕ) (d e : Session) → i < length old → j < length old → IsAlone (slice_index_or old j e) → Includes (known_by (slice_index_or new i d)).facts (known_by (slice_index_or old j e)).facts
 
 -- The sessions have run a phase, and then each later one, and between any two of them every session heard of what the others had seen; the merger,
 -- which had the view m and has n, has made the merges beside them. These are the replies, phase after phase.

@@ -1,5 +1,5 @@
 use Rattle.std.proofs.Common.{arith}
-use Rattle.lst_merge.proofs.Merging.{freed_settled, lacks_frame, merges}
+use Rattle.lst_session.proofs.MergeSteps.{freed_settled, lacks_frame, merges}
 use Rattle.lst_test_calls.proofs.ByHand.{crew_learned, spares_looked}
 use Rattle.lst_test_calls.proofs.merge_tests.merged_by_hand.Goals as goal
 

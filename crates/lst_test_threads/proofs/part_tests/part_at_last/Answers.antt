@@ -1,6 +1,6 @@
 use Rattle.std.proofs.Common.{sym, subst}
 use Rattle.lst_rule.specs.Surveys.{HostsAll}
-use Rattle.lst_retire.specs.Frames.{AreSpares}
+use Rattle.lst_rule.specs.Spares.{AreSpares}
 use Rattle.lst_session.specs.declared.crew.Crew.{Crew}
 use Rattle.lst_session.proofs.Recounting.{hosts_all}
 use Rattle.lst_test_threads.proofs.part_tests.part_at_last.Goals as goal

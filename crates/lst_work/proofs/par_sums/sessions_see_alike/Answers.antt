@@ -1,4 +1,4 @@
-use Rattle.lst_work.proofs.SeenAlike.{parted_have_seen_alike, gathered_have_seen_alike, phases_see_alike, tellers_know, hearers_know, knowers_have_seen_alike, seen_alike_is_kept, hearers_have_grown, summers_have_grown}
+use Rattle.lst_work.proofs.SeenAlike.{parted_have_seen_alike, gathered_have_seen_alike, phases_see_alike, lines_see_alike, tellers_know, hearers_know, knowers_have_seen_alike, seen_alike_is_kept, hearers_have_grown, summers_have_grown}
 use Rattle.lst_work.proofs.par_sums.sessions_see_alike.Goals as goal
 
 pub returns-clause-parted : goal.returns-clause-parted
@@ -9,6 +9,9 @@ returns-clause-gathered c = gathered_have_seen_alike
 
 pub returns-clause-phase : goal.returns-clause-phase
 returns-clause-phase c = phases_see_alike
+
+pub returns-clause-line : goal.returns-clause-line
+returns-clause-line c = lines_see_alike
 
 pub returns-clause-teller : goal.returns-clause-teller
 returns-clause-teller c = tellers_know
