@@ -1,0 +1,6 @@
+pub mod Placing
+pub mod Staying
+pub mod Sets
+pub mod Checking
+pub mod Ending
+pub mod Looking

@@ -1,0 +1,18 @@
+//! Sessions at the serializable level: each transaction that commits answers as if it had run alone at its commit.
+//!
+//! A session keeps which keys its open transaction has read, or that it has read all. A commit is made where no other commit above the begin wrote what was
+//! read, which is found out with the commit word held, and else it is refused as stale.
+#![tactic(auto)]
+
+mod checks;
+mod keys;
+mod kinds;
+mod laws;
+mod locks;
+mod reads;
+mod serial;
+
+pub use keys::KeySet;
+pub use kinds::{SerialCommit, SerialEnd, SerialRead, SerialWrite};
+pub use laws::{answers_stay, checks_place, places_answer, unchanged_is_placed};
+pub use serial::Serial;
