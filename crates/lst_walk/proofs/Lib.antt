@@ -18,3 +18,4 @@ pub mod Holding
 pub mod Rowing
 pub mod Straight
 pub mod Newest
+pub mod Masks

@@ -1,5 +1,7 @@
 //! One column of a record's row.
 ghost use Rattle.std.specs.Prelude.{◌≡◌, ℕ, ◌+◌, ◌*◌, ◌<◌, ◌≤◌, true, false, None};
+ghost use Rattle.lst_layout.specs.declared.place.Place.TheVariants.{CellWord};
+ghost use Rattle.lst_layout.specs.Addresses.{address};
 ghost use Rattle.lst_core_state.specs.Cells.{record_count};
 ghost use Rattle.lst_rule.specs.Rule.{knows, hosts};
 ghost use Rattle.lst_rule.specs.Stores.{IsSeatOf};
@@ -12,10 +14,10 @@ ghost use Rattle.lst_walk.specs.Pages.{touches_by, is_told, SavesCell};
 ghost use Rattle.lst_walk.specs.Walks.{IsCellOf, WalksCell, Tells, Told};
 
 use crate::pages::{entry_of, number_of};
-use crate::stamps::is_seen;
-use crate::words::{encoding, head, value};
+use crate::placed::{below_from, encoding_from, first_word, is_seen_from, value_from};
+use crate::words::head;
 use lst_bits::{Kind, has_column};
-use lst_rule::{RecordId, Seat, Store, tail_of, version_below};
+use lst_rule::{RecordId, Seat, Store, tail_of};
 
 /// The number in a column, 0 for null, of the row that the open transaction sees of a record: of the snapshot at its begin, with its own
 /// writes on it. None comes exactly where it sees no row, of a record without a seen key too. The walk goes along the chain from the newest
@@ -44,10 +46,11 @@ pub fn column(store: &Store, seat: &mut Seat, s: u32, rec: RecordId, c: u32) -> 
         if number as u64 <= entry.until {
             return number_of(store, seat, s, rec, entry);
         }
-        if let Some(held) = held(store, seat, s, range, number, c) {
+        let first = first_word(store, range, number);
+        if let Some(held) = held(store, seat, s, range, number, first, c) {
             return held;
         }
-        number = version_below(store, seat, s, tail_of(store, range, number));
+        number = below_from(store, seat, s, tail_of(store, range, number), first);
     }
     None
 }
@@ -68,28 +71,31 @@ pub fn column_by_chain(store: &Store, seat: &mut Seat, s: u32, rec: RecordId, c:
     let range = rec.number / 256;
     let mut number = head(store, seat, s, rec);
     while number > 0 {
-        if let Some(held) = held(store, seat, s, range, number, c) {
+        let first = first_word(store, range, number);
+        if let Some(held) = held(store, seat, s, range, number, first, c) {
             return held;
         }
-        number = version_below(store, seat, s, tail_of(store, range, number));
+        number = below_from(store, seat, s, tail_of(store, range, number), first);
     }
     None
 }
 
 /// What a version of a range, by the number of its tail record, tells of a column: its number, 0 for null, or with None in it that there is
-/// no row. None comes where the version isn't seen, or tells nothing of the column.
+/// no row. None comes where the version isn't seen, or tells nothing of the column. The tail record's first word has the address `first`.
 fn held(
     store: &Store,
     seat: &mut Seat,
     s: u32,
     range: u32,
     number: u32,
+    first: u64,
     column: u32,
 ) -> Option<Option<u64>>
     requires reader { IsReader store.now seat.old s }
     requires range { range < store.now.layout.limits.ranges }
     requires number { (0 < number) × (number ≤ store.now.layout.limits.tails) }
     requires version { HasVersion seat.old.view s (range * store.now.layout.limits.tails + number) }
+    requires first { first ≡ address store.now.layout.limits (CellWord (range * store.now.layout.limits.tails + number) 0) }
     requires column { column < store.now.layout.limits.columns }
     ensures reader { IsReader store.now seat.new s }
     ensures watched { Watched seat.old.view seat.new.view s }
@@ -98,17 +104,26 @@ fn held(
     ensures leaves { result ≡ None → (c : Version) → IsAt seat.old.view s (range * store.now.layout.limits.tails + number) c → is_told (knows seat.old.view s) s column c ≡ false }
     ensures resolved { Resolves seat.old.view seat.new.view s range number }
 {
-    if is_seen(store, seat, s, range, number) {
-        told(store, seat, s, tail_of(store, range, number), column)
+    if is_seen_from(store, seat, s, range, number, first) {
+        told(store, seat, s, tail_of(store, range, number), first, column)
     } else {
         None
     }
 }
 
-/// What a version that is seen tells of a column.
-fn told(store: &Store, seat: &mut Seat, s: u32, tail: u32, column: u32) -> Option<Option<u64>>
+/// What a version that is seen tells of a column. A put has each column in its mask, and a delete none, so that its kind is asked for only where the
+/// mask leaves the column out.
+fn told(
+    store: &Store,
+    seat: &mut Seat,
+    s: u32,
+    tail: u32,
+    first: u64,
+    column: u32,
+) -> Option<Option<u64>>
     requires reader { IsReader store.now seat.old s }
     requires version { HasVersion seat.old.view s tail }
+    requires first { first ≡ address store.now.layout.limits (CellWord tail 0) }
     requires column { column < store.now.layout.limits.columns }
     ensures reader { IsReader store.now seat.new s }
     ensures watched { Watched seat.old.view seat.new.view s }
@@ -116,16 +131,12 @@ fn told(store: &Store, seat: &mut Seat, s: u32, tail: u32, column: u32) -> Optio
     ensures told { (c : Version) → IsAt seat.old.view s tail c → Told c store.now.layout.limits.columns column result }
     ensures leaves { result ≡ None → (c : Version) → IsAt seat.old.view s tail c → touches_by column c.encoding ≡ false }
 {
-    let encoding = encoding(store, seat, s, tail);
+    let encoding = encoding_from(store, seat, s, tail, first);
+    if has_column(encoding.mask, column) {
+        return Some(Some(value_from(store, seat, s, tail, first, column)));
+    }
     match encoding.kind {
-        Kind::Put => Some(Some(value(store, seat, s, tail, column))),
-        Kind::Set => {
-            if has_column(encoding.mask, column) {
-                Some(Some(value(store, seat, s, tail, column)))
-            } else {
-                None
-            }
-        }
+        Kind::Put | Kind::Set => None,
         Kind::Del => Some(None),
     }
 }

@@ -3,11 +3,15 @@
 //! A session with a pin takes the page of the column, or the pages of all columns, in hand. The walk goes down the chain from its newest version, and
 //! once it is at a tail record that a page has, by number, the page's entry tells of its column, if its time is at most the begin. A session without
 //! a pin goes along the chain alone.
+//!
+//! It loads indirection words, the words of tail records and of pages that are taken in hand, and stores stamps alone. Begin
+//! with `row` in `rows.rt`, then `column` in `columns.rt`.
 #![tactic(auto)]
 
 mod columns;
 mod packed;
 mod pages;
+mod placed;
 mod presence;
 mod rows;
 mod stamps;

@@ -9,7 +9,8 @@ ghost use Rattle.lst_rule.specs.Watching.{Watched};
 ghost use Rattle.lst_walk.specs.Readers.{IsReader, IsAt, HasVersion, Timed, Untimed, OwnFound, Resolves};
 ghost use Rattle.lst_walk.specs.Stamping.{unstamped_of, is_timed_by, sees_by, TimedAs};
 
-use lst_rule::{Resolution, Seat, Store, resolve, step_stamp, tail_of};
+use crate::placed::{first_word, resolve_stamped_from};
+use lst_rule::{Resolution, Seat, Store};
 
 /// Whether this call found or stored a commit time in the start word of a range's tail record, which has this number from 1 on. It
 /// answers no where it found the start word empty, its transaction closed or unfinished, or the session's own.
@@ -58,17 +59,12 @@ fn resolve_stamped(store: &Store, seat: &mut Seat, s: u32, range: u32, tail: u32
     ensures timed { TimedAs seat.old.view seat.new.view s range tail result }
     ensures seen { (c : Version) → IsAt seat.old.view s (range * store.now.layout.limits.tails + tail) c → sees_by (knows seat.new.view s).begin result ≡ sees (knows seat.old.view s) s c.writer }
 {
-    let found = resolve(store, seat, s, tail_of(store, range, tail));
-    seat.consider();
-    if let Some(time) = unstamped(found) {
-        step_stamp(store, seat, s, range, tail, time);
-        return found;
-    }
-    found
+    let first = first_word(store, range, tail);
+    resolve_stamped_from(store, seat, s, range, tail, first)
 }
 
 /// The time that is to be stored in the start word of a version that stands so.
-fn unstamped(found: Resolution) -> Option<u64>
+pub(crate) fn unstamped(found: Resolution) -> Option<u64>
     ensures { result ≡ unstamped_of found }
 {
     match found {
@@ -88,7 +84,7 @@ fn is_timed(found: Resolution) -> bool
 }
 
 /// Whether a transaction with this begin sees a version that stands so to it.
-fn is_seen_at(found: Resolution, begin: u64) -> bool
+pub(crate) fn is_seen_at(found: Resolution, begin: u64) -> bool
     ensures { result ≡ sees_by begin found }
 {
     match found {

@@ -1,4 +1,6 @@
-use Rattle.std.proofs.Common.{sym, ◌∙◌}
+use Rattle.std.proofs.Common.{ℕ, sym, ap, ◌∙◌}
+use Rattle.lst_layout.specs.declared.place.Place.TheVariants.{CellWord}
+use Rattle.lst_layout.specs.Addresses.{address}
 use Rattle.lst_rule.specs.Rule.{knows}
 use Rattle.lst_walk.proofs.Reading.{at_on, version_on, watched_on}
 use Rattle.lst_walk.proofs.Stamping.{at_same, has_same}
@@ -9,29 +11,32 @@ use Rattle.lst_rule.proofs.Finds.{loads_tail}
 use Rattle.lst_walk.proofs.columns.held.Goals as goal
 
 pub told-requires-clause-reader : goal.told-requires-clause-reader
-told-requires-clause-reader c = c.is_seen.ensures.reader
+told-requires-clause-reader c = c.is_seen_from.ensures.reader
 
 pub told-requires-clause-version : goal.told-requires-clause-version
-told-requires-clause-version c = has_same c.is_seen.new.seat.view c.args.s _ c.tail_of.result (sym c.tail_of.ensures) (version_on c.args.seat.now.view c.is_seen.new.seat.view c.args.s _ c.is_seen.ensures.watched c.requires.version)
+told-requires-clause-version c = has_same c.is_seen_from.new.seat.view c.args.s _ c.tail_of.result (sym c.tail_of.ensures) (version_on c.args.seat.now.view c.is_seen_from.new.seat.view c.args.s _ c.is_seen_from.ensures.watched c.requires.version)
 
-pub returns-then-is_seen-clause-watched : goal.returns-then-is_seen-clause-watched
-returns-then-is_seen-clause-watched c = watched_on c.args.seat.now.view c.is_seen.new.seat.view c.told.new.seat.view c.args.s c.is_seen.ensures.watched c.told.ensures.watched
+pub returns-then-is_seen_from-clause-watched : goal.returns-then-is_seen_from-clause-watched
+returns-then-is_seen_from-clause-watched c = watched_on c.args.seat.now.view c.is_seen_from.new.seat.view c.told.new.seat.view c.args.s c.is_seen_from.ensures.watched c.told.ensures.watched
 
-pub returns-then-is_seen-clause-tells : goal.returns-then-is_seen-clause-tells
-returns-then-is_seen-clause-tells c = λ d at. seen_tells (knows c.args.seat.now.view c.args.s) c.args.s d c.args.store.now.layout.limits.columns c.args.column c.told.result (sym (c.is_seen.ensures.seen d at) ∙ c.if-is_seen.true) (c.told.ensures.told d (at_same c.is_seen.new.seat.view c.args.s _ c.tail_of.result d (sym c.tail_of.ensures) (at_on c.args.seat.now.view c.is_seen.new.seat.view c.args.s _ d c.is_seen.ensures.watched at)))
+pub returns-then-is_seen_from-clause-tells : goal.returns-then-is_seen_from-clause-tells
+returns-then-is_seen_from-clause-tells c = λ d at. seen_tells (knows c.args.seat.now.view c.args.s) c.args.s d c.args.store.now.layout.limits.columns c.args.column c.told.result (sym (c.is_seen_from.ensures.seen d at) ∙ c.if-is_seen_from.true) (c.told.ensures.told d (at_same c.is_seen_from.new.seat.view c.args.s _ c.tail_of.result d (sym c.tail_of.ensures) (at_on c.args.seat.now.view c.is_seen_from.new.seat.view c.args.s _ d c.is_seen_from.ensures.watched at)))
 
-pub returns-else-is_seen-clause-tells : goal.returns-else-is_seen-clause-tells
-returns-else-is_seen-clause-tells c = λ d at. unseen_tells (knows c.args.seat.now.view c.args.s) c.args.s d c.args.store.now.layout.limits.columns c.args.column (sym (c.is_seen.ensures.seen d at) ∙ c.if-is_seen.false)
+pub returns-else-is_seen_from-clause-tells : goal.returns-else-is_seen_from-clause-tells
+returns-else-is_seen_from-clause-tells c = λ d at. unseen_tells (knows c.args.seat.now.view c.args.s) c.args.s d c.args.store.now.layout.limits.columns c.args.column (sym (c.is_seen_from.ensures.seen d at) ∙ c.if-is_seen_from.false)
 
-pub returns-then-is_seen-clause-resolved : goal.returns-then-is_seen-clause-resolved
-returns-then-is_seen-clause-resolved c = resolves_later c.args.seat.now.view c.is_seen.new.seat.view c.told.new.seat.view c.args.s c.args.range c.args.number c.told.ensures.watched c.is_seen.ensures.resolved
+pub returns-then-is_seen_from-clause-resolved : goal.returns-then-is_seen_from-clause-resolved
+returns-then-is_seen_from-clause-resolved c = resolves_later c.args.seat.now.view c.is_seen_from.new.seat.view c.told.new.seat.view c.args.s c.args.range c.args.number c.told.ensures.watched c.is_seen_from.ensures.resolved
 
-pub returns-then-is_seen-clause-leaves : goal.returns-then-is_seen-clause-leaves
-returns-then-is_seen-clause-leaves c = λ none d at. seen_leaves (knows c.args.seat.now.view c.args.s) c.args.s c.args.column d
-    (c.told.ensures.leaves none d (at_same c.is_seen.new.seat.view c.args.s _ c.tail_of.result d (sym c.tail_of.ensures) (at_on c.args.seat.now.view c.is_seen.new.seat.view c.args.s _ d c.is_seen.ensures.watched at)))
+pub returns-then-is_seen_from-clause-leaves : goal.returns-then-is_seen_from-clause-leaves
+returns-then-is_seen_from-clause-leaves c = λ none d at. seen_leaves (knows c.args.seat.now.view c.args.s) c.args.s c.args.column d
+    (c.told.ensures.leaves none d (at_same c.is_seen_from.new.seat.view c.args.s _ c.tail_of.result d (sym c.tail_of.ensures) (at_on c.args.seat.now.view c.is_seen_from.new.seat.view c.args.s _ d c.is_seen_from.ensures.watched at)))
 
-pub returns-else-is_seen-clause-leaves : goal.returns-else-is_seen-clause-leaves
-returns-else-is_seen-clause-leaves c = λ none d at. unseen_leaves (knows c.args.seat.now.view c.args.s) c.args.s c.args.column d (sym (c.is_seen.ensures.seen d at) ∙ c.if-is_seen.false)
+pub returns-else-is_seen_from-clause-leaves : goal.returns-else-is_seen_from-clause-leaves
+returns-else-is_seen_from-clause-leaves c = λ none d at. unseen_leaves (knows c.args.seat.now.view c.args.s) c.args.s c.args.column d (sym (c.is_seen_from.ensures.seen d at) ∙ c.if-is_seen_from.false)
 
-pub returns-then-is_seen-clause-loads : goal.returns-then-is_seen-clause-loads
-returns-then-is_seen-clause-loads c = loads_tail c.args.seat.now.view c.is_seen.new.seat.view c.told.new.seat.view c.args.s c.tail_of.result (c.args.range * c.args.store.now.layout.limits.tails + c.args.number) c.tail_of.ensures c.is_seen.ensures.loads c.told.ensures.loads
+pub returns-then-is_seen_from-clause-loads : goal.returns-then-is_seen_from-clause-loads
+returns-then-is_seen_from-clause-loads c = loads_tail c.args.seat.now.view c.is_seen_from.new.seat.view c.told.new.seat.view c.args.s c.tail_of.result (c.args.range * c.args.store.now.layout.limits.tails + c.args.number) c.tail_of.ensures c.is_seen_from.ensures.loads c.told.ensures.loads
+
+pub told-requires-clause-first : goal.told-requires-clause-first
+told-requires-clause-first c = c.requires.first ∙ ap (λ (t : ℕ). address c.args.store.now.layout.limits (CellWord t 0)) (sym c.tail_of.ensures)

@@ -1,0 +1,22 @@
+use Rattle.std.proofs.Common.{subst, sym, ◌<◌, ◌+◌}
+use Rattle.lst_layout.specs.declared.limits.Limits.{Limits}
+use Rattle.lst_layout.specs.declared.place.Place.TheVariants.{CellWord}
+use Rattle.lst_rule.specs.Loads.{WordFound}
+use Rattle.lst_walk.proofs.Reading.{cell_within, looked_watched, word_found}
+use Rattle.std.proofs.Common.{refl}
+use Rattle.lst_rule.proofs.Finds.{loads_cell}
+use Rattle.lst_walk.proofs.placed.word_from.Goals as goal
+
+pub load_cell_from-requires-clause-place : goal.load_cell_from-requires-clause-place
+load_cell_from-requires-clause-place c = cell_within c.args.seat.now.view c.args.s c.args.tail c.args.place c.requires.version (subst (λ (l : Limits). c.args.place < 3 + l.columns) (sym c.requires.reader.seat_of.limits) c.requires.place.1)
+
+pub returns-clause-watched : goal.returns-clause-watched
+returns-clause-watched c = looked_watched c.args.seat.now.view c.load_cell_from.new.seat.view c.args.s c.load_cell_from.result (CellWord c.args.tail c.args.place) c.requires.reader.host
+    (cell_within c.args.seat.now.view c.args.s c.args.tail c.args.place c.requires.version (subst (λ (l : Limits). c.args.place < 3 + l.columns) (sym c.requires.reader.seat_of.limits) c.requires.place.1)) tt c.load_cell_from.ensures.looked
+
+pub returns-clause-word : goal.returns-clause-word
+returns-clause-word c = λ d at. subst (λ (l : Limits). WordFound l d c.args.place c.load_cell_from.result) c.requires.reader.seat_of.limits
+    (word_found c.args.seat.now.view c.load_cell_from.new.seat.view c.args.s c.args.tail c.args.place c.load_cell_from.result c.requires.reader.host (subst (λ (l : Limits). c.args.place < 3 + l.columns) (sym c.requires.reader.seat_of.limits) c.requires.place.1) c.load_cell_from.ensures.looked d at)
+
+pub returns-clause-loads : goal.returns-clause-loads
+returns-clause-loads c = loads_cell c.args.seat.now.view c.load_cell_from.new.seat.view c.args.s c.args.tail c.args.tail c.args.place c.load_cell_from.result refl c.load_cell_from.ensures.looked
