@@ -2,8 +2,9 @@
 use Rattle.std.proofs.Common.{◌≡◌, ℕ, ◌<◌, ◌≤◌, List, ◌++◌, [], ◌∷◌, slice_index_or, true≢false, Ok, Err, length, length-append, Option, Some, None, IfSome, codes, refl, sym, ap, ◌∙◌, subst, arith, inl, inr, append-nil}
 use Rattle.lst_io.specs.Inputs.{IsWholeInput, ReadsBeyond}
 use Rattle.lst_script.specs.declared.faults.FaultKind.{FaultKind}
+use Rattle.lst_csv.specs.declared.faults.TableFault.{TableFault}
 use Rattle.lst_command.specs.declared.status.Status.{Status}
-use Rattle.lst_command.specs.declared.status.Status.TheVariants.{Done, Illegal, Usage, BadScript, TooLong, ReadFault, WriteFault, OutOfMemory}
+use Rattle.lst_command.specs.declared.status.Status.TheVariants.{Done, Illegal, Usage, BadScript, TooLong, ReadFault, WriteFault, OutOfMemory, BadTable}
 use Rattle.lst_script.proofs.Versions.{text_fault_none, one_script}
 use Rattle.lst_layout.specs.declared.limits.Limits.{Limits}
 use Rattle.lst_replies.specs.declared.reports.Report.{Report}
@@ -16,15 +17,15 @@ use Rattle.lst_script.specs.declared.faults.ScriptFault.TheVariants as faults
 use Rattle.lst_options.specs.declared.load.LoadNumbers.{LoadNumbers}
 use Rattle.lst_options.specs.declared.as_of.AsOfOptions.{AsOfOptions}
 use Rattle.lst_options.specs.Options.{NamesLimits, NamesLoad}
-use Rattle.lst_options.proofs.OneStore.{names_one, names_one_as_of, names_one_load}
+use Rattle.lst_options.proofs.OneStore.{names_one, names_one_as_of, names_one_load, names_one_table}
 use Rattle.lst_command.specs.declared.command.Command.{Command}
 use Rattle.lst_command.specs.declared.command.Command.TheVariants.{Input, Load}
 use Rattle.lst_command.specs.declared.command.Task.{Task}
-use Rattle.lst_command.specs.declared.command.Task.TheVariants.{Run, Work, Check, Migrate, AsOf}
+use Rattle.lst_command.specs.declared.command.Task.TheVariants.{Run, Work, Check, Migrate, AsOf, Import, Dump}
 use Rattle.lst_command.specs.Commands.{Names, NamesLoading, NamesOptions, NamesTask, task_word}
 use Rattle.lst_command.proofs.Naming.{no_load_word}
 use Rattle.lst_command.specs.Runs.{Left}
-use Rattle.lst_command.specs.Owed.{IsFault, IsFaultFor, IsInOrder, IsOrderlyFor, IsVerdict, OwesFor, most_bytes}
+use Rattle.lst_command.specs.Owed.{IsFault, IsFaultFor, IsTableFault, IsTableFaultFor, IsInOrder, IsOrderlyFor, IsVerdict, OwesFor, most_bytes}
 use Rattle.lst_command.specs.Answers.{Change, HasFailed, IsComplete, IsDue, IsUsage, Makes, Refuses, Says}
 
 -- a whole input is what a source tells
@@ -56,27 +57,51 @@ same_named options Run Work limits other word first second = let letter : 114 �
 same_named options Run Check limits other word first second = let letter : 114 ≡ 99 = first_letter Run Check word in absurd (omega (arith, letter))
 same_named options Run Migrate limits other word first second = let letter : 114 ≡ 109 = first_letter Run Migrate word in absurd (omega (arith, letter))
 same_named options Run (AsOf late) limits other word first second = let letter : 114 ≡ 97 = first_letter Run (AsOf late) word in absurd (omega (arith, letter))
+same_named options Run Import limits other word first second = let letter : 114 ≡ 105 = first_letter Run Import word in absurd (omega (arith, letter))
+same_named options Run Dump limits other word first second = let letter : 114 ≡ 100 = first_letter Run Dump word in absurd (omega (arith, letter))
 same_named options Work Run limits other word first second = let letter : 119 ≡ 114 = first_letter Work Run word in absurd (omega (arith, letter))
 same_named options Work Work limits other word first second = ap (λ (l : Limits). Input Work l) (names_one options limits other first second)
 same_named options Work Check limits other word first second = let letter : 119 ≡ 99 = first_letter Work Check word in absurd (omega (arith, letter))
 same_named options Work Migrate limits other word first second = let letter : 119 ≡ 109 = first_letter Work Migrate word in absurd (omega (arith, letter))
 same_named options Work (AsOf late) limits other word first second = let letter : 119 ≡ 97 = first_letter Work (AsOf late) word in absurd (omega (arith, letter))
+same_named options Work Import limits other word first second = let letter : 119 ≡ 105 = first_letter Work Import word in absurd (omega (arith, letter))
+same_named options Work Dump limits other word first second = let letter : 119 ≡ 100 = first_letter Work Dump word in absurd (omega (arith, letter))
 same_named options Check Run limits other word first second = let letter : 99 ≡ 114 = first_letter Check Run word in absurd (omega (arith, letter))
 same_named options Check Work limits other word first second = let letter : 99 ≡ 119 = first_letter Check Work word in absurd (omega (arith, letter))
 same_named options Check Check limits other word first second = ap (λ (l : Limits). Input Check l) (names_one options limits other first second)
 same_named options Check Migrate limits other word first second = let letter : 99 ≡ 109 = first_letter Check Migrate word in absurd (omega (arith, letter))
 same_named options Check (AsOf late) limits other word first second = let letter : 99 ≡ 97 = first_letter Check (AsOf late) word in absurd (omega (arith, letter))
+same_named options Check Import limits other word first second = let letter : 99 ≡ 105 = first_letter Check Import word in absurd (omega (arith, letter))
+same_named options Check Dump limits other word first second = let letter : 99 ≡ 100 = first_letter Check Dump word in absurd (omega (arith, letter))
 same_named options Migrate Run limits other word first second = let letter : 109 ≡ 114 = first_letter Migrate Run word in absurd (omega (arith, letter))
 same_named options Migrate Work limits other word first second = let letter : 109 ≡ 119 = first_letter Migrate Work word in absurd (omega (arith, letter))
 same_named options Migrate Check limits other word first second = let letter : 109 ≡ 99 = first_letter Migrate Check word in absurd (omega (arith, letter))
 same_named options Migrate Migrate limits other word first second = ap (λ (l : Limits). Input Migrate l) (names_one options limits other first second)
 same_named options Migrate (AsOf late) limits other word first second = let letter : 109 ≡ 97 = first_letter Migrate (AsOf late) word in absurd (omega (arith, letter))
+same_named options Migrate Import limits other word first second = let letter : 109 ≡ 105 = first_letter Migrate Import word in absurd (omega (arith, letter))
+same_named options Migrate Dump limits other word first second = let letter : 109 ≡ 100 = first_letter Migrate Dump word in absurd (omega (arith, letter))
 same_named options (AsOf time) Run limits other word first second = let letter : 97 ≡ 114 = first_letter (AsOf time) Run word in absurd (omega (arith, letter))
 same_named options (AsOf time) Work limits other word first second = let letter : 97 ≡ 119 = first_letter (AsOf time) Work word in absurd (omega (arith, letter))
 same_named options (AsOf time) Check limits other word first second = let letter : 97 ≡ 99 = first_letter (AsOf time) Check word in absurd (omega (arith, letter))
 same_named options (AsOf time) Migrate limits other word first second = let letter : 97 ≡ 109 = first_letter (AsOf time) Migrate word in absurd (omega (arith, letter))
 same_named options (AsOf time) (AsOf late) limits other word first second =
     ap (λ (o : AsOfOptions). Input (AsOf o.time) o.limits) (names_one_as_of options (record { limits = limits; time = time }) (record { limits = other; time = late }) first second)
+same_named options (AsOf time) Import limits other word first second = let letter : 97 ≡ 105 = first_letter (AsOf time) Import word in absurd (omega (arith, letter))
+same_named options (AsOf time) Dump limits other word first second = let letter : 97 ≡ 100 = first_letter (AsOf time) Dump word in absurd (omega (arith, letter))
+same_named options Import Run limits other word first second = let letter : 105 ≡ 114 = first_letter Import Run word in absurd (omega (arith, letter))
+same_named options Import Work limits other word first second = let letter : 105 ≡ 119 = first_letter Import Work word in absurd (omega (arith, letter))
+same_named options Import Check limits other word first second = let letter : 105 ≡ 99 = first_letter Import Check word in absurd (omega (arith, letter))
+same_named options Import Migrate limits other word first second = let letter : 105 ≡ 109 = first_letter Import Migrate word in absurd (omega (arith, letter))
+same_named options Import (AsOf late) limits other word first second = let letter : 105 ≡ 97 = first_letter Import (AsOf late) word in absurd (omega (arith, letter))
+same_named options Import Import limits other word first second = ap (λ (l : Limits). Input Import l) (names_one_table options limits other first second)
+same_named options Import Dump limits other word first second = let letter : 105 ≡ 100 = first_letter Import Dump word in absurd (omega (arith, letter))
+same_named options Dump Run limits other word first second = let letter : 100 ≡ 114 = first_letter Dump Run word in absurd (omega (arith, letter))
+same_named options Dump Work limits other word first second = let letter : 100 ≡ 119 = first_letter Dump Work word in absurd (omega (arith, letter))
+same_named options Dump Check limits other word first second = let letter : 100 ≡ 99 = first_letter Dump Check word in absurd (omega (arith, letter))
+same_named options Dump Migrate limits other word first second = let letter : 100 ≡ 109 = first_letter Dump Migrate word in absurd (omega (arith, letter))
+same_named options Dump (AsOf late) limits other word first second = let letter : 100 ≡ 97 = first_letter Dump (AsOf late) word in absurd (omega (arith, letter))
+same_named options Dump Import limits other word first second = let letter : 100 ≡ 105 = first_letter Dump Import word in absurd (omega (arith, letter))
+same_named options Dump Dump limits other word first second = ap (λ (l : Limits). Input Dump l) (names_one options limits other first second)
 
 -- words name one task with its limits at most, and one load
 one_input : (words : List (List ℕ)) (a b : Task) (limits other : Limits) → NamesTask words a limits → NamesTask words b other → Input a limits ≡ Input b other
@@ -122,7 +147,22 @@ not_both Migrate limits input status line kind orderly faulty =
 not_both (AsOf time) limits input status line kind orderly faulty =
     let none = text_fault_none limits input orderly.0.0 orderly.0.1 in
     cc
+not_both Dump limits input status line kind orderly faulty =
+    let none = text_fault_none limits input orderly.0.0 orderly.0.1 in
+    cc
+not_both Import limits input status line kind orderly faulty = faulty
 not_both Check limits input status line kind orderly faulty = read_if_claim limits input (Err (faults.Bad line kind)) faulty orderly.1.claim orderly.1.is_claim
+
+not_both_table : (task : Task) (limits : Limits) (input : List ℕ) (status : Status) (place : ℕ) (kind : TableFault) → IsOrderlyFor task limits input status → IsTableFaultFor task limits input place kind → ⊥
+not_both_table Run limits input status place kind orderly faulty = faulty
+not_both_table Work limits input status place kind orderly faulty = faulty
+not_both_table Check limits input status place kind orderly faulty = faulty
+not_both_table Migrate limits input status place kind orderly faulty = faulty
+not_both_table (AsOf time) limits input status place kind orderly faulty = faulty
+not_both_table Import limits input status place kind orderly faulty =
+    let none = orderly.0 in
+    cc
+not_both_table Dump limits input status place kind orderly faulty = faulty
 
 -- an input is one claim at most
 one_report : (columns : ℕ) (some : 0 < columns) (text : List ℕ) (a b : Report) → IsReportText columns text a → IsReportText columns text b → a ≡ b
@@ -154,6 +194,8 @@ one_status Run limits input a b orderly other = orderly.1 ∙ sym other.1
 one_status Work limits input a b orderly other = orderly.1 ∙ sym other.1
 one_status Migrate limits input a b orderly other = orderly.1 ∙ sym other.1
 one_status (AsOf time) limits input a b orderly other = orderly.1 ∙ sym other.1
+one_status Import limits input a b orderly other = orderly.1 ∙ sym other.1
+one_status Dump limits input a b orderly other = orderly.1 ∙ sym other.1
 one_status Check limits input a b orderly other =
     let same = one_claim limits orderly.1.wide input orderly.1.claim other.1.claim orderly.1.is_claim other.1.is_claim in
     one_verdict limits other.1.claim orderly.0 other.0 a b (subst (λ (claim : Claim). IsVerdict limits claim orderly.0 a) same orderly.1.verdict) other.1.verdict
@@ -165,6 +207,8 @@ owed_orderly Work limits input text status old new owed = ((owed.0.script, owed.
 owed_orderly Check limits input text status old new owed = (text, owed.0)
 owed_orderly Migrate limits input text status old new owed = ((owed.0.named.script, (owed.0.named.names, owed.0.is_named)), owed.1)
 owed_orderly (AsOf time) limits input text status old new owed = ((owed.0.script, owed.0.is_script), owed.1)
+owed_orderly Import limits input text status old new owed = (owed.0.faultless, owed.1)
+owed_orderly Dump limits input text status old new owed = ((owed.0.named.script, (owed.0.named.names, owed.0.is_named)), owed.1)
 
 in_order : (command : Command) (source : Change) (input text : List ℕ) (status : Status) (old new : Left) → source.before.bytes ≡ Some input → Makes command source text status old new → IsInOrder command input status
 in_order (Input task limits) source input text status old new told made =
@@ -182,6 +226,13 @@ is_faulty (Input task limits) source input line kind told refused =
     (subst (λ (bytes : List ℕ). length bytes ≤ most_bytes) same refused.whole.few, subst (λ (bytes : List ℕ). IsFaultFor task limits bytes line kind) same refused.is_first)
 is_faulty (Load numbers) source input line kind told refused = absurd refused
 
+-- and so is a faulty record
+is_table_faulty : (command : Command) (source : Change) (input : List ℕ) (place : ℕ) (kind : TableFault) → source.before.bytes ≡ Some input → Refuses command (BadTable place kind) source → (length input ≤ most_bytes) × IsTableFault command input place kind
+is_table_faulty (Input task limits) source input place kind told refused =
+    let same = whole_is_told most_bytes source.before.bytes source.after.bytes input refused.input told refused.whole in
+    (subst (λ (bytes : List ℕ). length bytes ≤ most_bytes) same refused.whole.few, subst (λ (bytes : List ℕ). IsTableFaultFor task limits bytes place kind) same refused.is_first)
+is_table_faulty (Load numbers) source input place kind told refused = absurd refused
+
 -- too long is the input that the source tells
 is_long : (command : Command) (source : Change) (input : List ℕ) → source.before.bytes ≡ Some input → Refuses command TooLong source → most_bytes < length input
 is_long (Input task limits) source input told refused = beyond_is_told most_bytes source.before.bytes source.after.bytes input told refused
@@ -197,6 +248,10 @@ not_faulty : (command : Command) (input : List ℕ) (status : Status) (line : �
 not_faulty (Input task limits) input status line kind order faulty = not_both task limits input status line kind order.orderly faulty
 not_faulty (Load numbers) input status line kind order faulty = faulty
 
+not_table_faulty : (command : Command) (input : List ℕ) (status : Status) (place : ℕ) (kind : TableFault) → IsInOrder command input status → IsTableFault command input place kind → ⊥
+not_table_faulty (Input task limits) input status place kind order faulty = not_both_table task limits input status place kind order.orderly faulty
+not_table_faulty (Load numbers) input status place kind order faulty = faulty
+
 -- what is in order isn't too long
 not_long : (command : Command) (source : Change) (input : List ℕ) (status : Status) → source.before.bytes ≡ Some input → IsInOrder command input status → Refuses command TooLong source → ⊥
 not_long (Input task limits) source input status told order refused =
@@ -209,6 +264,9 @@ is_due Illegal words source sink old new input told says = (says.0, says.1, in_o
 is_due Usage words source sink old new input told says = tt
 is_due (BadScript line kind) words source sink old new input told says =
     let faulty = is_faulty says.0 source input line kind told says.2.0 in
+    (says.0, says.1, faulty.0, faulty.1)
+is_due (BadTable place kind) words source sink old new input told says =
+    let faulty = is_table_faulty says.0 source input place kind told says.2.0 in
     (says.0, says.1, faulty.0, faulty.1)
 is_due TooLong words source sink old new input told says = is_long says.0 source input told says.2.0
 is_due ReadFault words source sink old new input told says = tt
@@ -229,6 +287,7 @@ usage Done words source sink old new says = record { only = λ same. absurd (cc)
 usage Illegal words source sink old new says = record { only = λ same. absurd (cc); due = λ none. absurd (none says.0 says.1) }
 usage Usage words source sink old new says = record { only = λ same. says.0; due = λ none. inl refl }
 usage (BadScript line kind) words source sink old new says = record { only = λ same. absurd (cc); due = λ none. absurd (none says.0 says.1) }
+usage (BadTable place kind) words source sink old new says = record { only = λ same. absurd (cc); due = λ none. absurd (none says.0 says.1) }
 usage TooLong words source sink old new says = record { only = λ same. absurd (cc); due = λ none. absurd (none says.0 says.1) }
 usage ReadFault words source sink old new says = record { only = λ same. absurd (cc); due = λ none. absurd (none says.0 says.1) }
 usage WriteFault words source sink old new says = record { only = λ same. absurd (cc); due = λ none. absurd (none says.0 says.1) }
@@ -258,6 +317,10 @@ complete (BadScript line kind) words source sink old new says command input due 
     let own = is_due (BadScript line kind) words source sink old new input told says in
     let same = one_command words own.0 command own.1 names in
     absurd (not_faulty command input due line kind order (subst (λ (c : Command). IsFault c input line kind) same own.3))
+complete (BadTable place kind) words source sink old new says command input due names told order reads writes =
+    let own = is_due (BadTable place kind) words source sink old new input told says in
+    let same = one_command words own.0 command own.1 names in
+    absurd (not_table_faulty command input due place kind order (subst (λ (c : Command). IsTableFault c input place kind) same own.3))
 complete TooLong words source sink old new says command input due names told order reads writes =
     let same = one_command words says.0 command says.1 names in
     absurd (not_long command source input due told order (subst (λ (c : Command). Refuses c TooLong source) same says.2.0))

@@ -13,10 +13,10 @@ use Rattle.lst_options.specs.declared.load.LoadNumbers.{LoadNumbers}
 use Rattle.lst_command.specs.declared.command.Command.{Command}
 use Rattle.lst_command.specs.declared.command.Command.TheVariants.{Input, Load}
 use Rattle.lst_command.specs.declared.command.Task.{Task}
-use Rattle.lst_command.specs.declared.command.Task.TheVariants.{Run, Work, Check, Migrate, AsOf}
+use Rattle.lst_command.specs.declared.command.Task.TheVariants.{Run, Work, Check, Migrate, AsOf, Import, Dump}
 use Rattle.lst_command.specs.declared.output.Output.{Output}
 use Rattle.lst_command.specs.declared.status.Status.{Status}
-use Rattle.lst_command.specs.declared.status.Status.TheVariants.{Done, Illegal, Usage, BadScript, TooLong, ReadFault, WriteFault, OutOfMemory}
+use Rattle.lst_command.specs.declared.status.Status.TheVariants.{Done, Illegal, Usage, BadScript, TooLong, ReadFault, WriteFault, OutOfMemory, BadTable}
 use Rattle.lst_command.specs.Commands.{Names}
 use Rattle.lst_model.specs.declared.lines.Line.{Line}
 use Rattle.lst_script.specs.Canonical.{named_text}
@@ -46,6 +46,8 @@ final Run limits input text status old new owed = subst IsFinal (sym owed.1) tt
 final Work limits input text status old new owed = subst IsFinal (sym owed.1) tt
 final Migrate limits input text status old new owed = subst IsFinal (sym owed.1) tt
 final (AsOf time) limits input text status old new owed = subst IsFinal (sym owed.1) tt
+final Import limits input text status old new owed = subst IsFinal (sym owed.1) tt
+final Dump limits input text status old new owed = subst IsFinal (sym owed.1) tt
 final Check limits input text status old new owed = elim owed.0.verdict [
   | inl legal ↦ subst IsFinal (sym legal.2) tt
   | inr illegal ↦ subst IsFinal (sym illegal.2) tt
@@ -98,6 +100,18 @@ taken_over (AsOf time) limits input text status both old new owed over = (
   },
   owed.1,
 )
+taken_over Import limits input text status both old new owed over = (owed.0, owed.1, over.1 owed.2)
+taken_over Dump limits input text status both old new owed over = (
+  record {
+    named = owed.0.named;
+    is_named = owed.0.is_named;
+    is_text = owed.0.is_text;
+    both = owed.0.both;
+    is_left = is_over both old new owed.0.both owed.0.is_left over;
+    by = owed.0.by;
+  },
+  owed.1,
+)
 
 -- what a command makes has a status with which an output is written
 made_final : (command : Command) (source : Change) (text : List ℕ) (status : Status) (old new : Left) → Makes command source text status old new → IsFinal status
@@ -133,6 +147,7 @@ IsRefusing (BadScript line kind) = Unit {0}
 IsRefusing TooLong = Unit {0}
 IsRefusing ReadFault = Unit {0}
 IsRefusing OutOfMemory = Unit {0}
+IsRefusing (BadTable place kind) = Unit {0}
 IsRefusing status = ⊥
 
 input_refusing : (task : Task) (limits : Limits) (status : Status) (source : Change) → RefusesInput task limits status source → IsRefusing status
@@ -144,6 +159,7 @@ input_refusing task limits TooLong source refused = tt
 input_refusing task limits ReadFault source refused = tt
 input_refusing task limits WriteFault source refused = refused
 input_refusing task limits OutOfMemory source refused = tt
+input_refusing task limits (BadTable place kind) source refused = tt
 
 load_refusing : (status : Status) (source : Change) → RefusesLoad status source → IsRefusing status
 load_refusing Done source refused = refused
@@ -154,6 +170,7 @@ load_refusing TooLong source refused = tt
 load_refusing ReadFault source refused = tt
 load_refusing WriteFault source refused = refused
 load_refusing OutOfMemory source refused = tt
+load_refusing (BadTable place kind) source refused = tt
 
 refusing : (command : Command) (status : Status) (source : Change) → Refuses command status source → IsRefusing status
 refusing (Input task limits) status source refused = input_refusing task limits status source refused
@@ -169,6 +186,7 @@ module _ (words : List (List ℕ)) (source sink : Change) (command : Command) (n
   written_by text ReadFault old new made written = absurd (made_final command source text ReadFault old new made)
   written_by text WriteFault old new made written = absurd (made_final command source text WriteFault old new made)
   written_by text OutOfMemory old new made written = absurd (made_final command source text OutOfMemory old new made)
+  written_by text (BadTable place kind) old new made written = absurd (made_final command source text (BadTable place kind) old new made)
 
   -- the output was written, and the status is its own
   pub says_written : (output : Output) (bytes : List ℕ) (old new : Left) → IsOutputOf command source output → bytes ≡ output.text → Appends sink.before.bytes sink.after.bytes bytes
@@ -202,6 +220,7 @@ module _ (words : List (List ℕ)) (source sink : Change) (command : Command) (n
   says_refused ReadFault left refused untouched = (command, names, (refused, record { unwritten = untouched; same = refl }))
   says_refused WriteFault left refused untouched = absurd (refusing command WriteFault source refused)
   says_refused OutOfMemory left refused untouched = inr (command, names, (refused, record { unwritten = untouched; same = refl }))
+  says_refused (BadTable place kind) left refused untouched = (command, names, (refused, record { unwritten = untouched; same = refl }))
 
 -- ---- what is read
 
@@ -306,6 +325,7 @@ refuses task limits source input Done whole is = absurd is
 refuses task limits source input Illegal whole is = absurd is
 refuses task limits source input Usage whole is = absurd is
 refuses task limits source input (BadScript line kind) whole is = record { input = input; whole = whole; is_first = is }
+refuses task limits source input (BadTable place kind) whole is = record { input = input; whole = whole; is_first = is }
 refuses task limits source input TooLong whole is = absurd is
 refuses task limits source input ReadFault whole is = absurd is
 refuses task limits source input WriteFault whole is = absurd is

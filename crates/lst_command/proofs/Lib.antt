@@ -8,3 +8,4 @@ mod Loads
 mod Others
 mod Processes
 mod Pasts
+mod Dumps

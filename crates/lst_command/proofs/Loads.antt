@@ -4,7 +4,7 @@ use Rattle.lst_options.specs.declared.load.LoadNumbers.{LoadNumbers}
 use Rattle.lst_command.specs.declared.command.Command.{Command}
 use Rattle.lst_command.specs.declared.command.Command.TheVariants.{Load}
 use Rattle.lst_command.specs.declared.status.Status.{Status}
-use Rattle.lst_command.specs.declared.status.Status.TheVariants.{Done, Illegal, Usage, BadScript, TooLong, ReadFault, WriteFault, OutOfMemory}
+use Rattle.lst_command.specs.declared.status.Status.TheVariants.{Done, Illegal, Usage, BadScript, TooLong, ReadFault, WriteFault, OutOfMemory, BadTable}
 use Rattle.lst_command.specs.Answers.{Change, Makes, MakesOfLoad, Refuses, RefusesLoad}
 use Rattle.lst_command.specs.Commands.{Names}
 use Rattle.lst_command.specs.Loads.{LoadsReadNothing}
@@ -29,6 +29,7 @@ load_reads_nothing numbers words Done source sink old new names says = (tt, (mad
 load_reads_nothing numbers words Illegal source sink old new names says = absurd (not_illegal (made_by numbers words names says.0 says.1 source says.2.text Illegal old new says.2.made).ended)
 load_reads_nothing numbers words Usage source sink old new names says = absurd (says.0 (Load numbers) names)
 load_reads_nothing numbers words (BadScript line kind) source sink old new names says = absurd (refused_by numbers words names says.0 says.1 (BadScript line kind) source says.2.0)
+load_reads_nothing numbers words (BadTable place kind) source sink old new names says = absurd (refused_by numbers words names says.0 says.1 (BadTable place kind) source says.2.0)
 load_reads_nothing numbers words TooLong source sink old new names says = absurd (refused_by numbers words names says.0 says.1 TooLong source says.2.0)
 load_reads_nothing numbers words ReadFault source sink old new names says = absurd (refused_by numbers words names says.0 says.1 ReadFault source says.2.0)
 load_reads_nothing numbers words WriteFault source sink old new names says = (tt, (made_by numbers words names says.0 says.1 source says.2.text says.2.status old new says.2.made).unread)

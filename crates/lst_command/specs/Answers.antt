@@ -4,15 +4,16 @@ use Rattle.std.specs.Io.KnownBytes.{Appends}
 use Rattle.lst_model.specs.Faults.{Rose}
 use Rattle.lst_io.specs.Inputs.{IsWholeInput, ReadsWithin, ReadsBeyond}
 use Rattle.lst_script.specs.declared.faults.FaultKind.{FaultKind}
+use Rattle.lst_csv.specs.declared.faults.TableFault.{TableFault}
 use Rattle.lst_layout.specs.declared.limits.Limits.{Limits}
 use Rattle.lst_options.specs.declared.load.LoadNumbers.{LoadNumbers}
 use Rattle.lst_command.specs.declared.command.Command.{Command}
 use Rattle.lst_command.specs.declared.command.Command.TheVariants.{Input, Load}
 use Rattle.lst_command.specs.declared.command.Task.{Task}
 use Rattle.lst_command.specs.declared.status.Status.{Status}
-use Rattle.lst_command.specs.declared.status.Status.TheVariants.{Done, Illegal, Usage, BadScript, TooLong, ReadFault, WriteFault, OutOfMemory}
+use Rattle.lst_command.specs.declared.status.Status.TheVariants.{Done, Illegal, Usage, BadScript, TooLong, ReadFault, WriteFault, OutOfMemory, BadTable}
 use Rattle.lst_command.specs.Commands.{Names, NamesNone}
-use Rattle.lst_command.specs.Owed.{OwesFor, OwesLoad, IsFault, IsFaultFor, IsInOrder, most_bytes}
+use Rattle.lst_command.specs.Owed.{OwesFor, OwesLoad, IsFault, IsFaultFor, IsTableFault, IsTableFaultFor, IsInOrder, most_bytes}
 use Rattle.lst_command.specs.Runs.{Left}
 use Rattle.lst_command.specs.Statuses.{error_line}
 
@@ -52,6 +53,12 @@ pub record ReadsFault (task : Task) (limits : Limits) (source : Change) (line : 
   pub input : List ℕ
   pub whole : ReadsInput source input
   pub is_first : IsFaultFor task limits input line kind
+
+-- the whole input, and this is its first faulty record
+pub record ReadsTableFault (task : Task) (limits : Limits) (source : Change) (place : ℕ) (kind : TableFault) : Type 0 where
+  pub input : List ℕ
+  pub whole : ReadsInput source input
+  pub is_first : IsTableFaultFor task limits input place kind
 
 -- no more bytes than an input may have, before the source failed
 pub record FailsToRead (source : Change) : Type 0 where
@@ -103,6 +110,7 @@ pub record WritesNothing (sink : Change) (old new : Left) : Type 0 where
 -- what a status says of the input of a task where no output is owed
 abbrev pub RefusesInput : Task → Limits → Status → Change → Type 0
 RefusesInput task limits (BadScript line kind) source = ReadsFault task limits source line kind
+RefusesInput task limits (BadTable place kind) source = ReadsTableFault task limits source place kind
 RefusesInput task limits TooLong source = ReadsBeyond most_bytes source.before.bytes source.after.bytes
 RefusesInput task limits ReadFault source = FailsToRead source
 RefusesInput task limits OutOfMemory source = ReadsWithin most_bytes source.before.bytes source.after.bytes
@@ -150,6 +158,7 @@ IsDue Done words input = (command : Command) × Names words command × IsInOrder
 IsDue Illegal words input = (command : Command) × Names words command × IsInOrder command input Illegal
 IsDue WriteFault words input = (command : Command) × Names words command × (status : Status) × IsInOrder command input status
 IsDue (BadScript line kind) words input = (command : Command) × Names words command × (length input ≤ most_bytes) × IsFault command input line kind
+IsDue (BadTable place kind) words input = (command : Command) × Names words command × (length input ≤ most_bytes) × IsTableFault command input place kind
 IsDue TooLong words input = most_bytes < length input
 IsDue status words input = Unit {0}
 

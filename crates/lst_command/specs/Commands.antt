@@ -3,11 +3,11 @@ use Rattle.std.specs.Prelude.{◌≡◌, ℕ, List, ◌∷◌, Option, Some, Non
 use Rattle.lst_layout.specs.declared.limits.Limits.{Limits}
 use Rattle.lst_layout.specs.Limits.{IsValid}
 use Rattle.lst_options.specs.declared.load.LoadNumbers.{LoadNumbers}
-use Rattle.lst_options.specs.Options.{IsLoadable, NamesAsOf, NamesLimits, NamesLoad}
+use Rattle.lst_options.specs.Options.{IsLoadable, NamesAsOf, NamesLimits, NamesLoad, NamesTable}
 use Rattle.lst_command.specs.declared.command.Command.{Command}
 use Rattle.lst_command.specs.declared.command.Command.TheVariants.{Input, Load}
 use Rattle.lst_command.specs.declared.command.Task.{Task}
-use Rattle.lst_command.specs.declared.command.Task.TheVariants.{Run, Work, Check, Migrate, AsOf}
+use Rattle.lst_command.specs.declared.command.Task.TheVariants.{Run, Work, Check, Migrate, AsOf, Import, Dump}
 
 -- the word of a task
 abbrev pub task_word : Task → List ℕ
@@ -16,18 +16,23 @@ task_word Work = codes "work"
 task_word Check = codes "check"
 task_word Migrate = codes "migrate"
 task_word (AsOf time) = codes "asof"
+task_word Import = codes "import"
+task_word Dump = codes "dump"
 
--- the options behind it name these limits, and the time
+-- the options behind it name these limits, and the time; of a table they name the columns alone
 abbrev pub NamesOptions : List (List ℕ) → Task → Limits → Type 0
 NamesOptions options Run limits = NamesLimits options limits
 NamesOptions options Work limits = NamesLimits options limits
 NamesOptions options Check limits = NamesLimits options limits
 NamesOptions options Migrate limits = NamesLimits options limits
 NamesOptions options (AsOf time) limits = NamesAsOf options (record { limits = limits; time = time })
+NamesOptions options Import limits = NamesTable options limits
+NamesOptions options Dump limits = NamesLimits options limits
 
--- no other options than those of a store stand behind the word
+-- the options of a store stand behind the word, and no others
 abbrev pub TakesLimits : Task → Type 0
 TakesLimits (AsOf time) = ⊥
+TakesLimits Import = ⊥
 TakesLimits task = Unit {0}
 
 -- the words are the word of the task, and behind it options that name these limits

@@ -9,9 +9,9 @@ use Rattle.lst_command.specs.declared.command.Command.TheVariants.{Input, Load}
 use Rattle.lst_command.specs.declared.command.Task.{Task}
 use Rattle.lst_command.specs.declared.output.Output.{Output}
 use Rattle.lst_command.specs.declared.status.Status.{Status}
-use Rattle.lst_command.specs.declared.status.Status.TheVariants.{BadScript, OutOfMemory, Done}
+use Rattle.lst_command.specs.declared.status.Status.TheVariants.{BadScript, BadTable, OutOfMemory, Done}
 use Rattle.lst_report.specs.declared.claims.Claim.{Claim}
-use Rattle.lst_command.specs.Owed.{OwesFor, OwesLoad, IsFaultFor, IsVerdict}
+use Rattle.lst_command.specs.Owed.{OwesFor, OwesLoad, IsFaultFor, IsTableFaultFor, IsVerdict}
 use Rattle.lst_command.specs.Answers.{Change, IsUntouched, ReadsInput}
 
 -- the output is what is owed for the input, where nothing was left before
@@ -38,6 +38,7 @@ pub record IsVerdictOn (limits : Limits) (claim : Claim) (output : Output) : Typ
 -- why there is none
 abbrev pub IsRefusalFor : Task → Limits → List ℕ → Status → Type 0
 IsRefusalFor task limits input (BadScript line kind) = IsFaultFor task limits input line kind
+IsRefusalFor task limits input (BadTable place kind) = IsTableFaultFor task limits input place kind
 IsRefusalFor task limits input OutOfMemory = Unit {0}
 IsRefusalFor task limits input status = ⊥
 

@@ -1,9 +1,14 @@
 -- What a command owes, a task for its input: its output, its status, and what it leaves to its caller.
-use Rattle.std.specs.Prelude.{◌≡◌, ◌⊎◌, ℕ, ◌*◌, ◌≤◌, ◌<◌, List, ◌++◌, length, Some, codes}
+use Rattle.std.specs.Prelude.{◌≡◌, ◌⊎◌, ℕ, ◌*◌, ◌≤◌, ◌<◌, List, ◌++◌, length, Some, None, codes}
 use Rattle.lst_model.specs.declared.lines.Line.{Line}
 use Rattle.lst_layout.specs.declared.layout.Layout.{Layout}
 use Rattle.lst_layout.specs.Limits.{IsValid}
 use Rattle.lst_layout.specs.declared.limits.Limits.{Limits}
+use Rattle.lst_csv.specs.declared.faults.TableFault.{TableFault}
+use Rattle.lst_csv.specs.Importing.{import_of}
+use Rattle.lst_csv.specs.Records.{records_of}
+use Rattle.lst_csv.specs.Tables.{table_fault}
+use Rattle.lst_csv.specs.Writing.{history_text}
 use Rattle.lst_work_laws.specs.Worked.{IsWorked}
 use Rattle.lst_work.specs.declared.loading.Loaded.{Loaded}
 use Rattle.lst_work.specs.Loaded.{IsLoaded}
@@ -26,7 +31,7 @@ use Rattle.lst_session.specs.declared.crew.Crew.{Crew}
 use Rattle.lst_command.specs.declared.command.Command.{Command}
 use Rattle.lst_command.specs.declared.command.Command.TheVariants.{Input, Load}
 use Rattle.lst_command.specs.declared.command.Task.{Task}
-use Rattle.lst_command.specs.declared.command.Task.TheVariants.{Run, Work, Check, Migrate, AsOf}
+use Rattle.lst_command.specs.declared.command.Task.TheVariants.{Run, Work, Check, Migrate, AsOf, Import, Dump}
 use Rattle.lst_command.specs.declared.status.Status.{Status}
 use Rattle.lst_command.specs.declared.status.Status.TheVariants.{Done, Illegal}
 use Rattle.lst_command.specs.Runs.{Left, LeftBy}
@@ -106,6 +111,28 @@ pub record OwesPast (time : ℕ) (limits : Limits) (input text : List ℕ) (left
   pub is_left : left ≡ Some both
   pub by : LeftBy limits script both
 
+-- ---- what an import owes
+
+-- no record of the input is faulty, and the text is the script that stands for them
+pub record OwesTable (limits : Limits) (input text : List ℕ) : Type 0 where
+  pub faultless : table_fault limits.columns (records_of input) ≡ None
+  pub is_text : text ≡ import_of (records_of input)
+
+-- ---- what a dump owes
+
+-- the table that all commits make after the last line, under the names of its columns: a transaction that is still open isn't in it
+abbrev pub dump_of : Limits → List (List ℕ) → List Line → List ℕ
+dump_of limits names script = history_text names (state_after limits opening script).store.history
+
+-- the input is this script with these names, the text is the table after its last line, and this store and crew are left, as after a run
+pub record OwesDump (limits : Limits) (input text : List ℕ) (left : Left) : Type 0 where
+  pub named : Named
+  pub is_named : IsNamed limits input named
+  pub is_text : text ≡ dump_of limits named.names named.script
+  pub both : Store × Crew
+  pub is_left : left ≡ Some both
+  pub by : LeftBy limits named.script both
+
 -- ---- what a load owes
 
 -- how many rows there are, and what they add up to
@@ -124,26 +151,39 @@ pub record OwesLoad (numbers : LoadNumbers) (text : List ℕ) (left : Left) : Ty
 -- ---- what a task owes
 
 -- The input is in order for this task, which comes to this text and, where the text is written, to this status. Where `old` was left before, `new` is
--- left now: what the task made, and by a check or a migration what there was.
+-- left now: what the task made, and by a check, a migration or an import what there was.
 abbrev pub OwesFor : Task → Limits → List ℕ → List ℕ → Status → Left → Left → Type 0
 OwesFor Run limits input text status old new = OwesAnswers limits input text new × (status ≡ Done)
 OwesFor Work limits input text status old new = OwesReport limits input text new × (status ≡ Done)
 OwesFor Check limits input text status old new = OwesVerdict limits input text status × (new ≡ old)
 OwesFor Migrate limits input text status old new = OwesMigration limits input text × (status ≡ Done) × (new ≡ old)
 OwesFor (AsOf time) limits input text status old new = OwesPast time limits input text new × (status ≡ Done)
+OwesFor Import limits input text status old new = OwesTable limits input text × (status ≡ Done) × (new ≡ old)
+OwesFor Dump limits input text status old new = OwesDump limits input text new × (status ≡ Done)
 
--- the input's first faulty line for this task
+-- the input's first faulty line for this task; a table has no lines
 abbrev pub IsFaultFor : Task → Limits → List ℕ → ℕ → FaultKind → Type 0
 IsFaultFor Run limits input line kind = text_fault limits input ≡ Some (line, kind)
 IsFaultFor Work limits input line kind = text_fault limits input ≡ Some (line, kind)
 IsFaultFor Check limits input line kind = IsFaultAt limits input line kind
 IsFaultFor Migrate limits input line kind = text_fault limits input ≡ Some (line, kind)
 IsFaultFor (AsOf time) limits input line kind = text_fault limits input ≡ Some (line, kind)
+IsFaultFor Import limits input line kind = ⊥
+IsFaultFor Dump limits input line kind = text_fault limits input ≡ Some (line, kind)
+
+-- the input's first faulty record, where the task takes a table
+abbrev pub IsTableFaultFor : Task → Limits → List ℕ → ℕ → TableFault → Type 0
+IsTableFaultFor Import limits input place kind = table_fault limits.columns (records_of input) ≡ Some (place, kind)
+IsTableFaultFor task limits input place kind = ⊥
 
 -- a load has no input
 abbrev pub IsFault : Command → List ℕ → ℕ → FaultKind → Type 0
 IsFault (Input task limits) input line kind = IsFaultFor task limits input line kind
 IsFault (Load numbers) input line kind = ⊥
+
+abbrev pub IsTableFault : Command → List ℕ → ℕ → TableFault → Type 0
+IsTableFault (Input task limits) input place kind = IsTableFaultFor task limits input place kind
+IsTableFault (Load numbers) input place kind = ⊥
 
 -- ---- when an input is in order
 
@@ -158,6 +198,8 @@ IsOrderlyFor Work limits input status = IsAnyScript limits input × (status ≡ 
 IsOrderlyFor Check limits input status = (text : List ℕ) × OwesVerdict limits input text status
 IsOrderlyFor Migrate limits input status = IsAnyScript limits input × (status ≡ Done)
 IsOrderlyFor (AsOf time) limits input status = IsAnyScript limits input × (status ≡ Done)
+IsOrderlyFor Import limits input status = (table_fault limits.columns (records_of input) ≡ None) × (status ≡ Done)
+IsOrderlyFor Dump limits input status = IsAnyScript limits input × (status ≡ Done)
 
 -- the input isn't too long, is in order for this task, and this status is due to it
 pub record IsInOrderFor (task : Task) (limits : Limits) (input : List ℕ) (status : Status) : Type 0 where

@@ -5,7 +5,7 @@ ghost use Rattle.lst_command.specs.Commands.{IsRunnable, TakesLimits, TellsComma
 
 use lst_layout::Limits;
 use lst_model::{OutOfMemory, Time};
-use lst_options::{LoadNumbers, as_of_of_words, limits_of_words, load_of_words};
+use lst_options::{LoadNumbers, as_of_of_words, limits_of_words, load_of_words, table_of_words};
 use std::alloc::Global;
 
 /// What is done with an input.
@@ -21,6 +21,10 @@ pub enum Task {
     Migrate,
     /// The input is a script, which is run line by line, and its table as of a time is told from the block of its history: `asof`.
     AsOf { time: Time },
+    /// The input is a table as comma-separated values, which is written as a script: `import`. Of the limits it takes the columns alone.
+    Import,
+    /// The input is a script, which is run line by line, and the table that its commits make is written as comma-separated values: `dump`.
+    Dump,
 }
 
 /// What is to be done.
@@ -39,6 +43,9 @@ pub(crate) fn command_of(alloc: Global, words: &[String]) -> Result<Option<Comma
 {
     if begins_with_as_of(words) {
         return as_of_named(alloc, words);
+    }
+    if begins_with_import(words) {
+        return import_named(alloc, words);
     }
     match task_of(words) {
         Some(task) => task_named(alloc, task, words),
@@ -74,6 +81,21 @@ fn as_of_named(alloc: Global, words: &[String]) -> Result<Option<Command>, OutOf
     }
 }
 
+/// The command that words name whose first is `import`.
+fn import_named(alloc: Global, words: &[String]) -> Result<Option<Command>, OutOfMemory>
+    requires { slice_get (map string_bytes words.now) 0 ≡ Some (codes "import") }
+    ensures told { IfOk result (TellsCommand (map string_bytes words.now)) }
+    ensures valid { IfOk result (λ command. IfSome command IsRunnable) }
+{
+    match table_of_words(alloc, words)? {
+        Some(limits) => Ok(Some(Command::Input {
+            task: Task::Import,
+            limits,
+        })),
+        None => Ok(None),
+    }
+}
+
 /// The command that words name whose first is the word of no task.
 fn load_named(alloc: Global, words: &[String]) -> Result<Option<Command>, OutOfMemory>
     requires { (task : TaskNamed) → ¬ (slice_get (map string_bytes words.now) 0 ≡ Some (task_word task)) }
@@ -103,9 +125,17 @@ fn begins_with_as_of(words: &[String]) -> bool
     !words.is_empty() && is_word(&words[0], b"asof")
 }
 
+/// Whether the first word is that of an import.
+fn begins_with_import(words: &[String]) -> bool
+    ensures { IsTrue result ↔ (slice_get (map string_bytes words.now) 0 ≡ Some (codes "import")) }
+{
+    !words.is_empty() && is_word(&words[0], b"import")
+}
+
 /// The task that the first word names, where no other options than those of a store stand behind it.
 fn task_of(words: &[String]) -> Option<Task>
-    requires { ¬ (slice_get (map string_bytes words.now) 0 ≡ Some (codes "asof")) }
+    requires past { ¬ (slice_get (map string_bytes words.now) 0 ≡ Some (codes "asof")) }
+    requires table { ¬ (slice_get (map string_bytes words.now) 0 ≡ Some (codes "import")) }
     ensures plain { IfSome result TakesLimits }
     ensures some { IfSome result (λ task. slice_get (map string_bytes words.now) 0 ≡ Some (task_word task)) }
     ensures none { result ≡ None → (task : TaskNamed) → ¬ (slice_get (map string_bytes words.now) 0 ≡ Some (task_word task)) }
@@ -124,6 +154,9 @@ fn task_of(words: &[String]) -> Option<Task>
     }
     if is_word(&words[0], b"migrate") {
         return Some(Task::Migrate);
+    }
+    if is_word(&words[0], b"dump") {
+        return Some(Task::Dump);
     }
     None
 }

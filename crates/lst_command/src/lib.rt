@@ -1,7 +1,11 @@
 //! The commands of the program `lstore`: from the words of a command line, or the arguments of a process, to bytes and a status.
+//!
+//! Begin with `lstore` in `shell.rt`: its contract is the promise of the whole program, in the words of `specs/Answers` and
+//! `Owed`.
 #![tactic(auto)]
 
 mod command;
+mod dumping;
 mod ending;
 mod execution;
 mod laws;
@@ -11,6 +15,7 @@ mod output;
 mod printing;
 mod shell;
 mod status;
+mod tables;
 
 pub use command::{Command, Task};
 pub use ending::{ended, program};

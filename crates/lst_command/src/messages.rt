@@ -7,6 +7,7 @@ ghost use Rattle.lst_command.specs.Answers.{Reports, change};
 use crate::status::Status;
 use arrayvec::ArrayVec;
 use itoa::Buffer;
+use lst_csv::TableFault;
 use lst_io::{Sink, write_all};
 use lst_script::FaultKind;
 
@@ -37,6 +38,7 @@ fn message(status: &Status) -> Message
         Status::ReadFault => append(&mut line, b"lstore: read failed\n"),
         Status::WriteFault => append(&mut line, b"lstore: write failed\n"),
         Status::OutOfMemory => append(&mut line, b"lstore: out of memory\n"),
+        Status::BadTable { place, kind } => append_table_fault(&mut line, *place, *kind),
     }
     line
 }
@@ -48,6 +50,18 @@ fn append_fault(line: &mut Message, number: u64, kind: FaultKind)
     let mut buffer = Buffer::new();
     append(line, b"lstore: line ");
     append(line, buffer.format(number).as_bytes());
+    append(line, b": ");
+    append(line, kind.text().as_bytes());
+    append(line, b"\n");
+}
+
+fn append_table_fault(line: &mut Message, place: u64, kind: TableFault)
+    requires { line.old.items ≡ [] }
+    ensures { line.new.items ≡ error_line (Status.BadTable place kind) }
+{
+    let mut buffer = Buffer::new();
+    append(line, b"lstore: record ");
+    append(line, buffer.format(place).as_bytes());
     append(line, b": ");
     append(line, kind.text().as_bytes());
     append(line, b"\n");

@@ -9,25 +9,25 @@ ghost use Rattle.lst_command.specs.Commands.{IsRunnable, Names};
 ghost use Rattle.lst_command.specs.Outputs.{HasMade, HasSaid, IsLoadOutput, IsOutputFor, IsOutputOf, IsRefusalFor, IsVerdictOn};
 ghost use Rattle.lst_command.specs.Owed.{load_text};
 ghost use Rattle.lst_options.specs.Options.{IsLoadable};
-ghost use Rattle.lst_command.specs.Statuses.{fault_status};
 ghost use Rattle.lst_legal.specs.Judged.{AreSessionsBelow};
 ghost use Rattle.lst_replies.specs.ReportTexts.{report_text};
 ghost use Rattle.lst_script.specs.Canonical.{named_text};
 
 use crate::command::{Command, Task, command_of};
-use crate::execution::{Ran, execute, layout};
+use crate::execution::{execute, layout};
 use crate::looking::look_back;
 use crate::messages::report;
-use crate::output::Output;
+use crate::output::{Output, of_fault, output_of};
 use crate::printing::print_loaded;
 use crate::status::Status;
+use crate::tables::{dump_input, import_input};
 use lst_io::{Failed, ReadAllFault, Sink, Source, read_all, write_all};
 use lst_layout::Limits;
 use lst_model::{OutOfMemory, Text, Time};
 use lst_options::LoadNumbers;
 use lst_report::{Claim, Report, legal, print_report, read_claim};
 use lst_rule::Store;
-use lst_script::{Named, ScriptFault, parse, parse_named, print2};
+use lst_script::{Named, parse, parse_named, print2};
 use lst_session::Crew;
 use lst_work::{Gate, Loaded, load, work};
 use std::alloc::Global;
@@ -40,8 +40,8 @@ const MOST_BYTES: u64 = 16_777_216;
 /// Runs the command that the words name: reads its input from `source` to the end, unless the command is `load`, writes its output to `sink` as a
 /// whole, and leaves a line on `errors` where it ends with another status than `Done` or `Illegal`.
 ///
-/// The command is `run`, `work`, `check` or `migrate`, with the options of a store behind it, which name limits, `asof` with `--time` beside
-/// them, or `load`, with a seed and numbers of keys and sessions as its options. The input has at most 16,777,216 bytes.
+/// The command is `run`, `work`, `check`, `migrate` or `dump`, with the options of a store behind it, which name limits, `asof` with `--time` beside
+/// them, `import` with `--columns` alone, or `load`, with a seed and numbers of keys and sessions as its options. The input has at most 16,777,216 bytes.
 /// For `run` it is a script, and the output is what the machine of one thread answers to each line under the limits. For `work` it is a script
 /// too, on which all sessions of a store work side by side, and the output is a report of it: which one is up to their steps, but it is legal for
 /// the script. For `check` it is a script, the line `report` and a report: the output is `legal`, with `Done`, exactly where the report is legal for
@@ -49,6 +49,9 @@ const MOST_BYTES: u64 = 16_777_216;
 /// For `migrate` it is a script, and the output is its text of version 2, which is read as the same script.
 /// For `asof` it is a script too, which is run as for `run`. The output has a line `bytes` with the length of the block of the history after
 /// the last line, and behind it `rows` with the table as of the time, by rising key, or `future` with the length of the history where the time is above it.
+/// For `import` it is a table as comma-separated values, the word `key` and the names of the columns first, and the output is the script of version 2
+/// that puts its rows in one transaction. Where a record is faulty, the status is `BadTable` with the first such record, and never `BadScript`.
+/// For `dump` it is a script, which is run as for `run`, and the output is the table that its commits make, as comma-separated values.
 /// The words are looked at first, then the whole input is read, then its lines are, then they are run, and then the output is written at once.
 /// Want of memory may come at any of these but the last, so at the words too: then nothing is read.
 ///
@@ -56,10 +59,10 @@ const MOST_BYTES: u64 = 16_777_216;
 /// number of keys, which is that of the rows, and `total` with 1,000 times as much, which is what they add up to. It ends with `Done`, unless the
 /// sink fails or memory is wanting.
 ///
-/// With `Done` and with `WriteFault` of a run, and of a look at a past table, `left` receives a store with those limits and the crew that hosts all of
+/// With `Done` and with `WriteFault` of a run, a look at a past table and a dump, `left` receives a store with those limits and the crew that hosts all of
 /// it, which tells the machine's state after the last line; of sessions at work the store and the crew in which they are gathered, under whose history
 /// the very report that was written is legal. Of a load it receives the store and the crew in which its sessions are gathered. With any other status,
-/// and of a check or a migration, `left` stays as it is.
+/// and of a check, a migration or an import, `left` stays as it is.
 ///
 /// A worker calls the gate before each of its lines, and after each that was answered, which no clause says. Nothing is promised of when the call returns: a session that commits
 /// waits while another one does.
@@ -254,16 +257,8 @@ fn make<R: Threads + Wait + Sync, G: Gate + Sync>(
         Task::Check => check_input(alloc, limits, input),
         Task::Migrate => migrate_input(alloc, limits, input),
         Task::AsOf { time } => as_of_input(alloc, limits, time, input),
-    }
-}
-
-/// The status of an input that isn't in order, or for which memory was wanting.
-fn of_fault(fault: ScriptFault) -> Status
-    ensures { result ≡ fault_status fault }
-{
-    match fault {
-        ScriptFault::Bad { line, kind } => Status::BadScript { line, kind },
-        ScriptFault::OutOfMemory => Status::OutOfMemory,
+        Task::Import => import_input(alloc, limits, input),
+        Task::Dump => dump_input(alloc, limits, input),
     }
 }
 
@@ -298,17 +293,6 @@ fn as_of_input(alloc: Global, limits: &Limits, time: Time, input: &Text) -> Resu
     match look_back(alloc, script.items(), limits, time) {
         Ok(ran) => Ok(output_of(ran)),
         Err(OutOfMemory) => Err(Status::OutOfMemory),
-    }
-}
-
-/// The output of what was run.
-fn output_of(ran: Ran) -> Output
-    ensures { HasMade ran.text ran.left result }
-{
-    Output {
-        text: ran.text,
-        status: Status::Done,
-        both: Some(ran.left),
     }
 }
 

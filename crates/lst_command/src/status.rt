@@ -2,6 +2,7 @@
 ghost use Rattle.std.specs.Prelude.{◌≡◌};
 ghost use Rattle.lst_command.specs.Statuses.{status_code};
 
+use lst_csv::TableFault;
 use lst_script::FaultKind;
 
 /// How a run ends.
@@ -23,10 +24,12 @@ pub enum Status {
     WriteFault,
     /// Memory was wanting.
     OutOfMemory,
+    /// A record of a table is faulty: the first such record, counted from 1.
+    BadTable { place: u64, kind: TableFault },
 }
 
 impl Status {
-    /// The number with which the program ends, 0 to 7.
+    /// The number with which the program ends, 0 to 8.
     pub fn code(&self) -> u8
         ensures { result ≡ status_code self.now }
     {
@@ -39,6 +42,7 @@ impl Status {
             Status::ReadFault => 5,
             Status::WriteFault => 6,
             Status::OutOfMemory => 7,
+            Status::BadTable { .. } => 8,
         }
     }
 }

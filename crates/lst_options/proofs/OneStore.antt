@@ -1,10 +1,11 @@
--- Words name the limits of one store at most, and one load at most.
+-- Words name the limits of one store at most, those of one table at most, and one load at most.
 use Rattle.std.proofs.Common.{◌≡◌, List, Option, Some, codes, sym, ap, ◌∙◌}
 use Rattle.clap.specs.Words.{Text}
 use Rattle.lst_layout.specs.declared.limits.Limits.{Limits}
+use Rattle.lst_layout.specs.Limits.{default_limits}
 use Rattle.lst_options.specs.declared.as_of.AsOfOptions.{AsOfOptions}
 use Rattle.lst_options.specs.declared.load.LoadNumbers.{LoadNumbers}
-use Rattle.lst_options.specs.Options.{GivesAsOf, GivesLimits, GivesLoad, NamesAsOf, NamesLimits, NamesLoad, index_or}
+use Rattle.lst_options.specs.Options.{GivesAsOf, GivesLimits, GivesLoad, NamesAsOf, NamesLimits, NamesLoad, NamesTable, index_or}
 
 same_value : {X : Type 0} (o : Option X) (a b : X) → o ≡ Some a → o ≡ Some b → a ≡ b
 same_value o a b first second = let same : Some a ≡ Some b = sym first ∙ second in cc
@@ -34,6 +35,13 @@ gives_one value a b first second =
 
 pub names_one : (words : List Text) (a b : Limits) → NamesLimits words a → NamesLimits words b → a ≡ b
 names_one words a b first second = gives_one _ a b first.gives second.gives
+
+-- ---- a table
+
+pub names_one_table : (words : List Text) (a b : Limits) → NamesTable words a → NamesTable words b → a ≡ b
+names_one_table words a b first second =
+    let columns : a.columns ≡ b.columns = same_value _ a.columns b.columns first.gives.columns second.gives.columns in
+    first.gives.others ∙ ap (λ n. record default_limits { columns = n }) columns ∙ sym second.gives.others
 
 -- ---- a load
 

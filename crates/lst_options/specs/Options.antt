@@ -1,4 +1,4 @@
--- The options of a store and of a load on a command line: which words are taken, and which limits and numbers they give.
+-- The options of a store, of a table and of a load on a command line: which words are taken, and which limits and numbers they give.
 use Rattle.std.specs.Prelude.{◌≡◌, ℕ, ◌^◌, ◌&&◌, ◌<◌, ◌≤◌, nat_le, nat_lt, List, [], ◌∷◌, Option, Some, None, option_and_then, if◌then◌else◌, codes}
 use Rattle.clap.specs.Words.{Text, fault_of, first_of, matches_of}
 use Rattle.lst_layout.specs.declared.limits.Limits.{Limits}
@@ -6,7 +6,7 @@ use Rattle.lst_layout.specs.Limits.{default_limits}
 use Rattle.lst_script.specs.Numbers.{number_of}
 use Rattle.lst_options.specs.declared.as_of.AsOfOptions.{AsOfOptions}
 use Rattle.lst_options.specs.declared.load.LoadNumbers.{LoadNumbers}
-use Rattle.lst_options.specs.Words.{as_of_options, load_options, run_options}
+use Rattle.lst_options.specs.Words.{as_of_options, load_options, run_options, table_options}
 
 -- ---- the values
 
@@ -76,6 +76,23 @@ pub record NamesAsOf (words : List Text) (options : AsOfOptions) : Type 0 where
 abbrev pub TellsAsOf : List Text → Option AsOfOptions → Type 0
 TellsAsOf words (Some options) = NamesAsOf words options
 TellsAsOf words None = (options : AsOfOptions) → ¬ NamesAsOf words options
+
+-- ---- the options of a table
+
+-- the value of the option gives the number of columns, and every other limit is its default
+pub record GivesTable (value : Text → Option Text) (limits : Limits) : Type 0 where
+  pub columns : number_or default_limits.columns 1 8 (value (codes "columns")) ≡ Some limits.columns
+  pub others : limits ≡ record default_limits { columns = limits.columns }
+
+-- the words behind `import` are taken, the option with one value and not twice, and its value gives the limits
+pub record NamesTable (words : List Text) (limits : Limits) : Type 0 where
+  pub taken : fault_of table_options ([] ∷ words) ≡ []
+  pub gives : GivesTable (λ name. first_of name (matches_of table_options ([] ∷ words))) limits
+
+-- these are the limits of the table that the words name, or they name none
+abbrev pub TellsTable : List Text → Option Limits → Type 0
+TellsTable words (Some limits) = NamesTable words limits
+TellsTable words None = (limits : Limits) → ¬ NamesTable words limits
 
 -- ---- the options of a load
 

@@ -4,7 +4,7 @@ ghost use Rattle.clap.specs.Words.{Text};
 ghost use Rattle.lst_layout.specs.declared.limits.Limits.{Limits};
 ghost use Rattle.lst_options.specs.declared.as_of.AsOfOptions.{AsOfOptions};
 ghost use Rattle.lst_options.specs.declared.load.LoadNumbers.{LoadNumbers};
-ghost use Rattle.lst_options.specs.Options.{NamesAsOf, NamesLimits, NamesLoad};
+ghost use Rattle.lst_options.specs.Options.{NamesAsOf, NamesLimits, NamesLoad, NamesTable};
 
 /// Words name the limits of one store at most. The contract is a law; the body does nothing.
 pub fn words_name_one_store()
@@ -14,6 +14,11 @@ pub fn words_name_one_store()
 /// Words name one load at most. The contract is a law; the body does nothing.
 pub fn words_name_one_load()
     ensures { (words : List Text) (load other : LoadNumbers) → NamesLoad words load → NamesLoad words other → load ≡ other }
+{}
+
+/// Words name the limits of one table at most. The contract is a law; the body does nothing.
+pub fn words_name_one_table()
+    ensures { (words : List Text) (limits other : Limits) → NamesTable words limits → NamesTable words other → limits ≡ other }
 {}
 
 /// Words name one time at most, with the limits of one store. The contract is a law; the body does nothing.

@@ -1,6 +1,6 @@
 //! Words of command lines, and the limits or the load that they name.
 
-use crate::{LoadNumbers, as_of_of_words, limits_of_words, load_of_words};
+use crate::{LoadNumbers, as_of_of_words, limits_of_words, load_of_words, table_of_words};
 use lst_layout::Limits;
 use lst_model::OutOfMemory;
 use std::alloc::Global;
@@ -239,6 +239,26 @@ fn time_is_named_beside_limits(rt: HostRuntime) -> Result<(), Fail> {
             found.map(|options| (options.limits.ranges, options.time)),
             wanted
         );
+    }
+    Ok(())
+}
+
+#[test]
+fn columns_are_named_alone(rt: HostRuntime) -> Result<(), Fail> {
+    for (line, wanted) in [
+        ("import", Some(2)),
+        ("import --columns 1", Some(1)),
+        ("import --columns=8", Some(8)),
+        ("import --columns 0", None),
+        ("import --columns 9", None),
+        ("import --columns", None),
+        ("import --columns 3 --columns 3", None),
+        ("import --ranges 4", None),
+        ("import table", None),
+    ] {
+        let words = words_of(rt.alloc(), line)?;
+        let found = table_of_words(rt.alloc(), words.as_slice())?;
+        assert_eq!(rt; found.map(|limits| limits.columns), wanted, "{line}");
     }
     Ok(())
 }

@@ -1,5 +1,5 @@
 //! The program `lstore`: it runs a script on the store, line by line or by all sessions side by side, and writes what is answered;
-//! it judges a report; it tells a past table; or it generates a script for its sessions.
+//! it judges a report; it tells a past table; it writes a script for a table, and a table for a script; or it generates a script for its sessions.
 #![tactic(auto)]
 
 #[cfg(test)]
@@ -16,6 +16,8 @@ mod named_tests;
 mod option_tests;
 #[cfg(test)]
 mod row_tests;
+#[cfg(test)]
+mod table_tests;
 #[cfg(test)]
 mod tests;
 #[cfg(test)]

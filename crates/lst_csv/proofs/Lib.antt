@@ -1,0 +1,9 @@
+pub mod RoundTrip
+pub mod Turns
+pub mod ReadFields
+pub mod Rows
+pub mod Tabled
+pub mod Written
+pub mod TableAgain
+pub mod ScriptAgain
+pub mod Lists

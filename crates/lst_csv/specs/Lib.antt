@@ -1,0 +1,7 @@
+pub mod Records
+pub mod Tables
+pub mod Reading
+pub mod Importing
+pub mod Writing
+pub mod Laws
+pub mod FaultTexts

@@ -1,0 +1,239 @@
+//! Drawn tables, whole and with each byte changed, against a plain reader.
+
+use crate::{TableFault, TableRefusal, import_text};
+use lst_model::OutOfMemory;
+use std::alloc::Global;
+use std::mem::replace;
+use std::test::Fail;
+
+/// The fields of a record, and the records of a text.
+type Fields = Vec<Vec<u8>>;
+
+/// Where the plain reader is.
+#[derive(Clone, Copy, PartialEq, Eq)]
+enum At {
+    Record,
+    Field,
+    Bare,
+    Quoted,
+    Quote,
+}
+
+/// The records of a text, byte by byte.
+fn records(alloc: Global, text: &[u8]) -> Result<Vec<Fields>, OutOfMemory> {
+    let mut records = Vec::new(alloc);
+    let mut record = Vec::new(alloc);
+    let mut field = Vec::new(alloc);
+    let mut at = At::Record;
+    for byte in text {
+        match (at, *byte) {
+            (At::Quoted, b'"') => at = At::Quote,
+            (At::Quote, b'"') | (At::Quoted, _) => {
+                field.push(*byte)?;
+                at = At::Quoted;
+            }
+            (At::Record, b'\n' | b'\r') => {}
+            (_, b',') => {
+                record.push(replace(&mut field, Vec::new(alloc)))?;
+                at = At::Field;
+            }
+            (_, b'\n' | b'\r') => {
+                record.push(replace(&mut field, Vec::new(alloc)))?;
+                records.push(replace(&mut record, Vec::new(alloc)))?;
+                at = At::Record;
+            }
+            (At::Record | At::Field, b'"') => at = At::Quoted,
+            _ => {
+                field.push(*byte)?;
+                at = At::Bare;
+            }
+        }
+    }
+    if at != At::Record {
+        record.push(field)?;
+        records.push(record)?;
+    }
+    Ok(records)
+}
+
+/// The number that digits are.
+fn number(field: &[u8]) -> Option<u64> {
+    if field.is_empty() || field.len() > 20 {
+        return None;
+    }
+    let mut value = 0u128;
+    for byte in field {
+        if !byte.is_ascii_digit() {
+            return None;
+        }
+        value = value
+            .wrapping_mul(10)
+            .wrapping_add(u128::from(byte.wrapping_sub(b'0')));
+    }
+    if value <= u128::from(u64::MAX) {
+        Some(value as u64)
+    } else {
+        None
+    }
+}
+
+/// Whether a field is the name of a column.
+fn is_name(field: &[u8]) -> bool {
+    let is_formed = field
+        .iter()
+        .all(|byte| matches!(*byte, b'a'..=b'z' | b'0'..=b'9' | b'_'));
+    is_formed && field.len() <= 16 && matches!(field, [b'a'..=b'z', ..])
+}
+
+/// Whether a record names two columns.
+fn is_header(record: &[Vec<u8>]) -> bool {
+    match record {
+        [key, first, second] => {
+            key.as_slice() == b"key".as_slice()
+                && is_name(first.as_slice())
+                && is_name(second.as_slice())
+                && first.as_slice() != second.as_slice()
+        }
+        _ => false,
+    }
+}
+
+/// What is wrong with a record, whose key stands behind the keys before it.
+fn fault_in(record: &[Vec<u8>], keys: &mut Vec<u64>) -> Result<Option<TableFault>, OutOfMemory> {
+    let [key, first, second] = record else {
+        return Ok(Some(TableFault::BadLength));
+    };
+    let Some(key) = number(key.as_slice()) else {
+        return Ok(Some(TableFault::BadField));
+    };
+    for cell in [first, second] {
+        if !cell.is_empty() && number(cell.as_slice()).is_none() {
+            return Ok(Some(TableFault::BadField));
+        }
+    }
+    if keys.iter().any(|other| *other == key) {
+        return Ok(Some(TableFault::RepeatedKey));
+    }
+    keys.push(key)?;
+    Ok(None)
+}
+
+/// The first faulty record of a text, and its fault.
+fn plain_fault(alloc: Global, text: &[u8]) -> Result<Option<(u64, TableFault)>, OutOfMemory> {
+    let records = records(alloc, text)?;
+    let [header, rows @ ..] = records.as_slice() else {
+        return Ok(Some((1, TableFault::BadHeader)));
+    };
+    if !is_header(header.as_slice()) {
+        return Ok(Some((1, TableFault::BadHeader)));
+    }
+    let mut keys = Vec::new(alloc);
+    let mut place = 2u64;
+    for row in rows {
+        if let Some(kind) = fault_in(row.as_slice(), &mut keys)? {
+            return Ok(Some((place, kind)));
+        }
+        place = place.wrapping_add(1);
+    }
+    Ok(None)
+}
+
+/// The first faulty record that `import_text` names.
+fn fault_told(alloc: Global, text: &[u8]) -> Result<Option<(u64, TableFault)>, OutOfMemory> {
+    match import_text(alloc, text, 2) {
+        Ok(_) => Ok(None),
+        Err(TableRefusal::Bad { place, kind }) => Ok(Some((place, kind))),
+        Err(TableRefusal::OutOfMemory) => Err(OutOfMemory),
+    }
+}
+
+/// A number that follows another one, and looks drawn.
+fn next_drawn(drawn: u64) -> u64 {
+    drawn
+        .wrapping_mul(6_364_136_223_846_793_005)
+        .wrapping_add(1_442_695_040_888_963_407)
+}
+
+/// A cell in one of several spellings.
+fn cell_of(drawn: u64) -> &'static str {
+    match (drawn >> 40) % 8 {
+        0 | 1 => "",
+        2 => "5",
+        3 => "\"17\"",
+        4 => "007",
+        5 => "\"\"",
+        6 => "18446744073709551615",
+        _ => "340",
+    }
+}
+
+/// The end of a record in one of several spellings.
+fn end_of(drawn: u64) -> &'static str {
+    match (drawn >> 40) % 4 {
+        0 => "\r\n",
+        1 => "\r",
+        2 => "\n\n",
+        _ => "\n",
+    }
+}
+
+/// A table of three rows from a seed.
+fn drawn_table(alloc: Global, seed: u64) -> Result<Vec<u8>, OutOfMemory> {
+    let mut text = Vec::new(alloc);
+    text.extend_from_slice(b"key,qty,price\n")?;
+    let mut drawn = seed;
+    for key in ["1", "22", "\"3\""] {
+        text.extend_from_slice(key.as_bytes())?;
+        for _ in 0..2 {
+            drawn = next_drawn(drawn);
+            text.push(b',')?;
+            text.extend_from_slice(cell_of(drawn).as_bytes())?;
+        }
+        drawn = next_drawn(drawn);
+        text.extend_from_slice(end_of(drawn).as_bytes())?;
+    }
+    Ok(text)
+}
+
+/// The text with this byte at a place.
+fn with_byte(alloc: Global, text: &[u8], place: usize, byte: u8) -> Result<Vec<u8>, OutOfMemory> {
+    let mut changed = Vec::new(alloc);
+    for (at, old) in text.iter().enumerate() {
+        changed.push(if at == place { byte } else { *old })?;
+    }
+    Ok(changed)
+}
+
+#[test]
+fn drawn_tables_have_no_fault(rt: HostRuntime) -> Result<(), Fail> {
+    for seed in 0..64 {
+        let table = drawn_table(rt.alloc(), seed)?;
+        assert_eq!(rt;
+            plain_fault(rt.alloc(), table.as_slice())?,
+            None,
+            "seed {seed}"
+        );
+        assert_eq!(rt;
+            fault_told(rt.alloc(), table.as_slice())?,
+            None,
+            "seed {seed}"
+        );
+    }
+    Ok(())
+}
+
+#[test]
+fn drawn_tables_with_a_byte_changed_are_read_plainly(rt: HostRuntime) -> Result<(), Fail> {
+    for seed in 0..4 {
+        let table = drawn_table(rt.alloc(), seed)?;
+        for place in 0..table.len() {
+            for byte in [b',', b'"', b'\n', b'\r', b'0', b'5', b'a', b'A', b' ', 0xef] {
+                let text = with_byte(rt.alloc(), table.as_slice(), place, byte)?;
+                let plain = plain_fault(rt.alloc(), text.as_slice())?;
+                let told = fault_told(rt.alloc(), text.as_slice())?;
+                assert_eq!(rt; told, plain, "seed {seed}, place {place}, byte {byte}");
+            }
+        }
+    }
+    Ok(())
+}

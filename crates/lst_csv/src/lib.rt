@@ -1,0 +1,28 @@
+//! Tables as comma-separated values: a table becomes a script that makes it, and a table of a store becomes text.
+//!
+//! The first record of a text is `key` and the names of the columns, each further one a key and a cell for each column. `specs/` says which records
+//! a text has, in the words of the kit's reader (`Records`), which of them are a table, and which is the first faulty one (`Tables`), the script that
+//! stands for a table (`Importing`), and the text of one (`Writing`). `import_text` and `dump_text` are proved to answer exactly that, and that what is
+//! written is read again (`Laws`).
+#![tactic(auto)]
+
+#[cfg(test)]
+mod drawn_tests;
+mod faults;
+mod fields;
+mod folding;
+mod importing;
+mod laws;
+mod reading;
+#[cfg(test)]
+mod tests;
+mod writing;
+
+pub use faults::{TableFault, TableRefusal};
+pub use folding::dump_history;
+pub use importing::{NamedRows, import_text, read_table};
+pub use laws::{
+    script_of_table_is_read, text_of_table_is_the_same, written_records_are_read_again,
+    written_table_is_read_again,
+};
+pub use writing::dump_text;
