@@ -1,0 +1,4 @@
+pub mod Again
+pub mod Rests
+pub mod Counts
+pub mod Laws

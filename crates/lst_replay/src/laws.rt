@@ -1,0 +1,35 @@
+//! The laws. Each function is a law: its contract holds at all values, and its body does nothing.
+ghost use Rattle.lst_replay.specs.Laws.{OpeningRests, BeginsAgain, WritesAgain, CommitsAgain, RestsAgain, RestedHasRoom, RoomMeetsNone, AgainIsSame};
+ghost use Rattle.lst_replay.specs.Counts.{OpeningIsCounted, CallsAreCounted, CountedHasRoom};
+
+use lst_snapshots::replayed_commit_may_follow;
+
+/// A store in which commits were run again, and nothing else, answers the calls of one more, which may follow them: begin is answered their
+/// number, or Spent; each write Done, or that the table or the range of its key is full; commit its time. The store then rests behind one commit
+/// more. The writes stand at the same times as before.
+pub fn commits_run_again()
+    ensures opening { OpeningRests }
+    ensures begins { BeginsAgain }
+    ensures writes { WritesAgain }
+    ensures commits { CommitsAgain }
+    ensures rests { RestsAgain }
+    ensures same { AgainIsSame }
+{
+    replayed_commit_may_follow();
+}
+
+/// Limits that have room for the sessions, the commits of each session, the different keys and the writes of all commits are never met. Those under
+/// which commits were run again have it, given a tail for each write.
+pub fn room_meets_no_limit()
+    ensures never { RoomMeetsNone }
+    ensures rested { RestedHasRoom }
+{
+    replayed_commit_may_follow();
+}
+
+/// A store's limits have room for its commits, given a tail for each write: the opening store is counted, each call keeps that, and it says so.
+pub fn stores_have_room()
+    ensures opening { OpeningIsCounted }
+    ensures calls { CallsAreCounted }
+    ensures room { CountedHasRoom }
+{}
