@@ -1,5 +1,7 @@
 //! Reports of runs: how they are written and read, alone or behind the script that they are claimed for, and whether a report is
 //! legal for a script.
+//!
+//! Texts and lists alone. Begin with `claims.rt`.
 #![tactic(auto)]
 
 mod claims;

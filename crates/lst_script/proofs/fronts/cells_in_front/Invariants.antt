@@ -1,0 +1,5 @@
+use Rattle.lst_script.proofs.Beginnings.{HasCells}
+use Rattle.lst_script.proofs.fronts.cells_in_front.Given as goal
+
+abbrev pub invariant-loop-column : goal.invariant-loop-column
+invariant-loop-column l = HasCells l._column l.text l.rest l.row
