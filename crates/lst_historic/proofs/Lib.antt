@@ -11,6 +11,7 @@ pub mod Ending
 pub mod Written
 pub mod Indexed
 pub mod Grouping
+pub mod Placing
 pub mod Tabling
 pub mod Opened
 pub mod Sorted

@@ -133,17 +133,39 @@ step_ended place ms move row is over =
 pub times_more : (place : ℕ) (ms : List Move) (move : Move) → drop place ms ≡ move ∷ drop (place + 1) ms → times_in (drop place ms) ≡ cond (goes_on move.time (drop (place + 1) ms)) 0 1 + times_in (drop (place + 1) ms)
 times_more place ms move is = ap times_in is
 
+-- the versions that are left, behind a time and a row
+pub record IsOnVersion (columns : ℕ) (base : List Cell) (at : ℕ) (left all : List Version) (out total : List ℕ) : Type 0 where
+  pub last : Option (List Cell)
+  pub is : base ≡ base_of columns last
+  pub text : out ++ versions_text columns at last left ≡ total
+  pub rest : AreRest columns last left all
+
+pub version_first : (columns : ℕ) (base : List Cell) (all : List Version) (out : List ℕ) → base ≡ base_of columns None → IsOnVersion columns base 0 all all out (out ++ versions_text columns 0 None all)
+version_first columns base all out is = record { last = None; is = is; text = refl; rest = rest_first columns all }
+
 -- one version more
-pub version_more : (out out-2 total : List ℕ) (columns at : ℕ) (last : Option (List Cell)) (time : ℕ) (row : Option (List Cell)) (place : ℕ) (ms : List Move) (before : Option (List Cell))
-    → out-2 ≡ out ++ (spelled (time - at) ++ row_text (base_of columns last) row)
-    → made_of before (drop place ms) ≡ version_at time row ∷ made_of row (drop (place + 1) ms)
-    → out ++ versions_text columns at last (made_of before (drop place ms)) ≡ total
-    → out-2 ++ versions_text columns time row (made_of row (drop (place + 1) ms)) ≡ total
-version_more out out-2 total columns at last time row place ms before one made so_far =
-    let rest = versions_text columns time row (made_of row (drop (place + 1) ms)) in
-    let own = row_text (base_of columns last) row in
-    ap (λ o. o ++ rest) one
-    ∙ append_assoc out (spelled (time - at) ++ own) rest
-    ∙ ap (λ t. out ++ t) (append_assoc (spelled (time - at)) own rest)
-    ∙ ap (λ vs. out ++ versions_text columns at last vs) (sym made)
-    ∙ so_far
+pub version_next : (columns : ℕ) (base base-2 : List Cell) (at : ℕ) (left all : List Version) (out out-2 total : List ℕ) (time : ℕ) (row : Option (List Cell)) (behind : List Version)
+    → left ≡ version_at time row ∷ behind → out-2 ≡ out ++ (spelled (time - at) ++ row_text base row) → (RowIsWide (length base) row → HasNumbers row) → base-2 ≡ base_of columns row
+    → IsOnVersion columns base at left all out total → IsOnVersion columns base-2 time behind all out-2 total
+version_next columns base base-2 at left all out out-2 total time row behind is one numbers next on =
+    let rest = versions_text columns time row behind in
+    let own = row_text base row in
+    record {
+      last = row;
+      is = next;
+      text =
+          ap (λ o. o ++ rest) one
+          ∙ append_assoc out (spelled (time - at) ++ own) rest
+          ∙ ap (λ t. out ++ t) (append_assoc (spelled (time - at)) own rest)
+          ∙ ap (λ b. out ++ (spelled (time - at) ++ (row_text b row ++ rest))) on.is
+          ∙ ap (λ vs. out ++ versions_text columns at on.last vs) (sym is)
+          ∙ on.text;
+      rest = rest_next columns on.last left all time row behind is
+          (λ last_wide row_wide. numbers (subst (λ n. RowIsWide n row) (sym (ap (λ (cells : List Cell). length cells) on.is ∙ base-wide columns on.last last_wide)) row_wide)) on.rest;
+    }
+
+pub version_end : (columns : ℕ) (base : List Cell) (at : ℕ) (left all : List Version) (out total : List ℕ) → left ≡ [] → IsOnVersion columns base at left all out total → (out ≡ total) × (VersionsAreWide columns all → HaveNumbers all)
+version_end columns base at left all out total none on = (
+  sym (append-nil out) ∙ ap (λ vs. out ++ versions_text columns at on.last vs) (sym none) ∙ on.text,
+  λ wide. on.rest.numbers wide (subst (λ (vs : List Version). HaveNumbers vs) (sym none) tt),
+)

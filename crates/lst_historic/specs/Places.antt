@@ -27,6 +27,10 @@ ArePlaced columns bytes [] (place ∷ places) = ⊥
 ArePlaced columns bytes (chain ∷ chains) [] = ⊥
 ArePlaced columns bytes (chain ∷ chains) (place ∷ places) = (place.key ≡ chain.key) × (place.at ≤ length bytes) × ((rest : List ℕ) × (drop place.at bytes ≡ chain_text columns chain.versions ++ rest)) × ArePlaced columns bytes chains places
 
+-- a key and where its versions begin
+abbrev pub place_at : ℕ → ℕ → Place
+place_at key at = record { key = key; at = at }
+
 pub record IsHeld (bytes : List ℕ) (columns until : ℕ) (places : List Place) : Type 0 where
   pub chains : List Chain
   pub block : IsBlock bytes columns until chains

@@ -1,5 +1,5 @@
 //! Sums over all keys of a block.
-ghost use Rattle.std.specs.Prelude.{◌≡◌, ◌<◌, ◌^◌, ℕ, List, slice_index};
+ghost use Rattle.std.specs.Prelude.{◌≡◌, ℕ, List, slice_index};
 ghost use Rattle.lst_model.specs.declared.commits.Commit.{Commit};
 ghost use Rattle.lst_model.specs.Tables.{sum_of};
 ghost use Rattle.lst_model.specs.Histories.{table_at};

@@ -1,11 +1,11 @@
 //! Rows and versions written at the end of bytes, each as what differs from the row before it.
-ghost use Rattle.std.specs.Prelude.{◌≡◌, ◌++◌, ◌<◌, ◌≤◌, ◌-◌, [], cond, is_none, min, length, OnOk};
+ghost use Rattle.std.specs.Prelude.{◌≡◌, ◌++◌, ◌<◌, ◌≤◌, ◌+◌, ◌-◌, ◌*◌, [], cond, is_none, min, length, OnOk};
 ghost use Rattle.lst_model.specs.Histories.{row_after};
-ghost use Rattle.lst_historic.specs.Blocks.{are_same, changed_bits, emptied_bits, difference, code_of, differences, cell_text, row_text, chain_text};
+ghost use Rattle.lst_historic.specs.Blocks.{are_same, tag_of, difference, code_of, differences, cell_text, row_text, chain_text};
 ghost use Rattle.std.specs.Prelude.{drop, None};
 ghost use Rattle.lst_historic.specs.Numbers.{spelled};
 ghost use Rattle.std.specs.List.{AllByRecursion};
-ghost use Rattle.lst_historic.specs.Blocks.{base_of, versions_text, CellFits, RowIsWide, VersionsAreWide, HasNumbers, HaveNumbers};
+ghost use Rattle.lst_historic.specs.Blocks.{versions_text, CellFits, RowIsWide, VersionsAreWide, HasNumbers, HaveNumbers};
 ghost use Rattle.lst_historic.specs.Moves.{moves, made_of, times_in, goes_on};
 
 use crate::numbers::push_number;
@@ -38,25 +38,17 @@ fn are_same(old: Option<u64>, new: Option<u64>) -> bool
     }
 }
 
-/// Whether a cell differs, as a bit.
-fn changed_bit(old: Option<u64>, new: Option<u64>) -> u64
-    ensures few { result ≤ 1 }
-    ensures is { result ≡ cond (are_same old new) 0 1 }
-{
-    if are_same(old, new) { 0 } else { 1 }
-}
-
-/// Whether a cell differs and is null now, as a bit.
-fn emptied_bit(old: Option<u64>, new: Option<u64>) -> u64
-    ensures few { result ≤ 1 }
-    ensures is { result ≡ cond (are_same old new) 0 (cond (is_none new) 1 0) }
+/// What a cell adds to the number in front of its row: 1 where it differs, and 256 more where it is null now.
+fn cell_bits(old: Option<u64>, new: Option<u64>) -> u64
+    ensures few { result ≤ 257 }
+    ensures is { result ≡ cond (are_same old new) 0 1 + 256 * cond (are_same old new) 0 (cond (is_none new) 1 0) }
 {
     if are_same(old, new) {
         0
     } else if new.is_none() {
-        1
+        257
     } else {
-        0
+        1
     }
 }
 
@@ -74,32 +66,25 @@ fn width(old: &Row, new: &Row) -> u32
     }
 }
 
-/// The bits of the columns whose cell differs.
-fn changed_bits(old: &Row, new: &Row) -> u64
-    ensures low { result < 256 }
-    ensures bits { result ≡ changed_bits old.now new.now }
+/// The bits of the columns whose cell differs, and 256 times those of the ones that are null now.
+fn row_bits(old: &Row, new: &Row) -> u64
+    ensures low { result < 65536 }
+    ensures tag { 1 + result ≡ tag_of old.now new.now }
 {
     let mut bits = 0;
     let mut column = width(old, new);
     while column > 0 {
         column -= 1;
-        bits = changed_bit(old.cell(column), new.cell(column)) + 2 * bits;
+        bits = cell_bits(old.cell(column), new.cell(column)) + 2 * bits;
     }
     bits
 }
 
-/// The bits of those of them that are null now.
-fn emptied_bits(old: &Row, new: &Row) -> u64
-    ensures low { result < 256 }
-    ensures bits { result ≡ emptied_bits old.now new.now }
+/// The number in front of a row that is compared with another.
+fn tag_of(old: &Row, new: &Row) -> u64
+    ensures { result ≡ tag_of old.now new.now }
 {
-    let mut bits = 0;
-    let mut column = width(old, new);
-    while column > 0 {
-        column -= 1;
-        bits = emptied_bit(old.cell(column), new.cell(column)) + 2 * bits;
-    }
-    bits
+    1 + row_bits(old, new)
 }
 
 /// Writes the difference of a cell that differs and is not null.
@@ -135,10 +120,7 @@ fn push_row(out: &mut Vec<u8>, base: &Row, row: &Option<Row>) -> Result<(), OutO
     match row {
         None => push_number(out, 0),
         Some(row) => {
-            push_number(
-                out,
-                1 + changed_bits(base, row) + 256 * emptied_bits(base, row),
-            )?;
+            push_number(out, tag_of(base, row))?;
             push_differences(out, base, row)?;
             Ok(())
         }
@@ -156,16 +138,6 @@ fn row_changed(row: Option<Row>, act: &Act) -> Option<Row>
             None => None,
         },
         Act::Del => None,
-    }
-}
-
-/// A copy of a row, where there is one.
-fn copied(row: &Option<Row>) -> Option<Row>
-    ensures { result ≡ row.now }
-{
-    match row {
-        Some(row) => Some(row.copied()),
-        None => None,
     }
 }
 
@@ -199,21 +171,19 @@ fn times_in(steps: &[Step]) -> u64
     count
 }
 
-/// Writes a version behind another one.
+/// Writes a version behind a time, as what differs from a row.
 fn push_version(
     out: &mut Vec<u8>,
-    columns: u32,
     at: Time,
-    last: &Option<Row>,
+    base: &Row,
     time: Time,
     row: &Option<Row>,
 ) -> Result<(), OutOfMemory>
-    requires { columns ≤ 8 }
-    ensures numbers { OnOk result (RowIsWide columns last.now → RowIsWide columns row.now → HasNumbers row.now) }
-    ensures text { OnOk result (out.new.items ≡ out.old.items ++ (spelled (time - at) ++ row_text (base_of columns last.now) row.now)) }
+    ensures numbers { OnOk result (RowIsWide (length base.now) row.now → HasNumbers row.now) }
+    ensures text { OnOk result (out.new.items ≡ out.old.items ++ (spelled (time - at) ++ row_text base.now row.now)) }
 {
     push_number(out, time.saturating_sub(at))?;
-    push_row(out, &base_of(columns, last), row)?;
+    push_row(out, base, row)?;
     Ok(())
 }
 
@@ -224,17 +194,17 @@ fn push_versions(out: &mut Vec<u8>, columns: u32, steps: &[Step]) -> Result<(), 
     ensures text { OnOk result (out.new.items ≡ out.old.items ++ versions_text columns 0 None (made_of None (moves steps.now))) }
 {
     let mut at = 0;
-    let mut last = None;
     let mut row = None;
+    let mut base = base_of(columns, &row);
     for place in 0..steps.len() {
         let step = steps[place];
         row = row_changed(row, step.act);
         if goes_on(steps, place + 1, step.time) {
             continue;
         }
-        push_version(out, columns, at, &last, step.time, &row)?;
+        push_version(out, at, &base, step.time, &row)?;
         at = step.time;
-        last = copied(&row);
+        base = base_of(columns, &row);
     }
     Ok(())
 }
