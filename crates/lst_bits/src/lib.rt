@@ -2,6 +2,9 @@
 //!
 //! Each word that holds more than a plain number has a pair of calls, which undo one another: a
 //! value in its range is packed to a word, and a word that some value packs to is unpacked.
+//!
+//! It touches no word of a store: it packs and unpacks numbers. Begin with `encodings.rt`, and with `specs/Encodings` for what
+//! the parts of a word mean.
 #![tactic(auto)]
 
 mod encodings;

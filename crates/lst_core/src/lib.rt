@@ -1,4 +1,7 @@
 //! The protocol core in single steps.
+//!
+//! `Core` is one row of words, which it makes each step of `lst_core_state` on, exactly where the step may be made. No shared
+//! word is touched. Begin with `Core::step` in `cores.rt`; `allowed.rt` has the tests of each kind of step.
 #![tactic(auto)]
 
 mod allowed;

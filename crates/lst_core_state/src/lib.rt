@@ -2,6 +2,9 @@
 //!
 //! `specs/` has the definitions, `proofs/` shows that each step keeps what holds. What runs are the numbers that a program keeps
 //! of what a session knows, and the word that a step is on.
+//!
+//! No word is touched here: the steps are made in `lst_rule`. Begin with `specs/State`, then `Step`, and `Sound` for what
+//! holds.
 #![tactic(auto)]
 
 mod afters;

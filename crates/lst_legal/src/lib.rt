@@ -2,6 +2,8 @@
 //!
 //! Beside the whole it has the two rules that ask for rows: reads answer their snapshot, and write replies fit it. Both are
 //! judged in one walk, in which each open transaction has its sight.
+//!
+//! It reads scripts and reports alone. Begin with `legal` in `judging.rt`; `reads.rt` and `writes.rt` have the two rules.
 #![tactic(auto)]
 
 #[cfg(test)]

@@ -1,4 +1,7 @@
 //! Packed pages: 256 values in as few words as one of five forms takes.
+//!
+//! Words that a caller has in memory: none of a store is touched. Begin with `specs/Forms`, then `packing.rt`, and `single.rt`
+//! for one value read back.
 #![tactic(auto)]
 
 mod checks;

@@ -56,7 +56,7 @@ pub fn get(words: &[u64], i: usize) -> u64
     get_from(&mut Slice { words }, i as u32)
 }
 
-/// What `get` gives of words that are loaded one by one: at most three of them, and for runs as many as a search by halves takes.
+/// What `get` gives, of words that are loaded one by one, each where it is asked for.
 #[inline(always)]
 pub fn get_from<W: Words>(words: &mut W, i: u32) -> u64
     requires place { i < 256 }

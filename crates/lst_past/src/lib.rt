@@ -1,4 +1,6 @@
 //! What is told of a past table: how many bytes the block of a history has, and the table as of a time, read from the block.
+//!
+//! It knows no words of a store. Begin with `past.rt`.
 #![tactic(auto)]
 
 mod lines;

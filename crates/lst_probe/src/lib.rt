@@ -3,6 +3,8 @@
 //!
 //! The run of a value begins at the position that its hash names, goes to the next position, and
 //! after the last one to the first. It ends at its first empty position.
+//!
+//! No word is touched. Begin with `specs/Run`.
 #![tactic(auto)]
 
 ghost use Rattle.std.specs.Prelude.{◌≡◌, ℕ, ◌^◌, ◌<◌, ◌≤◌, length, slice_index, true, false};

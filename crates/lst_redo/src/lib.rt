@@ -1,5 +1,8 @@
 //! A journal of commits on a disk. Each is on the disk before it is acknowledged, and a crash at any moment leaves the commits so
 //! far, or these and the one under way.
+//!
+//! It touches the disk that it is given, by the calls of `lst_disk`. Begin with `specs/Format` and `Journals`, then `Log` in
+//! `log.rt` and `open` in `opening.rt`.
 #![tactic(auto)]
 
 mod acts;

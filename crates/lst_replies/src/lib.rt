@@ -1,4 +1,6 @@
 //! Replies and reports: their texts, and which reports are legal.
+//!
+//! Texts and lists alone. Begin with `specs/Legal` for the nine rules, with `print.rt` and `parse.rt` for the texts.
 #![tactic(auto)]
 
 mod answers;

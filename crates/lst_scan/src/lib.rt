@@ -3,6 +3,9 @@
 //!
 //! A record has at most one key, and a key at most one record. So the rows of a range of records are a part of the table, and the answers over
 //! parts add up to that over the whole.
+//!
+//! It loads what `lst_walk` and `lst_second` do, and whole frames. Begin with `sums.rt`, then `lists.rt` and `finds.rt`;
+//! `lines.rt` has a crew's answers.
 #![tactic(auto)]
 
 mod finds;
