@@ -19,7 +19,7 @@ use Rattle.lst_model.specs.declared.lines.Call.TheVariants.{Insert, Update, Sum,
 use Rattle.lst_model.specs.declared.lines.Line.{Line}
 use Rattle.lst_script.specs.Grammar.{form_of_call, AreArguments, IsCall, IsLine}
 use Rattle.lst_script.specs.Canonical.{behind_spaces, spaced}
-use Rattle.lst_script.specs.Fronts.{BeginsWithNumber, GoesOnWithNumber, changed, GoesOnWithChange, GoesOnWith, GoesOnWithOne, BeginsWith, GoesOnWithCells, GoesOnWithChanges, GoesOnWithArguments, AddsCall, AddsLine}
+use Rattle.lst_script.specs.Fronts.{BeginsWithNumber, GoesOnWithNumber, changed, GoesOnWithChange, BeginsWithColumn, GoesOnWith, GoesOnWithOne, BeginsWith, GoesOnWithCells, GoesOnWithChanges, GoesOnWithArguments, AddsCall, AddsLine}
 use Rattle.lst_script.proofs.Digits.{AreDigits, number_of-whole}
 use Rattle.lst_script.proofs.Faultless.{first_digit}
 
@@ -178,50 +178,50 @@ stripped text word (Some rest) h =
 pub one_behind_name : (text name after rest arguments : List ℕ) (number : ℕ) → text ≡ name ++ arguments → GoesOnWithNumber arguments number after → after ≡ 10 ∷ rest → (behind : List ℕ) × (text ≡ name ++ behind) × GoesOnWithOne behind number rest
 one_behind_name text name after rest arguments number parts first ended = (arguments, parts, number_alone arguments after rest number first ended)
 
-pub column_is : (count column : ℕ) (word : List ℕ) → number_of word ≡ Some column → column < count → column_read (numbered count) word ≡ Some (Some column)
-column_is count column word is within = rw (is, lt-ltb column count within) refl
-
-pub sum_behind : (count : ℕ) (arguments after rest : List ℕ) (column : ℕ) → GoesOnWithNumber arguments column after → column < count → after ≡ 10 ∷ rest → GoesOnWithArguments (numbered count) arguments (Sum column) rest
-sum_behind count arguments after rest column first within ended = record { words = first.word ∷ []; are = (first.word, refl, column_is count column first.word first.is_number within); parts = alone_parts arguments after rest column first ended }
-
-pub find_behind : (count : ℕ) (arguments middle after rest : List ℕ) (column value : ℕ) → GoesOnWithNumber arguments column middle → column < count → GoesOnWithNumber middle value after → after ≡ 10 ∷ rest → GoesOnWithArguments (numbered count) arguments (Find column value) rest
-find_behind count arguments middle after rest column value first within second ended = record {
-  words = first.word ∷ second.word ∷ [];
-  are = (first.word, second.word, refl, column_is count column first.word first.is_number within, second.is_number);
-  parts = first.parts ∙ (ap (λ (bytes : List ℕ). 32 ∷ (first.word ++ bytes)) (alone_parts middle after rest value second ended) ∙ sym (append_assoc (32 ∷ first.word) (behind_spaces (second.word ∷ [])) (10 ∷ rest)));
+pub numbered_column_here : (count : ℕ) (text after rest : List ℕ) (number column end : ℕ) → BeginsWithNumber text number after → column ≡ number → column < count → after ≡ end ∷ rest → BeginsWithColumn (numbered count) text column end rest
+numbered_column_here count text after rest number column end found is within ended = record {
+  word = found.word;
+  is_column = rw (found.is_number, ← is, lt-ltb column count within) refl;
+  within = within;
+  parts = found.parts ∙ ap (λ (bytes : List ℕ). found.word ++ bytes) ended;
 }
 
-pub insert_behind : (count : ℕ) (arguments middle rest : List ℕ) (key : ℕ) (row : List Cell) → GoesOnWithNumber arguments key middle → GoesOnWithCells (numbered count) middle row rest → GoesOnWithArguments (numbered count) arguments (Insert key row) rest
-insert_behind count arguments middle rest key row first cells = record {
+pub sum_behind : (columns : Columns) (arguments word rest : List ℕ) (column : ℕ) → arguments ≡ 32 ∷ word → BeginsWithColumn columns word column 10 rest → GoesOnWithArguments columns arguments (Sum column) rest
+sum_behind columns arguments word rest column space found = record {
+  words = found.word ∷ [];
+  are = (found.word, refl, found.is_column);
+  parts = space ∙ (ap (λ (bytes : List ℕ). 32 ∷ bytes) found.parts ∙ ap (λ (w : List ℕ). 32 ∷ (w ++ 10 ∷ rest)) (sym (append-nil found.word)));
+}
+
+pub find_behind : (columns : Columns) (arguments word number after rest : List ℕ) (column value : ℕ) → arguments ≡ 32 ∷ word → BeginsWithColumn columns word column 32 number → BeginsWithNumber number value after → after ≡ 10 ∷ rest → GoesOnWithArguments columns arguments (Find column value) rest
+find_behind columns arguments word number after rest column value space found second ended =
+    let behind : GoesOnWithNumber (32 ∷ number) value after = record { word = second.word; is_number = second.is_number; parts = ap (λ (bytes : List ℕ). 32 ∷ bytes) second.parts } in
+    record {
+      words = found.word ∷ second.word ∷ [];
+      are = (found.word, second.word, refl, found.is_column, second.is_number);
+      parts = space ∙ (ap (λ (bytes : List ℕ). 32 ∷ bytes) found.parts ∙ (ap (λ (bytes : List ℕ). 32 ∷ (found.word ++ bytes)) (alone_parts (32 ∷ number) after rest value behind ended) ∙ sym (append_assoc (32 ∷ found.word) (behind_spaces (second.word ∷ [])) (10 ∷ rest))));
+    }
+
+pub insert_behind : (columns : Columns) (arguments middle rest : List ℕ) (key : ℕ) (row : List Cell) → GoesOnWithNumber arguments key middle → GoesOnWithCells columns middle row rest → GoesOnWithArguments columns arguments (Insert key row) rest
+insert_behind columns arguments middle rest key row first cells = record {
   words = first.word ∷ cells.words;
   are = (first.word, cells.words, refl, first.is_number, cells.are);
   parts = first.parts ∙ (ap (λ (bytes : List ℕ). 32 ∷ (first.word ++ bytes)) cells.parts ∙ sym (append_assoc (32 ∷ first.word) (behind_spaces cells.words) (10 ∷ rest)));
 }
 
-pub update_behind : (count : ℕ) (arguments middle rest : List ℕ) (key : ℕ) (patch : List (Option Cell)) → GoesOnWithNumber arguments key middle → GoesOnWithChanges (numbered count) middle patch rest → GoesOnWithArguments (numbered count) arguments (Update key patch) rest
-update_behind count arguments middle rest key patch first changes = record {
+pub update_behind : (columns : Columns) (arguments middle rest : List ℕ) (key : ℕ) (patch : List (Option Cell)) → GoesOnWithNumber arguments key middle → GoesOnWithChanges columns middle patch rest → GoesOnWithArguments columns arguments (Update key patch) rest
+update_behind columns arguments middle rest key patch first changes = record {
   words = first.word ∷ changes.words;
   are = (first.word, changes.words, refl, first.is_number, changes.are);
   parts = first.parts ∙ (ap (λ (bytes : List ℕ). 32 ∷ (first.word ++ bytes)) changes.parts ∙ sym (append_assoc (32 ∷ first.word) (behind_spaces changes.words) (10 ∷ rest)));
 }
-
-pub number_same : (text rest : List ℕ) (number same : ℕ) → GoesOnWithNumber text number rest → same ≡ number → GoesOnWithNumber text same rest
-number_same text rest number same found is = rw is found
 
 pub session_here : (text rest call : List ℕ) (number session sessions : ℕ) → BeginsWithNumber text number rest → session ≡ number → session < sessions → rest ≡ 32 ∷ call → (word : List ℕ) × (number_of word ≡ Some session) × (session < sessions) × (text ≡ word ++ 32 ∷ call)
 session_here text rest call number session sessions found is within space = (found.word, found.is_number ∙ ap (λ n. Some n) (sym is), within, found.parts ∙ ap (λ (bytes : List ℕ). found.word ++ bytes) space)
 
 -- ---- a line that is added
 
-pub adds_plain : (columns : Columns) (session : ℕ) (text name arguments rest : List ℕ) (call : Call) (before after : List Line) → form_named session_forms name ≡ Some (form_of_call call) → AreArguments columns call [] → text ≡ name ++ arguments → arguments ≡ 10 ∷ rest → after ≡ before ++ lines.Call session call ∷ []
-    → (found : Call) × BeginsWith (λ words. IsCall columns words found) text rest × (after ≡ before ++ lines.Call session found ∷ [])
-adds_plain columns session text name arguments rest call before after named none parts ended added = (call, plain_call columns text name arguments rest call named none parts ended, added)
-
 pub line_added : {E : Type 0} (limits : Limits) (columns : Columns) (text word call_text : List ℕ) (session : ℕ) (before after : List Line) → number_of word ≡ Some session → session < limits.sessions → text ≡ word ++ 32 ∷ call_text → (r : Result (Option (Bor (List ℕ))) E) → IfOk r (AddsCall columns session call_text before after) → IfOk r (AddsLine limits columns text before after)
 line_added limits columns text word call_text session before after is within parts (Err e) added = tt
 line_added limits columns text word call_text session before after is within parts (Ok None) added = added
 line_added limits columns text word call_text session before after is within parts (Ok (Some rest)) added = (lines.Call session added.0, line_begins limits columns text word call_text rest.now session added.0 is within parts added.1, added.2)
-
-pub adds_call : (columns : Columns) (session : ℕ) (text name arguments rest : List ℕ) (call : Call) (before after : List Line) → form_named session_forms name ≡ Some (form_of_call call) → text ≡ name ++ arguments → GoesOnWithArguments columns arguments call rest → after ≡ before ++ lines.Call session call ∷ []
-    → (found : Call) × BeginsWith (λ words. IsCall columns words found) text rest × (after ≡ before ++ lines.Call session found ∷ [])
-adds_call columns session text name arguments rest call before after named parts behind added = (call, behind_name columns text name arguments rest call named parts behind, added)

@@ -170,7 +170,7 @@ ended names words changes so_far = so_far.ahead changes (record { settings = [];
 
 -- ---- one pair read
 
-split_at : (word : List ℕ) (end : ℕ) → position is_equals word ≡ Some end → (pair_name word ≡ take end word) × (pair_value word ≡ drop (end + 1) word)
+pub split_at : (word : List ℕ) (end : ℕ) → position is_equals word ≡ Some end → (pair_name word ≡ take end word) × (pair_value word ≡ drop (end + 1) word)
 split_at word end e =
     let at = cond_some _ _ _ e in
     (ap (λ k. take k word) at.1, ap (λ k. drop (k + 1) word) at.1)

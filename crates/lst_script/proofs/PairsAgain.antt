@@ -73,7 +73,7 @@ formed (c ∷ cs) e =
     let rest = and_parts (nat_le (length (c ∷ cs)) 16) (list_all is_name_byte (c ∷ cs)) parts.1 in
     record { some = omega arith; few = leb-true (length (c ∷ cs)) 16 rest.0; bytes = rest.1 }
 
-plain_name : (name : List ℕ) → is_name name ≡ true → IsPlain name
+pub plain_name : (name : List ℕ) → is_name name ≡ true → IsPlain name
 plain_name name e =
     let is = formed name e in
     record { some = is.some; few = omega (arith, is.few); above = bytes_above name is.bytes }
@@ -81,7 +81,7 @@ plain_name name e =
 -- ---- one pair
 
 module _ (name value : List ℕ) (is : is_name name ≡ true) where
-  pair_parts : (has_equals (name ++ 61 ∷ value) ≡ true) × (pair_name (name ++ 61 ∷ value) ≡ name) × (pair_value (name ++ 61 ∷ value) ≡ value)
+  pub pair_parts : (has_equals (name ++ 61 ∷ value) ≡ true) × (pair_name (name ++ 61 ∷ value) ≡ name) × (pair_value (name ++ 61 ∷ value) ≡ value)
   pair_parts =
       let at = first_equals name value (formed name is).bytes in
       let size : length (name ++ 61 ∷ value) ≡ length name + suc (length value) = length-append name (61 ∷ value) in
@@ -99,7 +99,7 @@ module _ (name value : List ℕ) (is : is_name name ≡ true) where
       behind : (xs : List ℕ) → drop (length xs + 1) (xs ++ 61 ∷ value) ≡ value
       behind xs = ap (λ k. drop k (xs ++ 61 ∷ value)) (add-one (length xs)) ∙ further xs
 
-no_null : (word : List ℕ) (n : ℕ) → number_of word ≡ Some n → bytes_eq word (codes "null") ≡ false
+pub no_null : (word : List ℕ) (n : ℕ) → number_of word ≡ Some n → bytes_eq word (codes "null") ≡ false
 no_null word n is = by (bytes_eq word (codes "null")) refl
   where
     by : (b : Bool) → bytes_eq word (codes "null") ≡ b → b ≡ false
@@ -108,6 +108,16 @@ no_null word n is = by (bytes_eq word (codes "null")) refl
         let none : number_of (codes "null") ≡ Some n = ap number_of (sym same) ∙ is in
         absurd cc
     by false e = refl
+
+pub joined_plain : (name value : List ℕ) → is_name name ≡ true → IsPlain value → length value ≤ 20 → IsPlain (name ++ 61 ∷ value)
+joined_plain name value is of_value few =
+    let of_name = formed name is in
+    let size : length (name ++ 61 ∷ value) ≡ length name + suc (length value) = length-append name (61 ∷ value) in
+    record {
+      some = omega (arith, size);
+      few = omega (arith, size, of_name.few, few);
+      above = list_all-append (λ byte. nat_lt 32 byte) name (61 ∷ value) ∙ and_from (list_all (λ byte. nat_lt 32 byte) name) (list_all (λ byte. nat_lt 32 byte) value) (bytes_above name of_name.bytes) of_value.above;
+    }
 
 module _ (names : List (List ℕ)) where
   value_again : (cell : Cell) → IsCellWord (named names) cell → cell_of_value (cell_word cell) ≡ Some cell
@@ -122,15 +132,7 @@ module _ (names : List (List ℕ)) where
       rw (parts.0, parts.1, parts.2, place, value_again cell small) refl
 
   pair_plain : (name : List ℕ) (cell : Cell) → is_name name ≡ true → IsCellWord (named names) cell → IsPlain (name ++ 61 ∷ cell_word cell)
-  pair_plain name cell is small =
-      let of_name = formed name is in
-      let of_cell = cell_plain (named names) cell small in
-      let size : length (name ++ 61 ∷ cell_word cell) ≡ length name + suc (length (cell_word cell)) = length-append name (61 ∷ cell_word cell) in
-      record {
-        some = omega (arith, size);
-        few = omega (arith, size, of_name.few, cell_few cell small);
-        above = list_all-append (λ byte. nat_lt 32 byte) name (61 ∷ cell_word cell) ∙ and_from (list_all (λ byte. nat_lt 32 byte) name) (list_all (λ byte. nat_lt 32 byte) (cell_word cell)) (bytes_above name of_name.bytes) of_cell.above;
-      }
+  pair_plain name cell is small = joined_plain name (cell_word cell) is (cell_plain (named names) cell small) (cell_few cell small)
     where
       cell_few : (cell : Cell) → IsCellWord (named names) cell → length (cell_word cell) ≤ 20
       cell_few None small = omega arith
@@ -244,8 +246,8 @@ module _ (count : ℕ) (names : List (List ℕ)) (ordered : are_names count name
   pub names_many : length names ≡ count
   names_many = eqb-true (length names) count (and_parts (eqb (length names) count) (list_all is_name names && are_different names) ordered).0
 
-  formed_all : list_all is_name names ≡ true
-  formed_all = (and_parts (list_all is_name names) (are_different names) (and_parts (eqb (length names) count) (list_all is_name names && are_different names) ordered).1).0
+  pub names_formed : list_all is_name names ≡ true
+  names_formed = (and_parts (list_all is_name names) (are_different names) (and_parts (eqb (length names) count) (list_all is_name names && are_different names) ordered).1).0
 
   differ : are_different names ≡ true
   differ = (and_parts (list_all is_name names) (are_different names) (and_parts (eqb (length names) count) (list_all is_name names && are_different names) ordered).1).1
@@ -263,7 +265,7 @@ module _ (count : ℕ) (names : List (List ℕ)) (ordered : are_names count name
       )
 
   all_at : AreAt names 0 names
-  all_at = place_all 0 names formed_all (λ i name e.
+  all_at = place_all 0 names names_formed (λ i name e.
       let same : i ≡ 0 + i = omega arith in
       column_again names i name differ e ∙ ap (λ k. Some k) same)
 
@@ -274,7 +276,7 @@ module _ (count : ℕ) (names : List (List ℕ)) (ordered : are_names count name
       (plain_name name parts.0, each_name rest parts.1)
 
   pub names_plain : AllByRecursion IsPlain names
-  names_plain = each_name names formed_all
+  names_plain = each_name names names_formed
 
   nth_plain : (rest : List (List ℕ)) (c : ℕ) → AllByRecursion IsPlain rest → c < length rest → IsPlain (get_or rest c [])
   nth_plain [] c are within = absurd (omega (arith, within))

@@ -1,5 +1,6 @@
 -- How a script names the columns of its table: by their numbers in version 1, by their names in version 2.
 use Rattle.std.specs.Prelude.{◌≡◌, ℕ, List, [], Bool, true, false, nat_lt, Option, Some, None, option_map, length, position, slice_index_or, if◌then◌else◌, bytes_eq, decimal}
+use Rattle.lst_names.specs.Names.{are_names}
 use Rattle.lst_script.specs.Numbers.{number_of}
 
 pub data Columns : Type 0 where
@@ -28,6 +29,11 @@ IsColumn columns word column = column_read columns word ≡ Some (Some column)
 abbrev pub are_named : Columns → Bool
 are_named (numbered count) = false
 are_named (named names) = true
+
+-- the names, where there are some, are such as a header may give
+abbrev pub AreProper : Columns → Type 0
+AreProper (numbered count) = Unit {0}
+AreProper (named names) = are_names (length names) names ≡ true
 
 -- the canonical word of a column
 abbrev pub column_word : Columns → ℕ → List ℕ

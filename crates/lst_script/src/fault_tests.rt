@@ -62,6 +62,24 @@ fn the_first_check_of_a_named_line_counts(rt: HostRuntime) {
         ),
         (b"version 2 a b\n0 insert 1 a=x b", 2, FaultKind::BadNumber),
         (b"version 2 a b\n0 update 1", 2, FaultKind::NothingToSet),
+        (b"version 2 a b\n0 update x", 2, FaultKind::BadNumber),
+        (
+            b"version 2 a b\n0 update 1 a=1 b=2 x",
+            2,
+            FaultKind::BadCount,
+        ),
+        (b"version 2 a b\n0 find c", 2, FaultKind::BadCount),
+        (b"version 2 a b\n0 find c x", 2, FaultKind::BadNumber),
+        (b"version 2 a b\n0 find c 1", 2, FaultKind::BadColumn),
+        (b"version 2 a b\nmerge 4", 2, FaultKind::BadCount),
+        (b"version 2 a b\nmerge x c", 2, FaultKind::BadNumber),
+        (b"version 2 a b\nmerge 4 c", 2, FaultKind::BadRange),
+        (b"version 2 a b\nmerge 3 c", 2, FaultKind::BadColumn),
+        (
+            b"version 2 a b\n0 get 1\n0 fly\n4 fly",
+            3,
+            FaultKind::UnknownWord,
+        ),
     ] {
         expect_first(&rt, rt.alloc(), text, line, kind);
     }

@@ -1,13 +1,14 @@
-//! Lines in their plainest form, read as their bytes are met: one space between each two words, and a newline at once behind the
-//! last. A line in any other form, or with a fault, is left to the reader of words.
-ghost use Rattle.std.specs.Prelude.{◌≡◌, ◌≤◌, ◌<◌, [], ◌∷◌, ◌++◌, ℕ, List, Some, IfOk, IfSome, codes, false, length};
-ghost use Rattle.lst_script.specs.Columns.{Columns, numbered, count_of, are_named};
+//! Lines of sessions in their plainest form, read as their bytes are met: one space between each two words, and a newline at once behind
+//! the last. A line in any other form, or with a fault, is left to the reader of words.
+ghost use Rattle.std.specs.Prelude.{◌≡◌, ◌≤◌, ◌<◌, [], ◌∷◌, ◌++◌, ℕ, List, Some, IfOk, IfSome, length};
+ghost use Rattle.lst_script.specs.Columns.{Columns, numbered, count_of, AreProper};
 ghost use Rattle.lst_script.specs.Heads.{columns_of};
 ghost use Rattle.lst_script.specs.Table.{session_forms, form_named};
 ghost use Rattle.lst_script.specs.Grammar.{IsNumber, form_of_call, AreArguments};
-ghost use Rattle.lst_script.specs.Fronts.{BeginsWithNumber, GoesOnWithNumber, GoesOnWithOne, changed, GoesOnWithChange, GoesOnWithCells, GoesOnWithChanges, GoesOnWithArguments, AddsCall, AddsLine};
+ghost use Rattle.lst_script.specs.Fronts.{BeginsWithNumber, GoesOnWithNumber, GoesOnWithOne, changed, GoesOnWithChange, GoesOnWithCells, GoesOnWithChanges, BeginsWithColumn, BeginsWithCall, AddsCall, AddsLine};
 
 use crate::columns::Heads;
+use crate::pair_fronts::{named_cells_in_front, named_changes_in_front, named_column_in_front};
 use arrayvec::ArrayVec;
 use lst_layout::Limits;
 use lst_model::{Call, Line, OutOfMemory, Patch, Row};
@@ -17,7 +18,7 @@ const FEW_DIGITS: usize = 19;
 
 /// The number that a text begins with, and what follows it.
 #[inline(always)]
-fn number_in_front(text: &[u8]) -> Option<(u64, &[u8])>
+pub fn number_in_front(text: &[u8]) -> Option<(u64, &[u8])>
     ensures { IfSome result (λ found. BeginsWithNumber text.now found.0 found.1.now) }
 {
     let end = text.len().min(FEW_DIGITS);
@@ -35,7 +36,7 @@ fn number_in_front(text: &[u8]) -> Option<(u64, &[u8])>
 
 /// What follows this byte, with which a text begins.
 #[inline(always)]
-fn behind_byte(text: &[u8], byte: u8) -> Option<&[u8]>
+pub fn behind_byte(text: &[u8], byte: u8) -> Option<&[u8]>
     ensures { IfSome result (λ rest. text.now ≡ byte ∷ rest.now) }
 {
     match text {
@@ -46,7 +47,7 @@ fn behind_byte(text: &[u8], byte: u8) -> Option<&[u8]>
 
 /// The number behind a space, and what follows it.
 #[inline(always)]
-fn number_behind_space(text: &[u8]) -> Option<(u64, &[u8])>
+pub fn number_behind_space(text: &[u8]) -> Option<(u64, &[u8])>
     ensures { IfSome result (λ found. GoesOnWithNumber text.now found.0 found.1.now) }
 {
     number_in_front(behind_byte(text, b' ')?)
@@ -54,7 +55,7 @@ fn number_behind_space(text: &[u8]) -> Option<(u64, &[u8])>
 
 /// What follows a word that a text begins with.
 #[inline(always)]
-fn behind_word<'a>(text: &'a [u8], word: &[u8]) -> Option<&'a [u8]>
+pub fn behind_word<'a>(text: &'a [u8], word: &[u8]) -> Option<&'a [u8]>
     ensures { IfSome result (λ rest. text.now ≡ word.now ++ rest.now) }
 {
     text.strip_prefix(word)
@@ -84,14 +85,27 @@ fn number_behind_name<'a>(text: &'a [u8], name: &[u8]) -> Option<(u64, &'a [u8])
     Some((number, rest))
 }
 
-/// A column of so many, behind a space.
+/// A column of so many, by its number, with this byte behind it.
 #[inline(always)]
-fn column_behind_space(text: &[u8], count: u32) -> Option<(u32, &[u8])>
-    ensures { IfSome result (λ found. (found.0 < count) × GoesOnWithNumber text.now found.0 found.1.now) }
+fn numbered_column_in_front(text: &[u8], count: u32, end: u8) -> Option<(u32, &[u8])>
+    ensures { IfSome result (λ found. BeginsWithColumn (numbered count) text.now found.0 end found.1.now) }
 {
-    let (number, rest) = number_behind_space(text)?;
+    let (number, after) = number_in_front(text)?;
     let column = below(number, count)?;
-    Some((column, rest))
+    Some((column, behind_byte(after, end)?))
+}
+
+/// A column with this byte behind it.
+#[inline(always)]
+fn column_in_front<'a>(text: &'a [u8], heads: Heads<'_>, end: u8) -> Option<(u32, &'a [u8])>
+    requires narrow { count_of (columns_of heads) ≤ 8 }
+    requires proper { AreProper (columns_of heads) }
+    ensures { IfSome result (λ found. BeginsWithColumn (columns_of heads.entry) text.now found.0 end found.1.now) }
+{
+    match heads {
+        Heads::Numbered(count) => numbered_column_in_front(text, count, end),
+        Heads::Named(names) => named_column_in_front(text, names, end),
+    }
 }
 
 /// The cells of a row of so many columns.
@@ -155,197 +169,135 @@ fn changes_in_front(text: &[u8], count: u32) -> Option<(Patch, &[u8])>
     }
 }
 
-/// Adds a call that has nothing behind its name, where the text begins with that name alone.
+/// The cells of a row.
 #[inline(always)]
-fn push_plain<'a>(
-    text: &'a [u8],
-    name: &[u8],
-    session: u32,
-    call: Call,
-    lines: &mut Vec<Line>,
-) -> Result<Option<&'a [u8]>, OutOfMemory>
+fn row_in_front<'a>(text: &'a [u8], heads: Heads<'_>) -> Option<(Row, &'a [u8])>
+    requires narrow { count_of (columns_of heads) ≤ 8 }
+    requires proper { AreProper (columns_of heads) }
+    ensures { IfSome result (λ found. GoesOnWithCells (columns_of heads.entry) text.now found.0 found.1.now) }
+{
+    match heads {
+        Heads::Numbered(count) => cells_in_front(text, count),
+        Heads::Named(names) => named_cells_in_front(text, names),
+    }
+}
+
+/// The changes of a patch, which sets a column.
+#[inline(always)]
+fn patch_in_front<'a>(text: &'a [u8], heads: Heads<'_>) -> Option<(Patch, &'a [u8])>
+    requires narrow { count_of (columns_of heads) ≤ 8 }
+    requires proper { AreProper (columns_of heads) }
+    ensures { IfSome result (λ found. GoesOnWithChanges (columns_of heads.entry) text.now found.0 found.1.now) }
+{
+    match heads {
+        Heads::Numbered(count) => changes_in_front(text, count),
+        Heads::Named(names) => named_changes_in_front(text, names),
+    }
+}
+
+/// A call that has nothing behind its name, where the text begins with it.
+#[inline(always)]
+fn plain_in_front<'a>(text: &'a [u8], name: &[u8], call: Call) -> Option<(Call, &'a [u8])>
     requires named { form_named session_forms name.now ≡ Some (form_of_call call) }
     requires plain { (columns : Columns) → AreArguments columns call [] }
-    ensures { (columns : Columns) → IfOk result (AddsCall columns session text.now lines.old.items lines.new.items) }
+    ensures { (columns : Columns) → IfSome result (λ found. BeginsWithCall columns text.now found.0 found.1.now) }
 {
-    let Some(after) = behind_word(text, name) else {
-        return Ok(None);
-    };
-    let Some(rest) = behind_byte(after, b'\n') else {
-        return Ok(None);
-    };
-    lines.push(Line::Call { session, call })?;
-    Ok(Some(rest))
-}
-
-/// Adds a `get`, where the text begins with it.
-#[inline(always)]
-fn push_get<'a>(
-    text: &'a [u8],
-    session: u32,
-    lines: &mut Vec<Line>,
-) -> Result<Option<&'a [u8]>, OutOfMemory>
-    ensures { (columns : Columns) → IfOk result (AddsCall columns session text.now lines.old.items lines.new.items) }
-{
-    let Some((key, rest)) = number_behind_name(text, b"get") else {
-        return Ok(None);
-    };
-    let call = Call::Get { key };
-    lines.push(Line::Call { session, call })?;
-    Ok(Some(rest))
-}
-
-/// Adds a `delete`, where the text begins with it.
-#[inline(always)]
-fn push_delete<'a>(
-    text: &'a [u8],
-    session: u32,
-    lines: &mut Vec<Line>,
-) -> Result<Option<&'a [u8]>, OutOfMemory>
-    ensures { (columns : Columns) → IfOk result (AddsCall columns session text.now lines.old.items lines.new.items) }
-{
-    let Some((key, rest)) = number_behind_name(text, b"delete") else {
-        return Ok(None);
-    };
-    let call = Call::Delete { key };
-    lines.push(Line::Call { session, call })?;
-    Ok(Some(rest))
-}
-
-/// Adds an `asof`, where the text begins with it.
-#[inline(always)]
-fn push_as_of<'a>(
-    text: &'a [u8],
-    session: u32,
-    lines: &mut Vec<Line>,
-) -> Result<Option<&'a [u8]>, OutOfMemory>
-    ensures { (columns : Columns) → IfOk result (AddsCall columns session text.now lines.old.items lines.new.items) }
-{
-    let Some((time, rest)) = number_behind_name(text, b"asof") else {
-        return Ok(None);
-    };
-    let call = Call::AsOf { time };
-    lines.push(Line::Call { session, call })?;
-    Ok(Some(rest))
-}
-
-/// The column of a `sum`.
-#[inline(always)]
-fn sum_in_front(text: &[u8], count: u32) -> Option<(u32, &[u8])>
-    ensures { IfSome result (λ found. (arguments : List ℕ) × (text.now ≡ codes "sum" ++ arguments) × GoesOnWithArguments (numbered count) arguments (Call.Sum found.0) found.1.now) }
-{
-    let arguments = behind_word(text, b"sum")?;
-    let (column, after) = column_behind_space(arguments, count)?;
+    let after = behind_word(text, name)?;
     let rest = behind_byte(after, b'\n')?;
-    Some((column, rest))
+    Some((call, rest))
 }
 
-/// Adds a `sum`, where the text begins with it.
+/// A `get`.
 #[inline(always)]
-fn push_sum<'a>(
-    text: &'a [u8],
-    count: u32,
-    session: u32,
-    lines: &mut Vec<Line>,
-) -> Result<Option<&'a [u8]>, OutOfMemory>
-    ensures { IfOk result (AddsCall (numbered count) session text.now lines.old.items lines.new.items) }
+fn get_in_front(text: &[u8]) -> Option<(Call, &[u8])>
+    ensures { (columns : Columns) → IfSome result (λ found. BeginsWithCall columns text.now found.0 found.1.now) }
 {
-    let Some((column, rest)) = sum_in_front(text, count) else {
-        return Ok(None);
-    };
-    let call = Call::Sum { column };
-    lines.push(Line::Call { session, call })?;
-    Ok(Some(rest))
+    let (key, rest) = number_behind_name(text, b"get")?;
+    Some((Call::Get { key }, rest))
 }
 
-/// The column and the number of a `find`.
+/// A `delete`.
 #[inline(always)]
-fn find_in_front(text: &[u8], count: u32) -> Option<(u32, u64, &[u8])>
-    ensures { IfSome result (λ found. (arguments : List ℕ) × (text.now ≡ codes "find" ++ arguments) × GoesOnWithArguments (numbered count) arguments (Call.Find found.0 found.1) found.2.now) }
+fn delete_in_front(text: &[u8]) -> Option<(Call, &[u8])>
+    ensures { (columns : Columns) → IfSome result (λ found. BeginsWithCall columns text.now found.0 found.1.now) }
 {
-    let arguments = behind_word(text, b"find")?;
-    let (column, middle) = column_behind_space(arguments, count)?;
-    let (value, after) = number_behind_space(middle)?;
+    let (key, rest) = number_behind_name(text, b"delete")?;
+    Some((Call::Delete { key }, rest))
+}
+
+/// An `asof`.
+#[inline(always)]
+fn as_of_in_front(text: &[u8]) -> Option<(Call, &[u8])>
+    ensures { (columns : Columns) → IfSome result (λ found. BeginsWithCall columns text.now found.0 found.1.now) }
+{
+    let (time, rest) = number_behind_name(text, b"asof")?;
+    Some((Call::AsOf { time }, rest))
+}
+
+/// A `sum`.
+#[inline(always)]
+fn sum_in_front<'a>(text: &'a [u8], heads: Heads<'_>) -> Option<(Call, &'a [u8])>
+    requires narrow { count_of (columns_of heads) ≤ 8 }
+    requires proper { AreProper (columns_of heads) }
+    ensures { IfSome result (λ found. BeginsWithCall (columns_of heads.entry) text.now found.0 found.1.now) }
+{
+    let arguments = behind_byte(behind_word(text, b"sum")?, b' ')?;
+    let (column, rest) = column_in_front(arguments, heads, b'\n')?;
+    Some((Call::Sum { column }, rest))
+}
+
+/// A `find`.
+#[inline(always)]
+fn find_in_front<'a>(text: &'a [u8], heads: Heads<'_>) -> Option<(Call, &'a [u8])>
+    requires narrow { count_of (columns_of heads) ≤ 8 }
+    requires proper { AreProper (columns_of heads) }
+    ensures { IfSome result (λ found. BeginsWithCall (columns_of heads.entry) text.now found.0 found.1.now) }
+{
+    let arguments = behind_byte(behind_word(text, b"find")?, b' ')?;
+    let (column, word) = column_in_front(arguments, heads, b' ')?;
+    let (value, after) = number_in_front(word)?;
     let rest = behind_byte(after, b'\n')?;
-    Some((column, value, rest))
+    Some((Call::Find { column, value }, rest))
 }
 
-/// Adds a `find`, where the text begins with it.
+/// An `insert`.
 #[inline(always)]
-fn push_find<'a>(
-    text: &'a [u8],
-    count: u32,
-    session: u32,
-    lines: &mut Vec<Line>,
-) -> Result<Option<&'a [u8]>, OutOfMemory>
-    ensures { IfOk result (AddsCall (numbered count) session text.now lines.old.items lines.new.items) }
-{
-    let Some((column, value, rest)) = find_in_front(text, count) else {
-        return Ok(None);
-    };
-    let call = Call::Find { column, value };
-    lines.push(Line::Call { session, call })?;
-    Ok(Some(rest))
-}
-
-/// The key and the row of an `insert`.
-#[inline(always)]
-fn insert_in_front(text: &[u8], count: u32) -> Option<(u64, Row, &[u8])>
-    requires { count ≤ 8 }
-    ensures { IfSome result (λ found. (arguments : List ℕ) × (text.now ≡ codes "insert" ++ arguments) × GoesOnWithArguments (numbered count) arguments (Call.Insert found.0 found.1) found.2.now) }
+fn insert_in_front<'a>(text: &'a [u8], heads: Heads<'_>) -> Option<(Call, &'a [u8])>
+    requires narrow { count_of (columns_of heads) ≤ 8 }
+    requires proper { AreProper (columns_of heads) }
+    ensures { IfSome result (λ found. BeginsWithCall (columns_of heads.entry) text.now found.0 found.1.now) }
 {
     let arguments = behind_word(text, b"insert")?;
     let (key, middle) = number_behind_space(arguments)?;
-    let (row, rest) = cells_in_front(middle, count)?;
-    Some((key, row, rest))
+    let (row, rest) = row_in_front(middle, heads)?;
+    Some((Call::Insert { key, row }, rest))
 }
 
-/// Adds an `insert`, where the text begins with it.
+/// An `update`.
 #[inline(always)]
-fn push_insert<'a>(
-    text: &'a [u8],
-    count: u32,
-    session: u32,
-    lines: &mut Vec<Line>,
-) -> Result<Option<&'a [u8]>, OutOfMemory>
-    requires { count ≤ 8 }
-    ensures { IfOk result (AddsCall (numbered count) session text.now lines.old.items lines.new.items) }
-{
-    let Some((key, row, rest)) = insert_in_front(text, count) else {
-        return Ok(None);
-    };
-    let call = Call::Insert { key, row };
-    lines.push(Line::Call { session, call })?;
-    Ok(Some(rest))
-}
-
-/// The key and the patch of an `update`.
-#[inline(always)]
-fn update_in_front(text: &[u8], count: u32) -> Option<(u64, Patch, &[u8])>
-    requires { count ≤ 8 }
-    ensures { IfSome result (λ found. (arguments : List ℕ) × (text.now ≡ codes "update" ++ arguments) × GoesOnWithArguments (numbered count) arguments (Call.Update found.0 found.1) found.2.now) }
+fn update_in_front<'a>(text: &'a [u8], heads: Heads<'_>) -> Option<(Call, &'a [u8])>
+    requires narrow { count_of (columns_of heads) ≤ 8 }
+    requires proper { AreProper (columns_of heads) }
+    ensures { IfSome result (λ found. BeginsWithCall (columns_of heads.entry) text.now found.0 found.1.now) }
 {
     let arguments = behind_word(text, b"update")?;
     let (key, middle) = number_behind_space(arguments)?;
-    let (patch, rest) = changes_in_front(middle, count)?;
-    Some((key, patch, rest))
+    let (patch, rest) = patch_in_front(middle, heads)?;
+    Some((Call::Update { key, patch }, rest))
 }
 
-/// Adds an `update`, where the text begins with it.
+/// Adds a call that was found in front of a text, if one was.
 #[inline(always)]
-fn push_update<'a>(
-    text: &'a [u8],
-    count: u32,
+fn push_found<'a>(
+    found: Option<(Call, &'a [u8])>,
     session: u32,
     lines: &mut Vec<Line>,
 ) -> Result<Option<&'a [u8]>, OutOfMemory>
-    requires { count ≤ 8 }
-    ensures { IfOk result (AddsCall (numbered count) session text.now lines.old.items lines.new.items) }
+    ensures { (columns : Columns) (text : List ℕ) → IfSome found.entry (λ call. BeginsWithCall columns text call.0 call.1.now) → IfOk result (AddsCall columns session text lines.old.items lines.new.items) }
 {
-    let Some((key, patch, rest)) = update_in_front(text, count) else {
+    let Some((call, rest)) = found else {
         return Ok(None);
     };
-    let call = Call::Update { key, patch };
     lines.push(Line::Call { session, call })?;
     Ok(Some(rest))
 }
@@ -354,26 +306,33 @@ fn push_update<'a>(
 #[inline(always)]
 fn push_call<'a>(
     text: &'a [u8],
-    count: u32,
+    heads: Heads<'_>,
     session: u32,
     lines: &mut Vec<Line>,
 ) -> Result<Option<&'a [u8]>, OutOfMemory>
-    requires { count ≤ 8 }
-    ensures { IfOk result (AddsCall (numbered count) session text.now lines.old.items lines.new.items) }
+    requires narrow { count_of (columns_of heads) ≤ 8 }
+    requires proper { AreProper (columns_of heads) }
+    ensures { IfOk result (AddsCall (columns_of heads.entry) session text.now lines.old.items lines.new.items) }
 {
     match text {
-        [b'g', ..] => push_get(text, session, lines),
-        [b'u', ..] => push_update(text, count, session, lines),
-        [b'b', ..] => push_plain(text, b"begin", session, Call::Begin, lines),
-        [b'c', b'o', b'm', ..] => push_plain(text, b"commit", session, Call::Commit, lines),
-        [b'c', ..] => push_plain(text, b"count", session, Call::Count, lines),
-        [b'i', ..] => push_insert(text, count, session, lines),
-        [b's', b'u', ..] => push_sum(text, count, session, lines),
-        [b's', ..] => push_plain(text, b"scan", session, Call::Scan, lines),
-        [b'f', ..] => push_find(text, count, session, lines),
-        [b'a', b'b', ..] => push_plain(text, b"abort", session, Call::Abort, lines),
-        [b'a', ..] => push_as_of(text, session, lines),
-        [b'd', ..] => push_delete(text, session, lines),
+        [b'g', ..] => push_found(get_in_front(text), session, lines),
+        [b'u', ..] => push_found(update_in_front(text, heads), session, lines),
+        [b'b', ..] => push_found(plain_in_front(text, b"begin", Call::Begin), session, lines),
+        [b'c', b'o', b'm', ..] => {
+            push_found(
+                plain_in_front(text, b"commit", Call::Commit),
+                session,
+                lines,
+            )
+        }
+        [b'c', ..] => push_found(plain_in_front(text, b"count", Call::Count), session, lines),
+        [b'i', ..] => push_found(insert_in_front(text, heads), session, lines),
+        [b's', b'u', ..] => push_found(sum_in_front(text, heads), session, lines),
+        [b's', ..] => push_found(plain_in_front(text, b"scan", Call::Scan), session, lines),
+        [b'f', ..] => push_found(find_in_front(text, heads), session, lines),
+        [b'a', b'b', ..] => push_found(plain_in_front(text, b"abort", Call::Abort), session, lines),
+        [b'a', ..] => push_found(as_of_in_front(text), session, lines),
+        [b'd', ..] => push_found(delete_in_front(text), session, lines),
         _ => Ok(None),
     }
 }
@@ -389,23 +348,6 @@ fn session_in_front(text: &[u8], sessions: u32) -> Option<(u32, &[u8])>
     Some((session, call))
 }
 
-/// Adds the line of a session that a text begins with, where the table has so many columns.
-#[inline(always)]
-fn push_numbered<'a>(
-    text: &'a [u8],
-    count: u32,
-    limits: &Limits,
-    lines: &mut Vec<Line>,
-) -> Result<Option<&'a [u8]>, OutOfMemory>
-    requires { count ≤ 8 }
-    ensures { IfOk result (AddsLine limits.now (numbered count) text.now lines.old.items lines.new.items) }
-{
-    let Some((session, call)) = session_in_front(text, limits.sessions) else {
-        return Ok(None);
-    };
-    push_call(call, count, session, lines)
-}
-
 /// Adds the line that a text begins with, and answers what follows it; or None, and adds nothing, where this line is in another form
 /// than is read here.
 #[inline(always)]
@@ -415,14 +357,12 @@ pub fn push_front<'a>(
     limits: &Limits,
     lines: &mut Vec<Line>,
 ) -> Result<Option<&'a [u8]>, OutOfMemory>
-    requires { count_of (columns_of heads) ≤ 8 }
-    ensures adds { IfOk result (AddsLine limits.now (columns_of heads.entry) text.now lines.old.items lines.new.items) }
-
-    // A script whose columns have names is left to the reader of words.
-    ensures numbered { IfOk result (λ found. IfSome found (λ rest. are_named (columns_of heads.entry) ≡ false)) }
+    requires narrow { count_of (columns_of heads) ≤ 8 }
+    requires proper { AreProper (columns_of heads) }
+    ensures { IfOk result (AddsLine limits.now (columns_of heads.entry) text.now lines.old.items lines.new.items) }
 {
-    match heads {
-        Heads::Numbered(count) => push_numbered(text, count, limits, lines),
-        Heads::Named(_) => Ok(None),
-    }
+    let Some((session, call)) = session_in_front(text, limits.sessions) else {
+        return Ok(None);
+    };
+    push_call(call, heads, session, lines)
 }

@@ -31,7 +31,7 @@ fn equals_in(word: &[u8]) -> Option<usize>
 }
 
 /// So many columns, none of which gets something.
-fn unset(count: usize) -> Changes
+pub fn unset(count: usize) -> Changes
     requires { count ≤ 8 }
     ensures { result.items ≡ nothing_set count }
 {

@@ -1,8 +1,12 @@
-//! Scripts with names, read and printed, and each fault of a header and of a pair with its line.
+//! Scripts with names, read and printed; each fault of a header and of a pair with its line; and drawn scripts, read by their bytes as by
+//! their words.
 
-use crate::{FaultKind, Named, ScriptFault, parse_named, print2};
+ghost use Rattle.std.specs.Prelude.{◌<◌};
+
+use crate::{FaultKind, Named, Names, Script, ScriptFault, parse_named, print2};
+use arrayvec::ArrayVec;
 use lst_layout::Limits;
-use lst_model::Text;
+use lst_model::{Call, Line, Patch, Row, Text};
 use std::alloc::Global;
 use std::process::Abort;
 use std::test::Fail;
@@ -101,6 +105,164 @@ fn changed(alloc: Global, text: &[u8], place: usize, byte: u8) -> Result<Text, F
         other.push_bytes(&[if at == place { byte } else { *old }])?;
     }
     Ok(other)
+}
+
+/// The next number that a state draws, below a limit.
+fn draw(state: &mut u64, limit: u64) -> u64
+    requires { 0 < limit }
+    ensures { result < limit }
+{
+    *state = state
+        .wrapping_mul(6_364_136_223_846_793_005)
+        .wrapping_add(1_442_695_040_888_963_407);
+    (*state >> 33) % limit
+}
+
+/// A number of one digit, one of twenty, or null.
+fn drawn_cell(state: &mut u64) -> Option<u64> {
+    match draw(state, 4) {
+        0 => None,
+        1 => Some(u64::MAX - draw(state, 9)),
+        _ => Some(draw(state, 10)),
+    }
+}
+
+fn drawn_row(state: &mut u64) -> Row {
+    let mut row = Row::of_numbers(ArrayVec::new());
+    row.push(drawn_cell(state));
+    row.push(drawn_cell(state));
+    row
+}
+
+/// A patch that sets one column or both.
+fn drawn_patch(state: &mut u64) -> Patch {
+    let kind = draw(state, 3);
+    let first = if kind == 0 {
+        None
+    } else {
+        Some(drawn_cell(state))
+    };
+    let second = if kind == 1 {
+        None
+    } else {
+        Some(drawn_cell(state))
+    };
+    let mut patch = Patch::of_numbers(ArrayVec::new());
+    patch.push(first);
+    patch.push(second);
+    patch
+}
+
+fn drawn_call(state: &mut u64) -> Call {
+    match draw(state, 12) {
+        0 => Call::Begin,
+        1 => Call::AsOf {
+            time: draw(state, 100),
+        },
+        2 => Call::Get {
+            key: u64::MAX - draw(state, 3),
+        },
+        3 | 4 => Call::Insert {
+            key: draw(state, 100),
+            row: drawn_row(state),
+        },
+        5 | 6 => Call::Update {
+            key: draw(state, 100),
+            patch: drawn_patch(state),
+        },
+        7 => Call::Delete {
+            key: draw(state, 100),
+        },
+        8 => Call::Sum {
+            column: draw(state, 2) as u32,
+        },
+        9 => Call::Find {
+            column: draw(state, 2) as u32,
+            value: draw(state, 1000),
+        },
+        10 => Call::Scan,
+        _ => Call::Commit,
+    }
+}
+
+/// A script of so many calls with the names `a` and `ab`, the first of which the second begins with.
+fn drawn_script(alloc: Global, seed: u64, count: u32) -> Result<Named, Fail> {
+    let mut names = Names::new(alloc);
+    for name in [b"a".as_slice(), b"ab"] {
+        let mut text = Text::new(alloc);
+        text.push_bytes(name)?;
+        names.push(text)?;
+    }
+    let mut script = Script::new(alloc);
+    let mut state = seed;
+    for _line in 0..count {
+        let session = draw(&mut state, 4) as u32;
+        let call = drawn_call(&mut state);
+        script.push(Line::Call { session, call })?;
+    }
+    Ok(Named { names, script })
+}
+
+#[test]
+fn drawn_scripts_are_printed_and_read(rt: HostRuntime) -> Result<(), Fail> {
+    let alloc = rt.alloc();
+    for seed in 0..20 {
+        let drawn = drawn_script(alloc, seed, 50)?;
+        let text = print2(alloc, &drawn)?;
+        let read = parse_named(alloc, text.as_bytes(), &Limits::default())?;
+        assert_eq!(rt; read.script.items(), drawn.script.items());
+        assert_eq!(rt; print2(alloc, &read)?.as_bytes(), text.as_bytes());
+    }
+    Ok(())
+}
+
+/// A text with a space before each newline, so that no line is in its plainest form.
+fn with_spaces(alloc: Global, text: &[u8]) -> Result<Text, Fail> {
+    let mut spaced = Text::new(alloc);
+    for byte in text {
+        if *byte == b'\n' {
+            spaced.push_bytes(b" ")?;
+        }
+        spaced.push_bytes(&[*byte])?;
+    }
+    Ok(spaced)
+}
+
+/// Looks whether a text is read by its bytes as it is by its words: as the same script, or with the same fault.
+fn expect_as_by_words(rt: &impl Abort, alloc: Global, text: &[u8]) -> Result<(), Fail> {
+    let spaced = with_spaces(alloc, text)?;
+    match (migrated(alloc, text), migrated(alloc, spaced.as_bytes())) {
+        (Ok(one), Ok(other)) => assert_eq!(rt; one.as_bytes(), other.as_bytes()),
+        (Err(one), Err(other)) => assert_eq!(rt; one, other),
+        _ => panic!(rt; "read in one form alone"),
+    }
+    Ok(())
+}
+
+/// The same for a text with each of its bytes changed.
+fn expect_changed_as_by_words(rt: &impl Abort, alloc: Global, text: &[u8]) -> Result<(), Fail> {
+    for place in 0..text.len() {
+        for byte in [b' ', b'\n', b'=', b'a', b'b', b'9', b'_', b'#'] {
+            let other = changed(alloc, text, place, byte)?;
+            expect_as_by_words(rt, alloc, other.as_bytes())?;
+        }
+    }
+    Ok(())
+}
+
+#[test]
+fn each_changed_byte_is_read_as_by_words(rt: HostRuntime) -> Result<(), Fail> {
+    let alloc = rt.alloc();
+    for seed in 0..3 {
+        let drawn = drawn_script(alloc, seed, 12)?;
+        let text = print2(alloc, &drawn)?;
+        expect_changed_as_by_words(&rt, alloc, text.as_bytes())?;
+    }
+    expect_changed_as_by_words(
+        &rt,
+        alloc,
+        b"0 begin\n0 insert 1 2 30\n0 update 1 _ 4\n1 find 1 7\n2 get 5\n3 sum 0\n0 asof 2\n0 delete 1\n2 scan\n0 commit\n",
+    )
 }
 
 #[test]

@@ -1,5 +1,11 @@
-use Rattle.lst_script.proofs.Beginnings.{insert_behind}
+use Rattle.std.proofs.Common.{codes, refl}
+use Rattle.lst_model.specs.declared.lines.Call.TheVariants.{Insert}
+use Rattle.lst_script.specs.Heads.{columns_of}
+use Rattle.lst_script.proofs.Beginnings.{behind_name, insert_behind}
 use Rattle.lst_script.proofs.fronts.insert_in_front.Goals as goal
 
 pub returns : goal.returns
-returns c = (c.in_ok-arguments.arguments.now, c.in_ok-arguments.ensures, insert_behind c.args.count c.in_ok-arguments.arguments.now c.in_ok-key.middle.now c.in_ok-row.rest.now c.in_ok-key.key c.in_ok-row.row c.in_ok-key.ensures c.in_ok-row.ensures)
+returns c =
+    let columns = columns_of c.args.heads in
+    behind_name columns c.args.text.now (codes "insert") c.in_ok-arguments.arguments.now c.in_ok-row.rest.now (Insert c.in_ok-key.key c.in_ok-row.row) refl c.in_ok-arguments.ensures
+    (insert_behind columns c.in_ok-arguments.arguments.now c.in_ok-key.middle.now c.in_ok-row.rest.now c.in_ok-key.key c.in_ok-row.row c.in_ok-key.ensures c.in_ok-row.ensures)

@@ -1,26 +1,62 @@
-use Rattle.lst_script.specs.Columns.{numbered}
+use Rattle.lst_script.specs.Heads.{columns_of}
 use Rattle.lst_script.proofs.fronts.push_call.Goals as goal
 
-pub returns-in-99 : goal.returns-in-99
-returns-in-99 c = c.push_plain.ensures (numbered c.args.count)
-
-pub returns-in-97 : goal.returns-in-97
-returns-in-97 c = c.push_plain-in-97.ensures (numbered c.args.count)
-
-pub returns-in-115-2 : goal.returns-in-115-2
-returns-in-115-2 c = c.push_plain-in-115-2.ensures (numbered c.args.count)
-
 pub returns-in-103 : goal.returns-in-103
-returns-in-103 c = c.push_get.ensures (numbered c.args.count)
+returns-in-103 c =
+    let columns = columns_of c.args.heads in
+    c.push_found-in-103.ensures columns c.args.text.now (c.get_in_front.ensures columns)
 
-pub returns-in-100 : goal.returns-in-100
-returns-in-100 c = c.push_delete.ensures (numbered c.args.count)
-
-pub returns-in-99-2 : goal.returns-in-99-2
-returns-in-99-2 c = c.push_plain-in-99-2.ensures (numbered c.args.count)
+pub returns-in-117 : goal.returns-in-117
+returns-in-117 c =
+    let columns = columns_of c.args.heads in
+    c.push_found-in-117.ensures columns c.args.text.now c.update_in_front.ensures
 
 pub returns-in-98 : goal.returns-in-98
-returns-in-98 c = c.push_plain-in-98.ensures (numbered c.args.count)
+returns-in-98 c =
+    let columns = columns_of c.args.heads in
+    c.push_found-in-98.ensures columns c.args.text.now (c.plain_in_front-in-98.ensures columns)
+
+pub returns-in-99 : goal.returns-in-99
+returns-in-99 c =
+    let columns = columns_of c.args.heads in
+    c.push_found.ensures columns c.args.text.now (c.plain_in_front.ensures columns)
+
+pub returns-in-99-2 : goal.returns-in-99-2
+returns-in-99-2 c =
+    let columns = columns_of c.args.heads in
+    c.push_found-in-99-2.ensures columns c.args.text.now (c.plain_in_front-in-99-2.ensures columns)
+
+pub returns-in-105 : goal.returns-in-105
+returns-in-105 c =
+    let columns = columns_of c.args.heads in
+    c.push_found-in-105.ensures columns c.args.text.now c.insert_in_front.ensures
+
+pub returns-in-115 : goal.returns-in-115
+returns-in-115 c =
+    let columns = columns_of c.args.heads in
+    c.push_found-in-115.ensures columns c.args.text.now c.sum_in_front.ensures
+
+pub returns-in-115-2 : goal.returns-in-115-2
+returns-in-115-2 c =
+    let columns = columns_of c.args.heads in
+    c.push_found-in-115-2.ensures columns c.args.text.now (c.plain_in_front-in-115-2.ensures columns)
+
+pub returns-in-102 : goal.returns-in-102
+returns-in-102 c =
+    let columns = columns_of c.args.heads in
+    c.push_found-in-102.ensures columns c.args.text.now c.find_in_front.ensures
+
+pub returns-in-97 : goal.returns-in-97
+returns-in-97 c =
+    let columns = columns_of c.args.heads in
+    c.push_found-in-97.ensures columns c.args.text.now (c.plain_in_front-in-97.ensures columns)
 
 pub returns-in-97-2 : goal.returns-in-97-2
-returns-in-97-2 c = c.push_as_of.ensures (numbered c.args.count)
+returns-in-97-2 c =
+    let columns = columns_of c.args.heads in
+    c.push_found-in-97-2.ensures columns c.args.text.now (c.as_of_in_front.ensures columns)
+
+pub returns-in-100 : goal.returns-in-100
+returns-in-100 c =
+    let columns = columns_of c.args.heads in
+    c.push_found-in-100.ensures columns c.args.text.now (c.delete_in_front.ensures columns)

@@ -1,5 +1,11 @@
-use Rattle.lst_script.proofs.Beginnings.{update_behind}
+use Rattle.std.proofs.Common.{codes, refl}
+use Rattle.lst_model.specs.declared.lines.Call.TheVariants.{Update}
+use Rattle.lst_script.specs.Heads.{columns_of}
+use Rattle.lst_script.proofs.Beginnings.{behind_name, update_behind}
 use Rattle.lst_script.proofs.fronts.update_in_front.Goals as goal
 
 pub returns : goal.returns
-returns c = (c.in_ok-arguments.arguments.now, c.in_ok-arguments.ensures, update_behind c.args.count c.in_ok-arguments.arguments.now c.in_ok-key.middle.now c.in_ok-patch.rest.now c.in_ok-key.key c.in_ok-patch.patch c.in_ok-key.ensures c.in_ok-patch.ensures)
+returns c =
+    let columns = columns_of c.args.heads in
+    behind_name columns c.args.text.now (codes "update") c.in_ok-arguments.arguments.now c.in_ok-patch.rest.now (Update c.in_ok-key.key c.in_ok-patch.patch) refl c.in_ok-arguments.ensures
+    (update_behind columns c.in_ok-arguments.arguments.now c.in_ok-key.middle.now c.in_ok-patch.rest.now c.in_ok-key.key c.in_ok-patch.patch c.in_ok-key.ensures c.in_ok-patch.ensures)

@@ -2,6 +2,7 @@ use Rattle.std.proofs.Common.{◌≡◌, ℕ, List, ◌∷◌, Bor, codes, ap, s
 use Rattle.lst_script.specs.Texts.{texts, line_words}
 use Rattle.lst_script.specs.Headers.{IsHeader}
 use Rattle.lst_script.specs.Scripts.{Explains}
+use Rattle.lst_script.proofs.PairFronts.{header_proper}
 use Rattle.lst_script.proofs.Versions.{err_is, start_numbered, start_numbered_faulty, start_header, start_header_faulty, start_header_answer, start_words}
 use Rattle.lst_script.proofs.parsing.read_text.Goals as goal
 
@@ -49,3 +50,6 @@ returns-clause-ok c =
     let heads : codes "version" ∷ texts c.behind_first.result.now ≡ line_words line = ap (λ (ws : List (List ℕ)). codes "version" ∷ ws) c.behind_first.ensures ∙ start_words c.args.limits.now c.args.bytes.now start.rest.now start.before start.is_header c.in_ok-start.ensures.ok c.if-not-start.false line after c.split_line.ensures.lines (texts c.deref.result.now) words in
     let is : IsHeader c.args.limits.now.columns (line_words line) c.in_ok-names-2.names = subst (λ (ws : List (List ℕ)). IsHeader c.args.limits.now.columns ws c.in_ok-names-2.names) heads c.in_ok-names-2.ensures in
     start_header c.args.limits.now c.args.bytes.now start.rest.now start.before start.is_header c.in_ok-start.ensures.ok c.if-not-start.false line after c.split_line.ensures.lines c.in_ok-names-2.names c.in_ok-script-2.script is (rw (← c.items.ensures) c.in_ok-script-2.ensures.ok)
+
+pub read_lines-requires-2-clause-proper : goal.read_lines-requires-2-clause-proper
+read_lines-requires-2-clause-proper c = rw c.items.ensures (header_proper _ _ c.in_ok-names-2.names c.in_ok-names-2.ensures)

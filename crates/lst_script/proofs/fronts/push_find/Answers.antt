@@ -1,8 +1,0 @@
-use Rattle.std.proofs.Common.{codes, refl}
-use Rattle.lst_model.specs.declared.lines.Call.TheVariants.{Find}
-use Rattle.lst_script.specs.Columns.{numbered}
-use Rattle.lst_script.proofs.Beginnings.{adds_call}
-use Rattle.lst_script.proofs.fronts.push_find.Goals as goal
-
-pub returns : goal.returns
-returns c = adds_call (numbered c.args.count) c.args.session c.args.text.now (codes "find") c.in-Some.ensures.0 c.in-Some.rest.now (Find c.in-Some.column c.in-Some.value) _ _ refl c.in-Some.ensures.1 c.in-Some.ensures.2 c.in_ok-push.ensures.items

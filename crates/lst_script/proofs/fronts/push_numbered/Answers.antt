@@ -1,6 +1,0 @@
-use Rattle.lst_script.specs.Columns.{numbered}
-use Rattle.lst_script.proofs.Beginnings.{line_added}
-use Rattle.lst_script.proofs.fronts.push_numbered.Goals as goal
-
-pub returns : goal.returns
-returns c = line_added c.args.limits.now (numbered c.args.count) c.args.text.now c.in-Some.ensures.0 c.in-Some.call.now c.in-Some.session _ _ c.in-Some.ensures.1 c.in-Some.ensures.2 c.in-Some.ensures.3 c.push_call.result c.push_call.ensures
