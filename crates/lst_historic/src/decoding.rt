@@ -121,6 +121,7 @@ fn cells_in(cells: &mut Cells, mask: u64, nulls: u64, bytes: &[u8], place: usize
 }
 
 /// Makes cells those of so many numbers 0.
+#[inline(always)]
 fn clear(cells: &mut Cells, columns: u32)
     requires { columns ≤ 8 }
     ensures { cells.new.items ≡ replicate columns (Some 0) }

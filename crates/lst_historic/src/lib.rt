@@ -5,6 +5,8 @@
 #![tactic(auto)]
 
 mod building;
+#[cfg(test)]
+mod changed_tests;
 mod checking;
 mod decoding;
 mod gathering;
