@@ -9,3 +9,4 @@ mod Others
 mod Processes
 mod Pasts
 mod Dumps
+mod Reported

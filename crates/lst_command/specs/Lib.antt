@@ -7,3 +7,4 @@ pub mod Loads
 pub mod Outputs
 pub mod Programs
 pub mod Merges
+pub mod Reported

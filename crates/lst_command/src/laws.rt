@@ -8,6 +8,7 @@ ghost use Rattle.lst_command.specs.Owed.{run_text, MigrationIsTheSame};
 ghost use Rattle.lst_command.specs.Merges.{other_text};
 ghost use Rattle.lst_command.specs.Loads.{LoadsReadNothing};
 ghost use Rattle.lst_command.specs.Runs.{RunsAreSound};
+ghost use Rattle.lst_command.specs.Reported.{WorkIsJudgedLegal};
 
 /// An input is one script at most, so a run has one output alone. The contract is a law; the body does nothing.
 pub fn input_is_one_script()
@@ -36,4 +37,10 @@ pub fn a_load_reads_nothing()
 /// contract is a law; the body does nothing.
 pub fn histories_of_runs_are_sound()
     ensures { RunsAreSound }
+{}
+
+/// What `work` writes, behind its script and the line `report`, is judged legal by `check`, under the same limits: the report is read as the one
+/// that the sessions gave, and no other verdict is owed. The contract is a law; the body does nothing.
+pub fn work_is_judged_legal()
+    ensures { WorkIsJudgedLegal }
 {}

@@ -20,13 +20,13 @@ use Rattle.lst_report.specs.Claims.{is_mark, has_mark, script_lines, behind_line
 
 -- ---- lines without newlines
 
-abbrev IsFree : List ℕ → Type 0
+abbrev pub IsFree : List ℕ → Type 0
 IsFree line = All (λ byte. is_newline byte ≡ false) line
 
-abbrev AreFree : List (List ℕ) → Type 0
+abbrev pub AreFree : List (List ℕ) → Type 0
 AreFree lines = AllByRecursion IsFree lines
 
-abbrev stripped : List (List ℕ) → List (List ℕ)
+abbrev pub stripped : List (List ℕ) → List (List ℕ)
 stripped lines = map strip_carriage_return lines
 
 free_more : (lines : List (List ℕ)) (line : List ℕ) → AreFree lines → IsFree line → AreFree (lines ++ line ∷ [])
@@ -50,7 +50,7 @@ lines_joined (line ∷ lines) rest free =
     ∙ ap (λ (ps : List (List ℕ)). map strip_carriage_return ps) (front_stays line (slice_split is_newline behind) (omega (arith, length-slice_split is_newline behind)))
     ∙ ap (λ (ls : List (List ℕ)). strip_carriage_return line ∷ ls) (lines_joined lines rest free.1)
 
-lines_whole : (lines : List (List ℕ)) → AreFree lines → text_lines (text_of lines) ≡ stripped lines
+pub lines_whole : (lines : List (List ℕ)) → AreFree lines → text_lines (text_of lines) ≡ stripped lines
 lines_whole lines free = ap (λ text. text_lines text) (sym (append-nil (text_of lines))) ∙ lines_joined lines [] free ∙ append-nil (stripped lines)
 
 -- ---- what stands behind lines

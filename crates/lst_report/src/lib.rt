@@ -5,6 +5,7 @@
 #![tactic(auto)]
 
 mod claims;
+mod laws;
 #[cfg(test)]
 mod line_tests;
 #[cfg(test)]
@@ -19,6 +20,7 @@ mod snapshot_tests;
 mod tests;
 
 pub use claims::{Claim, read_claim};
+pub use laws::{legal_report_fits, legal_report_is_claimed};
 pub use lst_legal::legal;
 pub use lst_replies::{
     Answer, Replies, Report, ReportFault, SessionState, Stamp, Stamps, Transaction,

@@ -252,6 +252,10 @@ fn a_fault_has_its_text(rt: HostRuntime) {
         (FaultKind::BadRange, "no such range"),
         (FaultKind::BadColumn, "no such column"),
         (FaultKind::NothingToSet, "nothing to set"),
+        (FaultKind::BadVersion, "unknown version"),
+        (FaultKind::BadName, "bad column name"),
+        (FaultKind::BadPair, "bad pair"),
+        (FaultKind::RepeatedColumn, "repeated column"),
         (FaultKind::NoReport, "no report"),
         (FaultKind::BadReport, "bad report line"),
     ] {
