@@ -1,17 +1,66 @@
 //! The check at a commit: what was read, and was it changed since the begin.
 ghost use Rattle.std.specs.Prelude.{◌≡◌, ◌↔◌, ℕ, ◌<◌, [], true, false, Some, IfSome, IfNone, IfOk, IfErr, Ok, Err, length};
 ghost use Rattle.lst_rule.specs.Rule.{knows, hosts};
+ghost use Rattle.lst_changes.specs.Changes.{IsUnwrittenAfter, Changed};
 ghost use Rattle.lst_session.specs.Calls.{Ends, FindsHeld};
 ghost use Rattle.lst_session.specs.Held.{IsHeld, LooksStill};
 ghost use Rattle.lst_session.specs.Passes.{IsReady};
+ghost use Rattle.lst_serial.specs.Searches.{StaysLeast};
 ghost use Rattle.lst_serial.specs.Serials.{FirstChanged, IsStaleAt, SpendsOnCommit, GivesBackStale, CommitsInPlace, FindsStale};
 
 use crate::keys::KeySet;
 use crate::kinds::SerialCommit;
-use lst_model::Time;
+use lst_model::{Key, Time};
 use lst_rule::Store;
 use lst_session::{CommitRefusal, Outcome, Session};
 use lst_txn::Turn;
+
+/// A key that was changed, with the last time at which it was.
+#[derive(Clone, Copy)]
+struct Change {
+    key: Key,
+    time: Time,
+}
+
+/// The change of a key, if there is one.
+fn change_of(session: &mut Session, store: &Store, key: Key) -> Option<Change>
+    requires held { IsHeld store.now session.old }
+    ensures held { IsHeld store.now session.new }
+    ensures number { session.new.number ≡ session.old.number }
+    ensures looks { LooksStill session.old.seat.view session.new.seat.view session.old.number }
+    ensures some { let k = knows session.old.seat.view session.old.number in IfSome result (λ change. (change.key ≡ key) × Changed k.seen k.begin key (Some change.time)) }
+    ensures none { let k = knows session.old.seat.view session.old.number in IfNone result (IsUnwrittenAfter k.seen k.begin key) }
+{
+    match session.changed(store, key) {
+        Some(time) => Some(Change { key, time }),
+        None => None,
+    }
+}
+
+/// The least change of some keys, and of one more, which isn't asked of where it isn't below.
+fn least_with(
+    session: &mut Session,
+    store: &Store,
+    least: Option<Change>,
+    key: Key,
+) -> Option<Change>
+    requires held { IsHeld store.now session.old }
+    ensures held { IsHeld store.now session.new }
+    ensures number { session.new.number ≡ session.old.number }
+    ensures looks { LooksStill session.old.seat.view session.new.seat.view session.old.number }
+    ensures least { let k = knows session.old.seat.view session.old.number in StaysLeast k.seen k.begin key least result }
+{
+    let Some(change) = least else {
+        return change_of(session, store, key);
+    };
+    if change.key <= key {
+        return least;
+    }
+    match change_of(session, store, key) {
+        Some(lower) => Some(lower),
+        None => least,
+    }
+}
 
 /// What `changed` tells of the least of the keys that a commit above the begin wrote. None comes exactly where none of them was written.
 fn first_changed(session: &mut Session, store: &Store, keys: &KeySet) -> Option<Time>
@@ -22,12 +71,17 @@ fn first_changed(session: &mut Session, store: &Store, keys: &KeySet) -> Option<
     ensures stale { IsStaleAt (knows session.old.seat.view session.old.number) keys.now false result }
 {
     session.seat.consider();
-    for key in keys.keys.iter() {
-        if let Some(time) = session.changed(store, *key) {
-            return Some(time);
-        }
+    let mut least = None;
+    for key in keys.few.as_slice() {
+        least = least_with(session, store, least, *key);
     }
-    None
+    for other in keys.keys.iter() {
+        least = least_with(session, store, least, *other);
+    }
+    match least {
+        Some(change) => Some(change.time),
+        None => None,
+    }
 }
 
 /// The time after the begin, where the session has seen a commit above it.

@@ -1,33 +1,37 @@
-use Rattle.std.proofs.Common.{rules, ◌≡◌, ℕ, [], ◌∷◌, List, refl, sym, subst, Some, None}
+use Rattle.std.proofs.Common.{rules, ◌≡◌, ℕ, ◌+◌, ◌<◌, [], ◌∷◌, ◌++◌, List, length, drop, slice_index_or, refl, sym, subst, ap}
+use Rattle.std.proofs.lemmas.List.{drop_more}
 use Rattle.std.proofs.lemmas.Map.Iter.{rest_more, rest_all}
 use Rattle.std.specs.Map.Iter.{deref}
+use Rattle.lst_rule.specs.Rule.{knows}
 use Rattle.lst_session.proofs.Growing.{begun_early}
-use Rattle.lst_serial.specs.Searches.{Searching}
-use Rattle.lst_serial.proofs.Checking.{search_starts, search_ends, search_finds, search_on, looked}
+use Rattle.lst_serial.specs.Searches.{Searching, StaysLeast}
+use Rattle.lst_serial.proofs.Checking.{search_starts, search_none, search_some, search_as, search_on}
 use Rattle.lst_serial.proofs.checks.first_changed.Goals as goal
 
 pub loop-key-init : goal.loop-key-init
-loop-key-init c =
-    let all : c.into_iter-key-iterator.result ≡ c.args.keys.now.keys.keys = search rules in
-    subst (λ (rest : List ℕ). Searching c.args.store.now c.args.session.now c.args.session.now c.args.keys.now rest) (sym all) (search_starts c.args.store.now c.args.session.now c.args.keys.now c.requires.held)
+loop-key-init c = search_starts c.args.store.now c.args.session.now c.args.keys.now c.requires.held
 
 pub loop-key-preserved : goal.loop-key-preserved
 loop-key-preserved c =
-    let more : c.loop-key.key-iterator ≡ c.in-Some.key.now ∷ c.next.new.self = rest_more (deref {X = ℕ}) c.loop-key.key-iterator c.next.new.self c.next.result c.in-Some.key c.in-Some.is c.next.ensures.steps in
-    search_on c.args.store.now c.args.session.now c.loop-key.session c.args.keys.now c.loop-key.key-iterator c.loop-key.invariant c.changed.new.self c.changed.ensures.held c.changed.ensures.number c.changed.ensures.looks
-    c.in-Some.key.now c.next.new.self more None c.in_default.ensures.changed refl
+    let few = c.args.keys.now.few.items in
+    let tree = c.args.keys.now.keys.keys in
+    let k = knows c.loop-key.session.seat.view c.loop-key.session.number in
+    search_on c.args.store.now c.args.session.now c.loop-key.session c.args.keys.now (drop c.loop-key.key-index few ++ tree) c.loop-key.least c.loop-key.invariant
+    c.least_with-least.new.session c.least_with-least.ensures.held c.least_with-least.ensures.number c.least_with-least.ensures.looks
+    (slice_index_or few c.loop-key.key-index 0) (drop (c.loop-key.key-index + 1) few ++ tree)
+    (ap (λ (xs : List ℕ). xs ++ tree) (drop_more few c.loop-key.key-index 0 (subst (λ (xs : List ℕ). c.loop-key.key-index < length xs) c.as_slice-key-items.ensures.value c.loop-key-test.true)))
+    c.least_with-least.result
+    (subst (λ (xs : List ℕ). StaysLeast k.seen k.begin (slice_index_or xs c.loop-key.key-index 0) c.loop-key.least c.least_with-least.result) c.as_slice-key-items.ensures.value c.least_with-least.ensures.least)
 
-pub returns-in-Some-changed-clause-looks : goal.returns-in-Some-changed-clause-looks
-returns-in-Some-changed-clause-looks c = looked c.args.store.now c.args.session.now c.loop-key.session c.args.keys.now c.loop-key.key-iterator c.loop-key.invariant c.changed.new.self c.changed.ensures.held c.changed.ensures.number c.changed.ensures.looks
+pub loop-other-preserved : goal.loop-other-preserved
+loop-other-preserved c =
+    let more : c.loop-other.other-iterator ≡ c.in-Some.other.now ∷ c.next.new.self = rest_more (deref {X = ℕ}) c.loop-other.other-iterator c.next.new.self c.next.result c.in-Some.other c.in-Some.is c.next.ensures.steps in
+    search_on c.args.store.now c.args.session.now c.loop-other.session c.args.keys.now c.loop-other.other-iterator c.loop-other.least c.loop-other.invariant
+    c.least_with-least-in-loop-other.new.session c.least_with-least-in-loop-other.ensures.held c.least_with-least-in-loop-other.ensures.number c.least_with-least-in-loop-other.ensures.looks
+    c.in-Some.other.now c.next.new.self more c.least_with-least-in-loop-other.result c.least_with-least-in-loop-other.ensures.least
 
-pub returns-in-Some-changed-clause-stale : goal.returns-in-Some-changed-clause-stale
-returns-in-Some-changed-clause-stale c =
-    let more : c.loop-key.key-iterator ≡ c.in-Some.key.now ∷ c.next.new.self = rest_more (deref {X = ℕ}) c.loop-key.key-iterator c.next.new.self c.next.result c.in-Some.key c.in-Some.is c.next.ensures.steps in
-    search_finds c.args.store.now c.args.session.now c.loop-key.session c.args.keys.now c.loop-key.key-iterator c.loop-key.invariant c.changed.new.self c.changed.ensures.held c.changed.ensures.number c.changed.ensures.looks
-    c.in-Some.key.now c.next.new.self more (Some c.in-Some-changed.time) c.in-Some-changed.ensures.changed c.in-Some-changed.time refl c.iter-key-items.ensures.ordered
-
-pub returns-clause-stale : goal.returns-clause-stale
-returns-clause-stale c =
-    let none : c.loop-key.key-iterator ≡ [] = rest_all (deref {X = ℕ}) c.loop-key.key-iterator c.next.new.self c.next.result c.in-None.is c.next.ensures.steps in
-    search_ends c.args.store.now c.args.session.now c.loop-key.session c.args.keys.now c.loop-key.key-iterator c.loop-key.invariant none
+pub returns-in-None-least-clause-stale : goal.returns-in-None-least-clause-stale
+returns-in-None-least-clause-stale c =
+    let none : c.loop-other.other-iterator ≡ [] = rest_all (deref {X = ℕ}) c.loop-other.other-iterator c.next.new.self c.next.result c.in-None.is c.next.ensures.steps in
+    search_none c.args.store.now c.args.session.now c.loop-other.session c.args.keys.now c.loop-other.other-iterator c.loop-other.least c.loop-other.invariant none c.in-None-least.is
     (begun_early c.args.session.now.seat.view c.args.session.now.number c.consider.ensures c.requires.held.holder.host c.requires.held.holder.on)
