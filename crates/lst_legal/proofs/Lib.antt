@@ -1,3 +1,5 @@
 pub mod Sighting
 pub mod Shaped
 pub mod Composed
+pub mod Serials
+pub mod Rereading

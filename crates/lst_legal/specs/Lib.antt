@@ -1,2 +1,4 @@
 pub mod Sights
 pub mod Judged
+pub mod Serial
+pub mod Serials

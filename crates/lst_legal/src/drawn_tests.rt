@@ -1,10 +1,11 @@
 //! Drawn scripts with reports, judged by the checker and by the plain one.
 
-use crate::plain::{KEYS, Run};
+use crate::plain::{KEYS, Opened, Run};
 use crate::plain_replies::{count_of, holds, lacks_index, sum_of};
-use crate::{are_sessions_below, legal};
+use crate::{are_sessions_below, legal, legal_serial};
 use arrayvec::ArrayVec;
 use lst_layout::Limits;
+use lst_legal_runs::Level;
 use lst_model::{Call, Cause, KeyList, Line, OutOfMemory, Patch, Reply, Row, RowList, Table};
 use lst_replies::{Replies, Report, ReportFault, Stamp, Stamps, parse_report, print_report};
 use std::alloc::Global;
@@ -352,9 +353,32 @@ fn answer_read(alloc: Global, sight: &Table, call: &Call) -> Result<Reply, OutOf
     Ok(reply)
 }
 
+/// The first time for which a transaction may be told stale behind the lines of a run. One in four is not told so.
+fn stale_for(
+    run: &Run<'_>,
+    level: Level,
+    session: u32,
+    opened: &Opened,
+    drawn: u64,
+) -> Option<Cause> {
+    match level {
+        Level::Serializable if drawn % 4 != 0 => {
+            for earlier in 0..run.stamps.len() as u64 {
+                let time = earlier.wrapping_add(1);
+                if run.may_be_stale(session, opened, run.lines.len(), time) {
+                    return Some(Cause::Stale { time });
+                }
+            }
+            None
+        }
+        _ => None,
+    }
+}
+
 /// The reply to a call behind the lines of a run. A begin may be told any time from the floor on.
 fn answer_call(
     alloc: Global,
+    level: Level,
     limits: &Limits,
     run: &Run<'_>,
     session: u32,
@@ -380,8 +404,11 @@ fn answer_call(
     let sight = run.sight(alloc, session, place, &opened)?;
     match call {
         Call::Commit if run.has_written(session, opened.place, place, None) => {
-            Ok(Reply::Committed {
-                time: last.wrapping_add(1),
+            Ok(match stale_for(run, level, session, &opened, drawn) {
+                Some(cause) => Reply::Refused { cause },
+                None => Reply::Committed {
+                    time: last.wrapping_add(1),
+                },
             })
         }
         Call::Commit => Ok(Reply::Ended { time: opened.begin }),
@@ -451,6 +478,7 @@ impl Drawn {
     fn add(
         &mut self,
         alloc: Global,
+        level: Level,
         limits: &Limits,
         line: Line,
         drawn: u64,
@@ -462,7 +490,7 @@ impl Drawn {
                 self.replies.push((None, reply))?;
             }
             Line::Call { session, call } => {
-                let reply = answer_call(alloc, limits, &self.run(), *session, call, drawn)?;
+                let reply = answer_call(alloc, level, limits, &self.run(), *session, call, drawn)?;
                 if let Reply::Committed { .. } = &reply {
                     self.stamp(*session)?;
                 }
@@ -508,7 +536,12 @@ impl Drawn {
     }
 }
 
-fn draw(alloc: Global, limits: &Limits, drawer: &mut Drawer) -> Result<Drawn, OutOfMemory> {
+fn draw(
+    alloc: Global,
+    level: Level,
+    limits: &Limits,
+    drawer: &mut Drawer,
+) -> Result<Drawn, OutOfMemory> {
     let mut drawn = Drawn {
         lines: Vec::new(alloc),
         replies: Vec::new(alloc),
@@ -517,7 +550,7 @@ fn draw(alloc: Global, limits: &Limits, drawer: &mut Drawer) -> Result<Drawn, Ou
     for _ in 0..6 + drawer.draw(20) % 20 {
         let line = drawer.draw_line(&drawn.run());
         let begin = drawer.draw(6);
-        drawn.add(alloc, limits, line, begin)?;
+        drawn.add(alloc, level, limits, line, begin)?;
     }
     for _ in 0..drawer.draw(3) {
         drawn.change(drawer)?;
@@ -532,11 +565,29 @@ struct Verdicts {
     fast: bool,
 }
 
-fn judge(alloc: Global, seed: u64) -> Result<Verdicts, OutOfMemory> {
+/// Whether a report is legal at a level.
+fn is_legal(
+    alloc: Global,
+    level: Level,
+    limits: &Limits,
+    lines: &[Line],
+    report: &Report,
+) -> Result<Option<bool>, OutOfMemory> {
+    if !are_sessions_below(limits.sessions, lines) {
+        return Ok(None);
+    }
+    let is_legal = match level {
+        Level::Snapshot => legal(alloc, limits, lines, report)?,
+        Level::Serializable => legal_serial(alloc, limits, lines, report)?,
+    };
+    Ok(Some(is_legal))
+}
+
+fn judge(alloc: Global, drawn_at: Level, level: Level, seed: u64) -> Result<Verdicts, OutOfMemory> {
     let mut drawer = Drawer { seed };
     let limits = drawer.draw_limits();
-    let drawn = draw(alloc, &limits, &mut drawer)?;
-    let plain = drawn.run().is_legal(alloc, &limits)?;
+    let drawn = draw(alloc, drawn_at, &limits, &mut drawer)?;
+    let plain = drawn.run().is_legal(alloc, level, &limits)?;
     let Drawn {
         lines,
         replies,
@@ -546,22 +597,27 @@ fn judge(alloc: Global, seed: u64) -> Result<Verdicts, OutOfMemory> {
         replies: Replies::from_items(replies),
         history: Stamps::from_items(stamps),
     };
-    if !are_sessions_below(limits.sessions, lines.as_slice()) {
-        return Ok(Verdicts {
+    match is_legal(alloc, level, &limits, lines.as_slice(), &report)? {
+        Some(fast) => Ok(Verdicts { plain, fast }),
+        None => Ok(Verdicts {
             plain,
             fast: !plain,
-        });
+        }),
     }
-    let fast = legal(alloc, &limits, lines.as_slice(), &report)?;
-    Ok(Verdicts { plain, fast })
 }
 
-#[test]
-fn drawn_reports_are_judged_as_the_plain_checker_judges(rt: HostRuntime) -> Result<(), Fail> {
+/// How many drawn reports were judged legal, and how many not.
+fn judge_drawn(
+    rt: &impl Abort,
+    alloc: Global,
+    drawn_at: Level,
+    level: Level,
+    reports: u64,
+) -> Result<(u64, u64), OutOfMemory> {
     let mut legal_ones = 0u64;
     let mut others = 0u64;
-    for seed in 1..401u64 {
-        let verdicts = judge(rt.alloc(), seed.wrapping_mul(7919))?;
+    for seed in 1..reports.wrapping_add(1) {
+        let verdicts = judge(alloc, drawn_at, level, seed.wrapping_mul(7919))?;
         assert_eq!(rt; verdicts.plain, verdicts.fast);
         if verdicts.fast {
             legal_ones = legal_ones.wrapping_add(1);
@@ -569,8 +625,36 @@ fn drawn_reports_are_judged_as_the_plain_checker_judges(rt: HostRuntime) -> Resu
             others = others.wrapping_add(1);
         }
     }
+    Ok((legal_ones, others))
+}
+
+#[test]
+fn drawn_reports_are_judged_as_the_plain_checker_judges(rt: HostRuntime) -> Result<(), Fail> {
+    let snapshot = Level::Snapshot;
+    let (legal_ones, others) = judge_drawn(&rt, rt.alloc(), snapshot, snapshot, 400)?;
     // Both verdicts occur often.
     assert!(rt; legal_ones > 100 && others > 65);
+    Ok(())
+}
+
+#[test]
+fn drawn_serializable_reports_are_judged_as_the_plain_checker_judges(
+    rt: HostRuntime,
+) -> Result<(), Fail> {
+    let serializable = Level::Serializable;
+    let (legal_ones, others) = judge_drawn(&rt, rt.alloc(), serializable, serializable, 200)?;
+    assert!(rt; legal_ones > 25 && others > 25);
+    Ok(())
+}
+
+#[test]
+fn drawn_reports_are_judged_at_the_other_level(rt: HostRuntime) -> Result<(), Fail> {
+    let alloc = rt.alloc();
+    // Some reports of snapshot isolation are serializable, too, and some are not; one with a stale commit is none.
+    let (legal_ones, others) = judge_drawn(&rt, alloc, Level::Snapshot, Level::Serializable, 100)?;
+    assert!(rt; legal_ones > 10 && others > 10);
+    let (legal_ones, others) = judge_drawn(&rt, alloc, Level::Serializable, Level::Snapshot, 100)?;
+    assert!(rt; legal_ones > 10 && others > 10);
     Ok(())
 }
 
@@ -586,6 +670,7 @@ fn with_byte(alloc: Global, text: &[u8], place: usize, byte: u8) -> Result<Vec<u
 /// What the two checkers say of a text, or None where it is no report.
 fn judge_text(
     alloc: Global,
+    level: Level,
     limits: &Limits,
     lines: &[Line],
     text: &[u8],
@@ -600,12 +685,11 @@ fn judge_text(
         replies: report.replies.items(),
         stamps: report.history.items(),
     };
-    let plain = run.is_legal(alloc, limits)?;
-    if !are_sessions_below(limits.sessions, lines) {
-        return Ok(None);
+    let plain = run.is_legal(alloc, level, limits)?;
+    match is_legal(alloc, level, limits, lines, &report)? {
+        Some(fast) => Ok(Some(Verdicts { plain, fast })),
+        None => Ok(None),
     }
-    let fast = legal(alloc, limits, lines, &report)?;
-    Ok(Some(Verdicts { plain, fast }))
 }
 
 /// How many texts with one byte changed were read as reports, and how many of these are legal.
@@ -621,6 +705,7 @@ impl Changed {
         &mut self,
         rt: &impl Abort,
         alloc: Global,
+        level: Level,
         limits: &Limits,
         lines: &[Line],
         text: &[u8],
@@ -638,7 +723,7 @@ impl Changed {
                     .unwrap_or(&b'2'),
             };
             let changed = with_byte(alloc, text, place, byte)?;
-            if let Some(verdicts) = judge_text(alloc, limits, lines, changed.as_slice())? {
+            if let Some(verdicts) = judge_text(alloc, level, limits, lines, changed.as_slice())? {
                 assert_eq!(rt; verdicts.plain, verdicts.fast);
                 self.read = self.read.wrapping_add(1);
                 self.legal = self.legal.wrapping_add(u64::from(verdicts.fast));
@@ -648,19 +733,20 @@ impl Changed {
     }
 }
 
-#[test]
-fn legal_drawn_reports_with_one_byte_changed_are_judged_as_the_plain_checker_judges(
-    rt: HostRuntime,
-) -> Result<(), Fail> {
-    let alloc = rt.alloc();
-    let mut counts = Changed { read: 0, legal: 0 };
+/// Draws reports, and judges the texts of the legal ones with each byte changed in turn. It answers how many were legal.
+fn judge_changed(
+    rt: &impl Abort,
+    alloc: Global,
+    level: Level,
+    counts: &mut Changed,
+) -> Result<u64, OutOfMemory> {
     let mut legal_ones = 0u64;
     for seed in 1..31u64 {
         let mut drawer = Drawer {
             seed: seed.wrapping_mul(104729),
         };
         let limits = drawer.draw_limits();
-        let drawn = draw(alloc, &limits, &mut drawer)?;
+        let drawn = draw(alloc, level, &limits, &mut drawer)?;
         let Drawn {
             lines,
             replies,
@@ -675,11 +761,12 @@ fn legal_drawn_reports_with_one_byte_changed_are_judged_as_the_plain_checker_jud
             plain: true,
             fast: true,
         });
-        if judge_text(alloc, &limits, lines.as_slice(), text.as_bytes())? == is_legal {
+        if judge_text(alloc, level, &limits, lines.as_slice(), text.as_bytes())? == is_legal {
             legal_ones = legal_ones.wrapping_add(1);
             counts.judge_all(
-                &rt,
+                rt,
                 alloc,
+                level,
                 &limits,
                 lines.as_slice(),
                 text.as_bytes(),
@@ -687,7 +774,20 @@ fn legal_drawn_reports_with_one_byte_changed_are_judged_as_the_plain_checker_jud
             )?;
         }
     }
-    // Some changes leave a report, some of these a legal one, and some an illegal one.
-    assert!(rt; legal_ones > 5 && counts.legal > 50 && counts.read > counts.legal.wrapping_add(50));
+    Ok(legal_ones)
+}
+
+#[test]
+fn legal_drawn_reports_with_one_byte_changed_are_judged_as_the_plain_checker_judges(
+    rt: HostRuntime,
+) -> Result<(), Fail> {
+    for level in [Level::Snapshot, Level::Serializable] {
+        let mut counts = Changed { read: 0, legal: 0 };
+        let legal_ones = judge_changed(&rt, rt.alloc(), level, &mut counts)?;
+        // Some changes leave a report, some of these a legal one, and some an illegal one.
+        assert!(rt;
+            legal_ones > 5 && counts.legal > 50 && counts.read > counts.legal.wrapping_add(50)
+        );
+    }
     Ok(())
 }

@@ -1,16 +1,20 @@
 //! Whether a report is legal.
 ghost use Rattle.std.specs.Prelude.{◌↔◌, ◌<◌, IsTrue, IfSome, IfOk, All};
+ghost use Rattle.lst_model.specs.Soundness.{IsSound};
 ghost use Rattle.lst_replies.specs.Legal.{IsLegalReport};
 ghost use Rattle.lst_legal_runs.specs.Places.{AreTraced, AreWithin, run_at};
 ghost use Rattle.lst_legal_runs.specs.Gathering.{CommitsNothing};
-ghost use Rattle.lst_legal.specs.Judged.{AreSessionsBelow, FollowsRules, IsJudged};
+ghost use Rattle.lst_legal.specs.Judged.{AreSessionsBelow, FollowsRules, FollowsSerial, FollowsLevel, FollowsAll, IsJudged, IsLegalAt};
+ghost use Rattle.lst_legal.specs.Serial.{IsLegalSerialReport};
 ghost use Rattle.lst_replies.specs.Runs.{speaker_of};
 
+use crate::places::are_commits_in_place;
 use crate::sights::are_sights_told;
+use crate::stales::are_stales_explained;
 use lst_layout::Limits;
 use lst_legal_runs::{
-    Place, are_conflicts_explained, are_merges_consistent, are_refusals_exact, are_times_bounded,
-    gather, is_fullness_explained, trace,
+    Level, Place, are_conflicts_explained, are_merges_consistent, are_refusals_exact,
+    are_times_bounded, gather, is_fullness_explained, trace,
 };
 use lst_model::{Line, OutOfMemory};
 use lst_replies::{Report, Stamp, has_reply_shape, paired};
@@ -29,12 +33,41 @@ pub fn legal(
     requires { AreSessionsBelow limits.now.sessions lines.now }
     ensures { IfOk result (λ b. IsTrue b ↔ IsLegalReport limits.now lines.now report.now) }
 {
+    legal_at(alloc, Level::Snapshot, limits, lines, report)
+}
+
+/// Whether a store with these limits may give this report to a script of these lines where its sessions are at the serializable
+/// level: whether the report is legal there. The sessions of the script are below the limit. It takes the time of `legal`, and
+/// once more that of what reads tell; a commit that is told stale takes the time of the keys that its transaction has named, too.
+pub fn legal_serial(
+    alloc: Global,
+    limits: &Limits,
+    lines: &[Line],
+    report: &Report,
+) -> Result<bool, OutOfMemory>
+    requires { AreSessionsBelow limits.now.sessions lines.now }
+    ensures { IfOk result (λ b. IsTrue b ↔ IsLegalSerialReport limits.now lines.now report.now) }
+{
+    legal_at(alloc, Level::Serializable, limits, lines, report)
+}
+
+/// Whether a report is legal at a level.
+fn legal_at(
+    alloc: Global,
+    level: Level,
+    limits: &Limits,
+    lines: &[Line],
+    report: &Report,
+) -> Result<bool, OutOfMemory>
+    requires { AreSessionsBelow limits.now.sessions lines.now }
+    ensures { IfOk result (λ b. IsTrue b ↔ IsLegalAt level limits.now lines.now report.now) }
+{
     if !has_reply_shape(lines, report.replies.items()) {
         return Ok(false);
     }
     let run = paired(alloc, lines, report.replies.items())?;
     let places = trace(alloc, limits.sessions, &run)?;
-    let judged = judge(alloc, limits, report.history.items(), &places)?;
+    let judged = judge(alloc, level, limits, report.history.items(), &places)?;
     Ok(judged)
 }
 
@@ -62,6 +95,7 @@ fn is_session_below(sessions: u32, line: &Line) -> bool
 /// Whether there is a history that matches the committed replies of a run, and under which all rules hold.
 fn judge(
     alloc: Global,
+    level: Level,
     limits: &Limits,
     stamps: &[Stamp],
     places: &[Place],
@@ -69,7 +103,7 @@ fn judge(
     requires within { AreWithin limits.now.sessions (run_at places.now) }
     requires calls { All CommitsNothing (run_at places.now) }
     requires traced { AreTraced places.now }
-    ensures { IfOk result (λ b. IsTrue b ↔ IsJudged limits.now (run_at places.now) stamps.now) }
+    ensures { IfOk result (λ b. IsTrue b ↔ IsJudged level limits.now (run_at places.now) stamps.now) }
 {
     let Some(history) = gather(alloc, limits.sessions, stamps, places)? else {
         return Ok(false);
@@ -78,22 +112,84 @@ fn judge(
         return Ok(false);
     };
     let swept = Swept::of(alloc, snapshots)?;
-    let follows = follows_rules(alloc, limits, &swept, places)?;
+    let follows = follows_all(alloc, level, limits, &swept, places)?;
     Ok(follows)
 }
 
-/// Whether the lines of a run follow the rules, under a history.
-fn follows_rules(
+/// Whether the lines of a run follow the rules of the level, under a sound history.
+fn follows_all(
     alloc: Global,
+    level: Level,
     limits: &Limits,
     swept: &Swept,
     places: &[Place],
 ) -> Result<bool, OutOfMemory>
     requires within { AreWithin limits.now.sessions (run_at places.now) }
     requires traced { AreTraced places.now }
-    ensures { IfOk result (λ b. IsTrue b ↔ FollowsRules limits.now swept.now (run_at places.now)) }
+    requires sound { IsSound swept.now }
+    ensures { IfOk result (λ b. IsTrue b ↔ FollowsAll level limits.now swept.now (run_at places.now)) }
 {
-    if !are_refusals_exact(limits, places) {
+    if !follows_rules(alloc, level, limits, swept, places)? {
+        return Ok(false);
+    }
+    let added = follows_level(alloc, level, limits.sessions, swept, places)?;
+    Ok(added)
+}
+
+/// Whether they follow the rules that the level adds: the serializable one has two.
+fn follows_level(
+    alloc: Global,
+    level: Level,
+    sessions: u32,
+    swept: &Swept,
+    places: &[Place],
+) -> Result<bool, OutOfMemory>
+    requires within { AreWithin sessions (run_at places.now) }
+    requires traced { AreTraced places.now }
+    requires sound { IsSound swept.now }
+    ensures { IfOk result (λ b. IsTrue b ↔ FollowsLevel level swept.now (run_at places.now)) }
+{
+    match level {
+        Level::Snapshot => Ok(true),
+        Level::Serializable => {
+            let follows = follows_serial(alloc, sessions, swept, places)?;
+            Ok(follows)
+        }
+    }
+}
+
+/// Whether commits are at their serial places, and stale ones are explained.
+fn follows_serial(
+    alloc: Global,
+    sessions: u32,
+    swept: &Swept,
+    places: &[Place],
+) -> Result<bool, OutOfMemory>
+    requires within { AreWithin sessions (run_at places.now) }
+    requires traced { AreTraced places.now }
+    requires sound { IsSound swept.now }
+    ensures { IfOk result (λ b. IsTrue b ↔ FollowsSerial swept.now (run_at places.now)) }
+{
+    if !are_stales_explained(alloc, sessions, swept.snapshots(), places)? {
+        return Ok(false);
+    }
+    let placed = are_commits_in_place(alloc, sessions, swept, places)?;
+    Ok(placed)
+}
+
+/// Whether the lines of a run follow the rules of both levels, under a history, with the level's own on ends.
+fn follows_rules(
+    alloc: Global,
+    level: Level,
+    limits: &Limits,
+    swept: &Swept,
+    places: &[Place],
+) -> Result<bool, OutOfMemory>
+    requires within { AreWithin limits.now.sessions (run_at places.now) }
+    requires traced { AreTraced places.now }
+    ensures { IfOk result (λ b. IsTrue b ↔ FollowsRules level limits.now swept.now (run_at places.now)) }
+{
+    if !are_refusals_exact(level, limits, places) {
         return Ok(false);
     }
     if !are_merges_consistent(alloc, limits, places)? {

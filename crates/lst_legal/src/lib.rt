@@ -1,23 +1,33 @@
 //! The exact checker of reports: `legal` answers true exactly where a report is legal for a script.
 //!
 //! Beside the whole it has the two rules that ask for rows: reads answer their snapshot, and write replies fit it. Both are
-//! judged in one walk, in which each open transaction has its sight.
+//! judged in one walk, in which each open transaction has its sight. `legal_serial` answers the same of the serializable level, and has
+//! two rules more: commits are at their serial places, by the same walk with other sights, and stale commits are explained.
 //!
-//! It reads scripts and reports alone. Begin with `legal` in `judging.rt`; `reads.rt` and `writes.rt` have the two rules.
+//! It reads scripts and reports alone. Begin with `legal` in `judging.rt`; `reads.rt` and `writes.rt` have the two rules, `places.rt` and
+//! `stales.rt` the two more.
 #![tactic(auto)]
 
 #[cfg(test)]
 mod drawn_tests;
 mod judging;
+mod places;
 #[cfg(test)]
 mod plain;
 #[cfg(test)]
 mod plain_replies;
+#[cfg(test)]
+mod plain_serial;
 mod reads;
+#[cfg(test)]
+mod serial_tests;
 mod sights;
+mod stales;
 #[cfg(test)]
 mod tests;
 mod writes;
 
-pub use judging::{are_sessions_below, legal};
+pub use judging::{are_sessions_below, legal, legal_serial};
+pub use places::are_commits_in_place;
 pub use sights::are_sights_told;
+pub use stales::are_stales_explained;

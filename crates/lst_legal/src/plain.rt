@@ -3,6 +3,7 @@
 
 use crate::plain_replies::{can_answer, key_of, lacks_index, tells};
 use lst_layout::Limits;
+use lst_legal_runs::Level;
 use lst_model::{Act, Call, Cause, Line, OutOfMemory, Reply, Table, Time, Write, apply};
 use lst_replies::Stamp;
 use std::alloc::Global;
@@ -59,7 +60,7 @@ fn time_told(reply: &Reply) -> Option<Time> {
     }
 }
 
-fn cause_of(reply: &Reply) -> Option<Cause> {
+pub(crate) fn cause_of(reply: &Reply) -> Option<Cause> {
     match reply {
         Reply::Refused { cause } => Some(*cause),
         _ => None,
@@ -69,7 +70,7 @@ fn cause_of(reply: &Reply) -> Option<Cause> {
 impl<'a> Run<'a> {
     // ---- what stands at a place
 
-    fn line(&self, place: usize) -> Option<&'a Line> {
+    pub(crate) fn line(&self, place: usize) -> Option<&'a Line> {
         self.lines.get(place)
     }
 
@@ -94,7 +95,7 @@ impl<'a> Run<'a> {
         }
     }
 
-    fn is_by(&self, session: u32, place: usize) -> bool {
+    pub(crate) fn is_by(&self, session: u32, place: usize) -> bool {
         match self.speaker(place) {
             Some(other) => other == session,
             None => false,
@@ -122,7 +123,7 @@ impl<'a> Run<'a> {
         write_of(self.call(place)?)
     }
 
-    fn key(&self, place: usize) -> Option<u64> {
+    pub(crate) fn key(&self, place: usize) -> Option<u64> {
         key_of(self.call(place)?)
     }
 
@@ -141,7 +142,7 @@ impl<'a> Run<'a> {
         is_done && self.key(place).is_some()
     }
 
-    fn commit_time(&self, place: usize) -> Option<Time> {
+    pub(crate) fn commit_time(&self, place: usize) -> Option<Time> {
         match self.reply(place) {
             Some(Reply::Committed { time }) => Some(*time),
             _ => None,
@@ -293,7 +294,7 @@ impl<'a> Run<'a> {
     }
 
     /// Applies the accepted writes of a session from one place up to another.
-    fn fold(
+    pub(crate) fn fold(
         &self,
         table: &mut Table,
         session: u32,
@@ -311,7 +312,7 @@ impl<'a> Run<'a> {
     }
 
     /// The table of the commits up to a time.
-    fn table_at(&self, alloc: Global, begin: Time) -> Result<Table, OutOfMemory> {
+    pub(crate) fn table_at(&self, alloc: Global, begin: Time) -> Result<Table, OutOfMemory> {
         let mut table = Table::new(alloc);
         for earlier in 0..self.stamps.len() as u64 {
             if earlier < begin {
@@ -509,6 +510,7 @@ impl<'a> Run<'a> {
 
     fn is_state_told(
         &self,
+        level: Level,
         limits: &Limits,
         session: u32,
         place: usize,
@@ -529,7 +531,7 @@ impl<'a> Run<'a> {
         match (self.opened(session, place), call) {
             (Some(opened), Call::Commit) => {
                 if self.has_written(session, opened.place, place, None) {
-                    matches!(reply, Reply::Committed { .. })
+                    self.is_committed_told(level, place)
                 } else {
                     match reply {
                         Reply::Ended { time } => *time == opened.begin,
@@ -678,6 +680,7 @@ impl<'a> Run<'a> {
     fn is_call_answered(
         &self,
         alloc: Global,
+        level: Level,
         limits: &Limits,
         session: u32,
         place: usize,
@@ -685,7 +688,7 @@ impl<'a> Run<'a> {
         reply: &Reply,
     ) -> Result<bool, OutOfMemory> {
         if !self.is_time_bounded(session, place, call, reply)
-            || !self.is_state_told(limits, session, place, call, reply)
+            || !self.is_state_told(level, limits, session, place, call, reply)
         {
             return Ok(false);
         }
@@ -710,6 +713,7 @@ impl<'a> Run<'a> {
     fn is_answered(
         &self,
         alloc: Global,
+        level: Level,
         limits: &Limits,
         place: usize,
     ) -> Result<bool, OutOfMemory> {
@@ -722,18 +726,26 @@ impl<'a> Run<'a> {
                 Ok(self.is_merge_answered(limits, *range, *column, place, reply))
             }
             Line::Call { session, call } => {
-                self.is_call_answered(alloc, limits, *session, place, call, reply)
+                self.is_call_answered(alloc, level, limits, *session, place, call, reply)
             }
         }
     }
 
-    /// Whether the report is legal.
-    pub(crate) fn is_legal(&self, alloc: Global, limits: &Limits) -> Result<bool, OutOfMemory> {
+    /// Whether the report is legal at a level.
+    pub(crate) fn is_legal(
+        &self,
+        alloc: Global,
+        level: Level,
+        limits: &Limits,
+    ) -> Result<bool, OutOfMemory> {
         if !self.has_shape() || !self.has_history() {
             return Ok(false);
         }
         for place in 0..self.lines.len() {
-            if !self.is_answered(alloc, limits, place)? {
+            if !self.is_answered(alloc, level, limits, place)? {
+                return Ok(false);
+            }
+            if !self.is_of_level(alloc, level, place)? {
                 return Ok(false);
             }
         }

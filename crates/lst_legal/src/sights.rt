@@ -1,5 +1,6 @@
 //! Reads answer their snapshot, and write replies fit it.
 ghost use Rattle.std.specs.Prelude.{◌≡◌, ◌↔◌, ℕ, ◌<◌, List, [], ◌∷◌, ◌++◌, Option, Some, None, length, replicate, slice_index_or, IsTrue, IfSome, IfOk, OnOk};
+ghost use Rattle.lst_model.specs.declared.commits.Commit.{Commit};
 ghost use Rattle.lst_replies.specs.declared.states.SessionState.{SessionState};
 ghost use Rattle.lst_replies.specs.declared.states.Transaction.{Transaction};
 ghost use Rattle.lst_replies.specs.Runs.{Answered, AtEachCall, speaker_of, write_of};
@@ -7,10 +8,10 @@ ghost use Rattle.lst_replies.specs.States.{state_of, after_call, sight_of};
 ghost use Rattle.lst_replies.specs.Explained.{ReadIsAnswered, WriteIsAnswered};
 ghost use Rattle.lst_replies.specs.Legal.{AtEachWrite};
 ghost use Rattle.lst_legal_runs.specs.Outlines.{outline_of, outline_of_open};
-ghost use Rattle.lst_legal_runs.specs.Places.{AreTraced, AreWithin, outline_at, run_at, seen_at};
+ghost use Rattle.lst_legal_runs.specs.Places.{AreTraced, AreWithin, IfCall, outline_at, run_at, seen_at};
 ghost use Rattle.lst_replies.specs.Seen.{seen as seen_answer};
 ghost use Rattle.lst_snapshots.specs.Sights.{seen};
-ghost use Rattle.lst_legal.specs.Sights.{IsSightOf, AreSights, TellsSeen};
+ghost use Rattle.lst_legal.specs.Sights.{ShowsAt, from_begin, IsSightOf, AreSights, begun_time, Opens, TellsSeen};
 
 use crate::reads::{is_not_indexed_reply, tells_sight};
 use crate::writes::is_write_answered;
@@ -48,19 +49,34 @@ fn are_told_with(
 ) -> Result<bool, OutOfMemory>
     requires within { AreWithin (length sights.old) (run_at places.now) }
     requires traced { AreTraced places.now }
-    requires opening { AreSights snapshots.now sights.old [] }
+    requires opening { AreSights snapshots.now (λ session. from_begin) sights.old [] }
     ensures { IfOk result (λ b. IsTrue b ↔ (AtEachCall (λ before session call reply. ReadIsAnswered limits.now snapshots.now (state_of session before).current call reply) (run_at places.now) × AtEachWrite (λ before session transaction write reply. WriteIsAnswered snapshots.now transaction write reply) (run_at places.now))) }
 {
     for place in places {
         if !tells_seen(limits, snapshots, sights, place) {
             return Ok(false);
         }
-        pass(alloc, snapshots, sights, &place.answer)?;
+        let opening = begun_time(&place.answer);
+        pass(alloc, snapshots, sights, opening, &place.answer)?;
     }
     Ok(true)
 }
 
-fn no_sights(alloc: Global, sessions: u32) -> Result<Vec<Option<Sight>>, OutOfMemory>
+/// The begin that the reply to a call tells.
+fn begun_time(answer: &Answer) -> Option<Time>
+    ensures { IfCall (λ session call reply. result ≡ begun_time reply) (seen_answer answer.now).line (seen_answer answer.now).reply }
+{
+    match answer {
+        Answer::Call {
+            reply: Reply::Begun { time },
+            ..
+        } => Some(*time),
+        _ => None,
+    }
+}
+
+/// By session: nothing is looked at yet.
+pub(crate) fn no_sights(alloc: Global, sessions: u32) -> Result<Vec<Option<Sight>>, OutOfMemory>
     ensures { IfOk result (λ sights. sights.items ≡ replicate sessions None) }
 {
     let mut sights = Vec::new(alloc);
@@ -72,7 +88,7 @@ fn no_sights(alloc: Global, sessions: u32) -> Result<Vec<Option<Sight>>, OutOfMe
 
 fn tells_seen(limits: &Limits, snapshots: &Swept, sights: &[Option<Sight>], place: &Place) -> bool
     requires { IfSome (speaker_of (seen_at place.now).line) (λ session. session < length sights.now) }
-    ensures { (before : List Answered) → AreSights snapshots.now sights.now before → place.now.outline ≡ outline_at before (speaker_of (seen_at place.now).line) → (IsTrue result ↔ TellsSeen limits.now snapshots.now before (seen_at place.now)) }
+    ensures { (before : List Answered) → AreSights snapshots.now (λ session. from_begin) sights.now before → place.now.outline ≡ outline_at before (speaker_of (seen_at place.now).line) → (IsTrue result ↔ TellsSeen limits.now snapshots.now before (seen_at place.now)) }
 {
     match place.answer {
         Answer::Phase => true,
@@ -100,7 +116,7 @@ fn tells_call(
     call: &Call,
     reply: &Reply,
 ) -> bool
-    ensures { (state : SessionState) → IsSightOf snapshots.now sight.now state → current.now ≡ (outline_of state).current → (IsTrue result ↔ (ReadIsAnswered limits.now snapshots.now state.current call.now reply.now × IfSome state.current (λ transaction. IfSome (write_of call.now) (λ write. WriteIsAnswered snapshots.now transaction write reply.now)))) }
+    ensures { (state : SessionState) → IsSightOf snapshots.now from_begin sight.now state → current.now ≡ (outline_of state).current → (IsTrue result ↔ (ReadIsAnswered limits.now snapshots.now state.current call.now reply.now × IfSome state.current (λ transaction. IfSome (write_of call.now) (λ write. WriteIsAnswered snapshots.now transaction write reply.now)))) }
 {
     let Some(current) = current else {
         return !is_not_indexed_reply(reply);
@@ -131,15 +147,16 @@ fn is_open_answered(
     is_write_answered(snapshots.snapshots(), sight, begin, call, reply)
 }
 
-/// Passes a line by.
-fn pass(
+/// Passes a line by. Where it begins a transaction, that is looked at as of this time, or not at all.
+pub(crate) fn pass(
     alloc: Global,
     snapshots: &Swept,
     sights: &mut [Option<Sight>],
+    opening: Option<Time>,
     answer: &Answer,
 ) -> Result<(), OutOfMemory>
     requires { IfSome (speaker_of (seen_answer answer.now).line) (λ session. session < length sights.old) }
-    ensures { OnOk result ((front : List Answered) → AreSights snapshots.now sights.old front → AreSights snapshots.now sights.new (front ++ seen_answer answer.now ∷ [])) }
+    ensures { OnOk result ((at : ℕ → ℕ → ℕ → Option ℕ) (front : List Answered) → IfCall (λ session call reply. Opens (at session) (state_of session front) reply opening) (seen_answer answer.now).line (seen_answer answer.now).reply → AreSights snapshots.now at sights.old front → AreSights snapshots.now at sights.new (front ++ seen_answer answer.now ∷ [])) }
 {
     match answer {
         Answer::Phase => Ok(()),
@@ -153,6 +170,7 @@ fn pass(
                 alloc,
                 snapshots,
                 &mut sights[*session as usize],
+                opening,
                 call,
                 reply,
             )?;
@@ -166,14 +184,15 @@ fn pass_call(
     alloc: Global,
     snapshots: &Swept,
     sight: &mut Option<Sight>,
+    opening: Option<Time>,
     call: &Call,
     reply: &Reply,
 ) -> Result<(), OutOfMemory>
-    ensures { OnOk result ((state : SessionState) → IsSightOf snapshots.now sight.old state → IsSightOf snapshots.now sight.new (after_call call.now reply.now state)) }
+    ensures { OnOk result ((at : ℕ → ℕ → Option ℕ) (state : SessionState) → Opens at state reply.now opening → IsSightOf snapshots.now at sight.old state → IsSightOf snapshots.now at sight.new (after_call call.now reply.now state)) }
 {
     match reply {
-        Reply::Begun { time } => {
-            *sight = Some(Sight::new(alloc, *time));
+        Reply::Begun { .. } => {
+            *sight = opened(alloc, opening);
             Ok(())
         }
         Reply::Done => {
@@ -187,5 +206,15 @@ fn pass_call(
             Ok(())
         }
         _ => Ok(()),
+    }
+}
+
+/// What a transaction without writes sees as of a time.
+fn opened(alloc: Global, time: Option<Time>) -> Option<Sight>
+    ensures { (history : List Commit) → ShowsAt history result [] time }
+{
+    match time {
+        Some(time) => Some(Sight::new(alloc, time)),
+        None => None,
     }
 }

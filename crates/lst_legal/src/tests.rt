@@ -11,7 +11,7 @@ use std::process::Abort;
 use std::test::Fail;
 
 /// The limits of all rows but those that name their own.
-const USUAL: Limits = Limits {
+pub(crate) const USUAL: Limits = Limits {
     columns: 2,
     ranges: 4,
     tails: 4096,
@@ -22,7 +22,7 @@ const USUAL: Limits = Limits {
 };
 
 /// The lines of a text. What no script has yet, merges and a null, is read here.
-fn read_lines(alloc: Global, limits: &Limits, text: &str) -> Result<Vec<Line>, Fail> {
+pub(crate) fn read_lines(alloc: Global, limits: &Limits, text: &str) -> Result<Vec<Line>, Fail> {
     let mut lines = Vec::new(alloc);
     for line in text.lines() {
         if line == "phase" {

@@ -23,8 +23,8 @@ pub(crate) fn first_writes(alloc: Global, history: &[Commit]) -> Result<Marks, O
     Ok(marks)
 }
 
-/// By session and number: the time of the first commit of this name.
-pub(crate) fn first_numbers(alloc: Global, history: &[Commit]) -> Result<Marks, OutOfMemory>
+/// By session and number: the time of the first commit of this name, or 0 where there is none.
+pub fn first_numbers(alloc: Global, history: &[Commit]) -> Result<Marks, OutOfMemory>
     ensures { IfOk result (λ marks. AreFirstNumbers marks history.now) }
 {
     let mut marks = Marks::new(alloc);

@@ -8,7 +8,7 @@ use std::collections::BTreeMap;
 
 /// A number by three numbers: 0 where nothing was set.
 #[derive(Drop)]
-pub(crate) struct Marks {
+pub struct Marks {
     numbers: BTreeMap<(u64, u64, u64), u64>,
 }
 

@@ -5,8 +5,8 @@ use Rattle.lst_legal_runs.proofs.Deciding.{is_false, passes, refuses}
 use Rattle.lst_legal_runs.proofs.Splits.{so_far_step, so_far_wrong}
 use Rattle.lst_legal_runs.proofs.Placing.{run_more, traced_read}
 use Rattle.lst_legal_runs.proofs.Stepping.{speaker_within}
-use Rattle.lst_legal.specs.Sights.{AreSights, TellsSeen}
-use Rattle.lst_legal.proofs.Sighting.{of_both}
+use Rattle.lst_legal.specs.Sights.{from_begin, AreSights, TellsSeen}
+use Rattle.lst_legal.proofs.Sighting.{of_both, from_begin_passes}
 use Rattle.lst_legal.proofs.sights.are_told_with.Goals as goal
 
 pub tells_seen-requires : goal.tells_seen-requires
@@ -38,6 +38,7 @@ loop-place-preserved c =
           (passes c.tells_seen.result c.if-not-tells_seen.false (c.tells_seen.ensures (run_at (take i places)) c.loop-place.invariant.1.are (traced_read places i place c.loop-place-test.true c.place-item.is c.requires.traced))),
       record {
         all = c.pass.auto.sights ∙ c.loop-place.invariant.1.all;
-        are = subst (AreSights c.args.snapshots.now c.pass.new.sights) (sym (run_more places i place c.loop-place-test.true c.place-item.is)) (c.in_ok-pass.ensures (run_at (take i places)) c.loop-place.invariant.1.are);
+        are = subst (AreSights c.args.snapshots.now (λ session. from_begin) c.pass.new.sights) (sym (run_more places i place c.loop-place-test.true c.place-item.is))
+            (c.in_ok-pass.ensures (λ session. from_begin) (run_at (take i places)) (from_begin_passes (run_at (take i places)) (seen_at place) c.begun_time-opening.result c.begun_time-opening.ensures) c.loop-place.invariant.1.are);
       },
     )

@@ -9,8 +9,8 @@ use Rattle.lst_legal_runs.specs.Places.{AreWithin, run_at}
 use Rattle.lst_legal_runs.specs.Gathering.{CommitsNothing}
 use Rattle.lst_legal_runs.proofs.Deciding.{passes}
 use Rattle.lst_legal.proofs.Shaped.{commits_of_calls, within_lines}
-use Rattle.lst_legal.proofs.Composed.{legal_is}
-use Rattle.lst_legal.proofs.judging.legal.Goals as goal
+use Rattle.lst_legal.proofs.Composed.{legal_at_is}
+use Rattle.lst_legal.proofs.judging.legal_at.Goals as goal
 
 pub trace-requires : goal.trace-requires
 trace-requires c =
@@ -38,5 +38,5 @@ returns c =
     let same : run_at c.deref-2.result.now ≡ run_of c.args.lines.now c.args.report.now.replies =
     ap run_at c.deref-2.ensures.value ∙ c.in_ok-places.ensures.run ∙ ap seen_all c.deref.ensures.value ∙ c.in_ok-run.ensures ∙ ap (run_of c.args.lines.now) c.items-2.ensures in
     let shape = subst (HaveReplyShape c.args.lines.now) c.items.ensures (passes c.has_reply_shape.result c.if-not-has_reply_shape.false c.has_reply_shape.ensures) in
-    legal_is c.in_ok-judged.judged c.args.limits.now c.args.lines.now c.args.report.now (run_at c.deref-2.result.now) shape same
-    (subst (λ (stamps : List Stamp). IsTrue c.in_ok-judged.judged ↔ IsJudged c.args.limits.now (run_at c.deref-2.result.now) stamps) c.items-3.ensures c.in_ok-judged.ensures)
+    legal_at_is c.in_ok-judged.judged c.args.limits.now c.args.lines.now c.args.report.now (run_at c.deref-2.result.now) c.args.level shape same
+    (subst (λ (stamps : List Stamp). IsTrue c.in_ok-judged.judged ↔ IsJudged c.args.level c.args.limits.now (run_at c.deref-2.result.now) stamps) c.items-3.ensures c.in_ok-judged.ensures)

@@ -1,0 +1,176 @@
+-- What the lines since a begin have read, one more line at a time.
+use Rattle.std.proofs.Common.{◌≡◌, ◌↔◌, ℕ, ◌<◌, ◌≤◌, ◌⊎◌, inl, inr, ⊎_elim, Bool, true, false, cond, ◌||◌, eqb, IsTrue, List, [], ◌∷◌, ◌++◌, length, get_or, set, Option, Some, None, IfSome, option_map, refl, sym, ap, ◌∙◌, subst}
+use Rattle.std.specs.Prelude.{IsSomeAnd}
+use Rattle.std.specs.List.{list_any, filter_map, cons_option, fold}
+use Rattle.std.proofs.lemmas.Bool.{eqb-true, eqb-false, eq-eqb}
+use Rattle.std.proofs.lemmas.List.{get_or-set_same, get_or-set_other, length-set}
+use Rattle.std.proofs.lemmas.List.Sums.{fold-append}
+use Rattle.std.proofs.lemmas.List.Elements.{filter_map-append}
+use Rattle.std.proofs.lemmas.List.Folds.{list_any-append}
+use Rattle.std.proofs.lemmas.Option.{same_Some, none-some}
+use Rattle.lst_model.specs.declared.commits.Commit.{Commit}
+use Rattle.lst_model.specs.declared.lines.Line.TheVariants.{Phase, Merge, Call}
+use Rattle.lst_model.specs.declared.lines.Call.{Call as CallKind}
+use Rattle.lst_model.specs.declared.replies.Reply.{Reply}
+use Rattle.lst_replies.specs.declared.states.Transaction.{Transaction}
+use Rattle.lst_replies.specs.Runs.{Answered, answered, names, is_by, is_begun}
+use Rattle.lst_replies.specs.Explained.{commit_at, has_write_on}
+use Rattle.lst_replies.specs.Levels.{stale_time}
+use Rattle.lst_legal_runs.specs.declared.outlines.OpenOutline.{OpenOutline}
+use Rattle.lst_legal_runs.specs.Outlines.{outline_of_open}
+use Rattle.lst_legal.specs.declared.stales.Reads.{Reads}
+use Rattle.lst_legal.specs.Serial.{lines_since_begin, key_of_call, key_named, reads_table, HasWrittenNamed, MayBeStale, StaleIsExplained}
+use Rattle.lst_legal.specs.Serials.{has_written, AreReadsOf, AreReads}
+
+-- ---- one line more
+
+since_push : (session : ℕ) (front : List Answered) (one : Answered) → lines_since_begin session (front ++ one ∷ []) ≡ cond (is_by session one) (cond (is_begun one.reply) [] (lines_since_begin session front ++ one ∷ [])) (lines_since_begin session front)
+since_push session front one = fold-append (λ (lines : List Answered) (one : Answered). cond (is_by session one) (cond (is_begun one.reply) [] (lines ++ one ∷ [])) lines) [] front (one ∷ [])
+
+module _ (reads : List Reads) (front : List Answered) (reply : Reply) where
+  pub reads_phase : AreReads reads front → AreReads reads (front ++ answered Phase reply ∷ [])
+  reads_phase are session none below = subst (AreReadsOf (get_or reads session none)) (sym (since_push session front (answered Phase reply))) (are session none below)
+
+  pub reads_merge : (range column : ℕ) → AreReads reads front → AreReads reads (front ++ answered (Merge range column) reply ∷ [])
+  reads_merge range column are session none below = subst (AreReadsOf (get_or reads session none)) (sym (since_push session front (answered (Merge range column) reply))) (are session none below)
+
+  pub reads_call : (speaker : ℕ) (call : CallKind) (next : Reads) → speaker < length reads
+      → (AreReadsOf (get_or reads speaker next) (lines_since_begin speaker front) → AreReadsOf next (cond (is_begun reply) [] (lines_since_begin speaker front ++ answered (Call speaker call) reply ∷ [])))
+      → AreReads reads front → AreReads (set reads speaker next) (front ++ answered (Call speaker call) reply ∷ [])
+  reads_call speaker call next within step are session none below =
+      subst (AreReadsOf (get_or (set reads speaker next) session none)) (sym (since_push session front (answered (Call speaker call) reply))) (by_test (eqb speaker session) refl)
+    where
+      by_test : (b : Bool) → eqb speaker session ≡ b → AreReadsOf (get_or (set reads speaker next) session none) (cond b (cond (is_begun reply) [] (lines_since_begin session front ++ answered (Call speaker call) reply ∷ [])) (lines_since_begin session front))
+      by_test true same =
+          let is : speaker ≡ session = eqb-true speaker session same in
+          subst (λ (s : ℕ). AreReadsOf (get_or (set reads speaker next) s none) (cond (is_begun reply) [] (lines_since_begin s front ++ answered (Call speaker call) reply ∷ []))) is
+          (subst (λ (r : Reads). AreReadsOf r (cond (is_begun reply) [] (lines_since_begin speaker front ++ answered (Call speaker call) reply ∷ []))) (sym (get_or-set_same reads speaker next none within)) (step (are speaker next within)))
+      by_test false other =
+          subst (λ (r : Reads). AreReadsOf r (lines_since_begin session front)) (sym (get_or-set_other reads speaker session next none (λ h. eqb-false speaker session other (sym h))))
+          (are session none (subst (λ (n : ℕ). session < n) (length-set reads speaker next) below))
+
+-- ---- one session's
+
+module _ (old new : Reads) (session : ℕ) (call : CallKind) (reply : Reply) (front : List Answered) where
+  pub reads_none : is_begun reply ≡ true → new.keys.items ≡ [] → new.whole ≡ false → AreReadsOf new (cond (is_begun reply) [] (front ++ answered (Call session call) reply ∷ []))
+  reads_none begun keys whole = subst (λ b. AreReadsOf new (cond b [] (front ++ answered (Call session call) reply ∷ []))) (sym begun) (record { keys = keys; whole = whole })
+
+  pub reads_more : (key : Option ℕ) → is_begun reply ≡ false → key ≡ key_of_call call → new.keys.items ≡ old.keys.items ++ filter_map (λ (k : Option ℕ). k) (key ∷ []) → new.whole ≡ (old.whole || reads_table reply)
+      → AreReadsOf old front → AreReadsOf new (cond (is_begun reply) [] (front ++ answered (Call session call) reply ∷ []))
+  reads_more key begun is keys whole are =
+      subst (λ b. AreReadsOf new (cond b [] (front ++ answered (Call session call) reply ∷ []))) (sym begun) (record {
+        keys = keys ∙ ap (λ (o : Option ℕ). old.keys.items ++ filter_map (λ (k : Option ℕ). k) (o ∷ [])) is ∙ ap (λ xs. xs ++ filter_map (λ (k : Option ℕ). k) (key_of_call call ∷ [])) are.keys
+            ∙ sym (filter_map-append (λ (o : Answered). key_named o.line) front (answered (Call session call) reply ∷ []));
+        whole = whole ∙ ap (λ b. b || reads_table reply) are.whole ∙ ap (λ b. list_any (λ (o : Answered). reads_table o.reply) front || b) (sym (or_false (reads_table reply)))
+            ∙ sym (list_any-append (λ (o : Answered). reads_table o.reply) front (answered (Call session call) reply ∷ []));
+      })
+    where
+      or_false : (b : Bool) → (b || false) ≡ b
+      or_false true = refl
+      or_false false = refl
+
+-- ---- a stale commit
+
+pub has_written_is : (b : Bool) (key : ℕ) (commit : Option Commit) → IsTrue b ↔ IsSomeAnd commit (λ c. IsTrue (has_write_on key c)) → b ≡ has_written commit key
+has_written_is true key None decides = absurd (decides.0 refl)
+has_written_is false key None decides = refl
+has_written_is true key (Some commit) decides = sym (decides.0 refl)
+has_written_is false key (Some commit) decides = by_test (has_write_on key commit) refl
+  where
+    by_test : (b : Bool) → has_write_on key commit ≡ b → false ≡ has_write_on key commit
+    by_test true is = decides.1 is ∙ sym is
+    by_test false is = sym is
+
+wrote : (commit : Option Commit) (key : ℕ) → has_written commit key ≡ true ↔ IsSomeAnd commit (λ c. IsTrue (has_write_on key c))
+wrote None key = ((λ e. absurd (cc)), (λ h. absurd h))
+wrote (Some commit) key = ((λ e. e), (λ h. h))
+
+-- a key that is named and passes a test
+record Named (test : ℕ → Bool) (lines : List Answered) : Type 0 where
+  pub key : ℕ
+  pub named : list_any (λ (one : Answered). names key (key_named one.line)) lines ≡ true
+  pub passes : test key ≡ true
+
+or_left : (b c : Bool) → b ≡ true → (b || c) ≡ true
+or_left true c e = refl
+or_left false c e = absurd (cc)
+
+or_right : (b c : Bool) → c ≡ true → (b || c) ≡ true
+or_right true c e = refl
+or_right false c e = e
+
+any_named : (test : ℕ → Bool) (lines : List Answered) → list_any test (filter_map (λ (one : Answered). key_named one.line) lines) ≡ true → Named test lines
+any_named test [] any = absurd (cc)
+any_named test (line ∷ lines) any = by_key (key_named line.line) refl any (λ later. any_named test lines later)
+  where
+    more : Named test lines → Named test (line ∷ lines)
+    more rest = record { key = rest.key; named = or_right (names rest.key (key_named line.line)) (list_any (λ (one : Answered). names rest.key (key_named one.line)) lines) rest.named; passes = rest.passes }
+
+    by_test : (key : ℕ) (b : Bool) → key_named line.line ≡ Some key → test key ≡ b → (b || list_any test (filter_map (λ (one : Answered). key_named one.line) lines)) ≡ true
+        → (list_any test (filter_map (λ (one : Answered). key_named one.line) lines) ≡ true → Named test lines) → Named test (line ∷ lines)
+    by_test key true is passes any behind = record {
+      key = key;
+      named = or_left (names key (key_named line.line)) (list_any (λ (one : Answered). names key (key_named one.line)) lines) (ap (names key) is ∙ eq-eqb key key refl);
+      passes = passes;
+    }
+    by_test key false is passes any behind = more (behind any)
+
+    by_key : (key : Option ℕ) → key_named line.line ≡ key → list_any test (cons_option key (filter_map (λ (one : Answered). key_named one.line) lines)) ≡ true
+        → (list_any test (filter_map (λ (one : Answered). key_named one.line) lines) ≡ true → Named test lines) → Named test (line ∷ lines)
+    by_key None is any behind = more (behind any)
+    by_key (Some key) is any behind = by_test key (test key) is refl any behind
+
+named_any : (test : ℕ → Bool) (key : ℕ) → test key ≡ true → (lines : List Answered) → list_any (λ (one : Answered). names key (key_named one.line)) lines ≡ true → list_any test (filter_map (λ (one : Answered). key_named one.line) lines) ≡ true
+named_any test key passes [] named = absurd (cc)
+named_any test key passes (line ∷ lines) named = by_key (key_named line.line) named (λ later. named_any test key passes lines later)
+  where
+    by_test : (other : ℕ) (b : Bool) → eqb other key ≡ b → (b || list_any (λ (one : Answered). names key (key_named one.line)) lines) ≡ true → (list_any (λ (one : Answered). names key (key_named one.line)) lines ≡ true → list_any test (filter_map (λ (one : Answered). key_named one.line) lines) ≡ true) → (test other || list_any test (filter_map (λ (one : Answered). key_named one.line) lines)) ≡ true
+    by_test other true same named behind = or_left (test other) (list_any test (filter_map (λ (one : Answered). key_named one.line) lines)) (ap test (eqb-true other key same) ∙ passes)
+    by_test other false same named behind = or_right (test other) (list_any test (filter_map (λ (one : Answered). key_named one.line) lines)) (behind named)
+
+    by_key : (o : Option ℕ) → (names key o || list_any (λ (one : Answered). names key (key_named one.line)) lines) ≡ true → (list_any (λ (one : Answered). names key (key_named one.line)) lines ≡ true → list_any test (filter_map (λ (one : Answered). key_named one.line) lines) ≡ true) → list_any test (cons_option o (filter_map (λ (one : Answered). key_named one.line) lines)) ≡ true
+    by_key None named behind = behind named
+    by_key (Some other) named behind = by_test other (eqb other key) refl named behind
+
+module _ (history : List Commit) (begin time : ℕ) (lines : List Answered) (reads : Reads) (are : AreReadsOf reads lines) where
+  read_is : (reads.whole || list_any (has_written (commit_at history time)) reads.keys.items) ≡ true ↔ (IsTrue (list_any (λ (one : Answered). reads_table one.reply) lines) ⊎ HasWrittenNamed history time lines)
+  read_is = (
+    (λ e. by_whole reads.whole refl e),
+    (λ h. ⊎_elim
+        (λ whole. or_left reads.whole (list_any (has_written (commit_at history time)) reads.keys.items) (are.whole ∙ whole))
+        (λ named. or_right reads.whole (list_any (has_written (commit_at history time)) reads.keys.items)
+        (ap (list_any (has_written (commit_at history time))) are.keys ∙ named_any (has_written (commit_at history time)) named.key ((wrote (commit_at history time) named.key).1 named.wrote) lines named.named))
+        h),
+  )
+    where
+      by_whole : (b : Bool) → reads.whole ≡ b → (b || list_any (has_written (commit_at history time)) reads.keys.items) ≡ true → IsTrue (list_any (λ (one : Answered). reads_table one.reply) lines) ⊎ HasWrittenNamed history time lines
+      by_whole true is e = inl (sym are.whole ∙ is)
+      by_whole false is e =
+          let found = any_named (has_written (commit_at history time)) lines (ap (list_any (has_written (commit_at history time))) (sym are.keys) ∙ e) in
+          inr (record { key = found.key; named = found.named; wrote = (wrote (commit_at history time) found.key).0 found.passes })
+
+  pub may_be_stale : (b : Bool) → begin < time → time ≤ length history → b ≡ (reads.whole || list_any (has_written (commit_at history time)) reads.keys.items) → IsTrue b ↔ MayBeStale history begin time lines
+  may_be_stale b later past is = (
+    (λ sure. record { later = later; past = past; read = read_is.0 (sym is ∙ sure) }),
+    (λ may. is ∙ read_is.1 may.read),
+  )
+
+-- ---- at an open transaction
+
+pub at_stale : (b : Bool) (history : List Commit) (before : List Answered) (session : ℕ) (current : Option Transaction) (outline : OpenOutline) (reply : Reply) (time : ℕ)
+    → Some outline ≡ option_map outline_of_open current → stale_time reply ≡ Some time → IsTrue b ↔ MayBeStale history outline.begin time (lines_since_begin session before)
+    → IsTrue b ↔ StaleIsExplained history before session current reply
+at_stale b history before session None outline reply time opened told decides = absurd (none-some outline (sym opened))
+at_stale b history before session (Some transaction) outline reply time opened told decides =
+    let same : outline ≡ outline_of_open transaction = same_Some outline (outline_of_open transaction) opened in
+    subst (λ (o : Option ℕ). IsTrue b ↔ IfSome o (λ time. MayBeStale history transaction.begin time (lines_since_begin session before))) (sym told)
+    (subst (λ (o : OpenOutline). IsTrue b ↔ MayBeStale history o.begin time (lines_since_begin session before)) same decides)
+
+pub not_stale : (history : List Commit) (before : List Answered) (session : ℕ) (current : Option Transaction) (reply : Reply) → stale_time reply ≡ None → StaleIsExplained history before session current reply
+not_stale history before session None reply told = tt
+not_stale history before session (Some transaction) reply told = subst (λ (o : Option ℕ). IfSome o (λ time. MayBeStale history transaction.begin time (lines_since_begin session before))) (sym told) tt
+
+-- what is kept behind the front of a run
+pub record Reading (sessions : ℕ) (reads : List Reads) (front : List Answered) : Type 0 where
+  pub all : length reads ≡ sessions
+  pub are : AreReads reads front

@@ -1,0 +1,20 @@
+use Rattle.std.proofs.Common.{◌↔◌, IsTrue, List, subst}
+use Rattle.lst_model.specs.declared.commits.Commit.{Commit}
+use Rattle.lst_replies.specs.Runs.{AtEachCall}
+use Rattle.lst_replies.specs.States.{state_of}
+use Rattle.lst_legal_runs.specs.Places.{run_at}
+use Rattle.lst_legal_runs.proofs.Deciding.{is_false, passes, refuses}
+use Rattle.lst_legal.specs.Serial.{StaleIsExplained}
+use Rattle.lst_legal.proofs.judging.follows_serial.Goals as goal
+
+pub returns-then-not-branch : goal.returns-then-not-branch
+returns-then-not-branch c =
+    let decides = subst (λ (history : List Commit). IsTrue c.in_ok-are_stales_explained.field-0 ↔ AtEachCall (λ before session call reply. StaleIsExplained history before session (state_of session before).current reply) (run_at c.args.places.now)) c.snapshots.ensures c.in_ok-are_stales_explained.ensures in
+    is_false (λ both. refuses c.in_ok-are_stales_explained.field-0 c.if-not-branch.true decides both.stales)
+
+pub returns : goal.returns
+returns c =
+    let decides = subst (λ (history : List Commit). IsTrue c.in_ok-are_stales_explained.field-0 ↔ AtEachCall (λ before session call reply. StaleIsExplained history before session (state_of session before).current reply) (run_at c.args.places.now)) c.snapshots.ensures c.in_ok-are_stales_explained.ensures in (
+      (λ sure. record { places = c.in_ok-placed.ensures.0 sure; stales = passes c.in_ok-are_stales_explained.field-0 c.if-not-branch.false decides }),
+      (λ both. c.in_ok-placed.ensures.1 both.places),
+    )

@@ -1,0 +1,7 @@
+use Rattle.std.proofs.Common.{◌≡◌, [], length}
+use Rattle.std.specs.List.{All}
+use Rattle.lst_legal.specs.Serials.{AreReadsOf}
+use Rattle.lst_legal.proofs.stales.no_reads.Given as goal
+
+abbrev pub invariant-loop : goal.invariant-loop
+invariant-loop l = (length l.reads.items ≡ l.counter) × All (λ r. AreReadsOf r []) l.reads.items
