@@ -230,19 +230,19 @@ calls_are_counted limits store s Abort known is = abort_counted limits store s k
 
 -- ---- room
 
-same_by : (s : ℕ) (H L : List Commit) → SameCommits H L → commits_by s H ≡ commits_by s L
+pub same_by : (s : ℕ) (H L : List Commit) → SameCommits H L → commits_by s H ≡ commits_by s L
 same_by s [] [] same = refl
 same_by s [] (d ∷ L) same = absurd same
 same_by s (c ∷ H) [] same = absurd same
 same_by s (c ∷ H) (d ∷ L) same = λ i. cond (same.0 i == s) 1 0 + same_by s H L same.2 i
 
-same_keys : (placed : List ℕ) (H L : List Commit) → SameCommits H L → placed_by_all placed H ≡ placed_by_all placed L
+pub same_keys : (placed : List ℕ) (H L : List Commit) → SameCommits H L → placed_by_all placed H ≡ placed_by_all placed L
 same_keys placed [] [] same = refl
 same_keys placed [] (d ∷ L) same = absurd same
 same_keys placed (c ∷ H) [] same = absurd same
 same_keys placed (c ∷ H) (d ∷ L) same = ap (λ (ws : List Write). placed_by_all (placed_by placed ws) H) same.1 ∙ same_keys (placed_by placed d.writes) H L same.2
 
-same_sessions : (n : ℕ) (H L : List Commit) → SameCommits H L → AllByRecursion (λ (c : Commit). c.session + 1 ≤ n) H → AllByRecursion (λ (c : Commit). c.session + 1 ≤ n) L
+pub same_sessions : (n : ℕ) (H L : List Commit) → SameCommits H L → AllByRecursion (λ (c : Commit). c.session + 1 ≤ n) H → AllByRecursion (λ (c : Commit). c.session + 1 ≤ n) L
 same_sessions n [] [] same all = tt
 same_sessions n [] (d ∷ L) same all = absurd same
 same_sessions n (c ∷ H) [] same all = absurd same

@@ -5,3 +5,4 @@ pub mod Steps
 pub mod Rooms
 pub mod Missing
 pub mod Counted
+pub mod Runs

@@ -1,4 +1,5 @@
 pub mod Again
 pub mod Rests
 pub mod Counts
+pub mod Runs
 pub mod Laws

@@ -1,5 +1,6 @@
 //! The laws. Each function is a law: its contract holds at all values, and its body does nothing.
 ghost use Rattle.lst_replay.specs.Laws.{OpeningRests, BeginsAgain, WritesAgain, CommitsAgain, RestsAgain, RestedHasRoom, RoomMeetsNone, AgainIsSame};
+ghost use Rattle.lst_replay.specs.Runs.{RecoveredRests, RoomRunsAgain, FullIsOne, FullIsNotRun, RoomGrows, SameTables, AgainAreSame, NumberedAreSame, SameHaveWrites, SameGrows, SameHaveRoom, AgainIsCounted};
 ghost use Rattle.lst_replay.specs.Counts.{OpeningIsCounted, CallsAreCounted, CountedHasRoom};
 
 use lst_snapshots::replayed_commit_may_follow;
@@ -32,4 +33,27 @@ pub fn stores_have_room()
     ensures opening { OpeningIsCounted }
     ensures calls { CallsAreCounted }
     ensures room { CountedHasRoom }
+{}
+
+/// A recovered history that is run again on a new store rests there, and can be where there is room for it. At most one commit of a list is the
+/// first that meets a limit, and none where all can be run again. Larger limits have room too.
+pub fn histories_run_again()
+    ensures rests { RecoveredRests }
+    ensures room { RoomRunsAgain }
+    ensures one { FullIsOne }
+    ensures none { FullIsNotRun }
+    ensures larger { RoomGrows }
+    ensures counted { AgainIsCounted }
+{
+    replayed_commit_may_follow();
+}
+
+/// What commits run again share with those that they were: sessions, writes, and the table at each time.
+pub fn same_commits_stay_same()
+    ensures again { AgainAreSame }
+    ensures numbered { NumberedAreSame }
+    ensures writes { SameHaveWrites }
+    ensures grows { SameGrows }
+    ensures tables { SameTables }
+    ensures room { SameHaveRoom }
 {}

@@ -7,4 +7,7 @@
 
 mod laws;
 
-pub use laws::{commits_run_again, room_meets_no_limit, stores_have_room};
+pub use laws::{
+    commits_run_again, histories_run_again, room_meets_no_limit, same_commits_stay_same,
+    stores_have_room,
+};

@@ -1,0 +1,92 @@
+-- A journal that was opened: the commits of its records are run again.
+use Rattle.std.proofs.Common.{◌≡◌, ℕ, suc, ◌<◌, Bool, List, [], ◌∷◌, length, refl, sym, ap, ◌∙◌, subst, arith}
+use Rattle.std.specs.List.{AllByRecursion}
+use Rattle.lst_layout.specs.declared.limits.Limits.{Limits}
+use Rattle.lst_model.specs.declared.acts.Act.{Act}
+use Rattle.lst_model.specs.declared.acts.Act.TheVariants.{Put, Set, Del}
+use Rattle.lst_model.specs.declared.acts.Write.{Write}
+use Rattle.lst_model.specs.declared.commits.Commit.{Commit}
+use Rattle.lst_model.specs.Lines.{CallFits}
+use Rattle.lst_snapshots.specs.Replays.{numbered_at, numbered_from, IsRecovered}
+use Rattle.lst_replay.specs.Again.{call_of}
+use Rattle.lst_replay.specs.Counts.{SameCommits}
+use Rattle.lst_replay.specs.Rests.{HasRoomFor}
+use Rattle.lst_replay.specs.Runs.{HasWrites, IsFullAt}
+use Rattle.lst_replay.proofs.Runs.{again_are_same, numbered_are_same, same_have_room}
+use Rattle.lst_redo.specs.Format.{FitsTable, IsWrite, HasRecord}
+use Rattle.lst_redo.specs.Journals.{StandsFor, HasOneList}
+use Rattle.lst_redo.specs.Logs.{Keeps}
+use Rattle.lst_redo.specs.declared.log.Log.{Log}
+use Rattle.lst_recovery.specs.Recoveries.{HasRunAgain}
+use Rattle.lst_rule.specs.declared.store.Store.{Store as Table}
+use Rattle.lst_session.specs.declared.crew.Crew.{Crew}
+use Rattle.lst_journal.specs.Openings.{HasOpened, IsTooFull}
+
+-- ---- the commits of records can be run again
+
+fits_call : (columns : ℕ) (key : ℕ) (act : Act) → FitsTable columns act → CallFits columns (call_of (record { key = key; act = act }))
+fits_call columns key (Put row) fits = fits.0
+fits_call columns key (Set patch) fits = fits.0
+fits_call columns key Del fits = tt
+
+fit_calls : (columns : ℕ) (ws : List Write) → AllByRecursion (IsWrite columns) ws → AllByRecursion (λ (w : Write). CallFits columns (call_of w)) ws
+fit_calls columns [] all = tt
+fit_calls columns (w ∷ ws) all = (fits_call columns w.key w.act all.0.act, fit_calls columns ws all.1)
+
+some_writes : (ws : List Write) → 0 < length ws → ws ≡ [] → ⊥
+some_writes ws some none = let long = ap length none in omega (arith, some, long)
+
+have_writes : (columns : ℕ) (time : ℕ) (cs : List Commit) → AllByRecursion (HasRecord columns) cs → AllByRecursion (HasWrites columns) (numbered_from time cs)
+have_writes columns time [] all = tt
+have_writes columns time (c ∷ cs) all = (record { order = all.0.order; some = some_writes c.writes all.0.some; fit = fit_calls columns c.writes all.0.writes }, have_writes columns (suc time) cs all.1)
+
+-- numbering them again changes nothing
+numbered_again : (time : ℕ) (cs : List Commit) → numbered_from time (numbered_from time cs) ≡ numbered_from time cs
+numbered_again time [] = refl
+numbered_again time (c ∷ cs) = ap (λ (ds : List Commit). numbered_at time c ∷ ds) (numbered_again (suc time) cs)
+
+recovered_again : (cs : List Commit) → IsRecovered cs → IsRecovered (numbered_from 1 cs)
+recovered_again cs recovered front c rest split = recovered front c rest (sym (numbered_again 1 cs) ∙ split)
+
+-- ---- what was read of a disk, with its log
+
+module _ {D : Type 0} (content : D → List ℕ) (images : D → List ℕ → Type 0) (limits : Limits) (old : D) (log : Log D) (read : List Commit)
+    (found : (commits : List Commit) × StandsFor limits.columns (content old) commits × Keeps content images commits log × (read ≡ numbered_from 1 commits)) where
+  pub is_recovered : IsRecovered read
+  is_recovered = subst (λ (cs : List Commit). IsRecovered cs) (sym found.3) (recovered_again found.0 found.1.recovered)
+
+  pub has_writes : AllByRecursion (HasWrites limits.columns) read
+  has_writes = subst (λ (cs : List Commit). AllByRecursion (HasWrites limits.columns) cs) (sym found.3) (have_writes limits.columns 1 found.0 found.1.lists.each)
+
+  ran_of : (store : Table) (crew : Crew) → HasRunAgain store limits read crew → HasRunAgain store limits (numbered_from 1 found.0) crew
+  ran_of store crew ran = subst (λ (cs : List Commit). HasRunAgain store limits cs crew) found.3 ran
+
+  pub has_opened : (store : Table) (crew : Crew) (failed : Bool) → log.columns ≡ limits.columns → store.layout.limits ≡ limits → HasRunAgain store limits read crew
+      → (commits : List Commit) × HasOpened content images limits old commits (record { log = log; store = store; crew = crew; failed = failed })
+  has_opened store crew failed columns layout ran = (
+    found.0,
+    record {
+      stood = found.1;
+      journal = record {
+        keeps = found.2;
+        columns = columns ∙ ap (λ (l : Limits). l.columns) (sym layout);
+        crew_of = ran.crew_of;
+        tells = ran.tells;
+        same = subst (λ (h : List Commit). SameCommits h found.0) (sym (ran_of store crew ran).rested.history) (again_are_same found.0 1);
+      };
+      ran = ran_of store crew ran;
+    },
+  )
+
+  pub too_full : (time : ℕ) → IsFullAt limits read time → IsTooFull limits (content old) time
+  too_full time full = record {
+    commits = found.0;
+    stands = found.1;
+    full = subst (λ (cs : List Commit). IsFullAt limits cs time) found.3 full;
+  }
+
+  pub has_room : HasOneList → (commits : List Commit) → StandsFor limits.columns (content old) commits → HasRoomFor limits commits → HasRoomFor limits read
+  has_room one commits stands room =
+      subst (λ (cs : List Commit). HasRoomFor limits cs) (sym found.3)
+      (same_have_room limits found.0 (numbered_from 1 found.0) (numbered_are_same found.0 1)
+      (subst (λ (cs : List Commit). HasRoomFor limits cs) (one limits.columns (content old) commits found.0 stands found.1) room))

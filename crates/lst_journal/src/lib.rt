@@ -1,0 +1,13 @@
+//! A journal with its crew: a store that is recovered from a disk that a crash may have left, and the log of its commits.
+//!
+//! It makes the calls of a log of `lst_redo` and of a crew. Begin with `open_redo` in `opening.rt`, and with what an open journal stands for in
+//! `specs/Journals`.
+#![tactic(auto)]
+
+mod journal;
+mod opening;
+#[cfg(test)]
+mod tests;
+
+pub use journal::Redo;
+pub use opening::{OpenCause, OpenRefusal, open_redo};
