@@ -80,7 +80,7 @@ fn of_session(call: Call) -> Line
 /// its key and its cells, the empty one null.
 ///
 /// `Bad` comes exactly where some record is faulty. It has the place of the first such record, counted from 1, and what is wrong with it. A text
-/// without a record has a bad header. `OutOfMemory` comes only where a request for memory was refused.
+/// without a record has a bad header. `OutOfMemory` may be answered for any bytes, and says nothing of them.
 pub fn read_table(alloc: Global, bytes: &[u8], columns: u32) -> Result<NamedRows, TableRefusal>
     requires { columns ≤ 8 }
     ensures ok { IfOk result (λ table. IsTable columns (records_of bytes.now) table.names table.rows) }
