@@ -16,7 +16,8 @@ use Rattle.lst_session.specs.Passes.{IsReady}
 use Rattle.lst_session.specs.Calls.{Ends, OnlyLooks, FindsNoneFull, FindsHeld}
 use Rattle.lst_session.specs.Held.{HasSeenHistory, LooksStill, TakesTurn, CommitsNext}
 use Rattle.lst_session.proofs.Growing.{none_full_on}
-use Rattle.lst_serial.proofs.Looking.{looks_same, looks_on, still_same, still_on, same_commit, commits_after, takes_after, held_looks, fresh_still, found_after}
+use Rattle.lst_session.proofs.Waiting.{held_looks, same_commit, commits_after}
+use Rattle.lst_serial.proofs.Looking.{looks_same, looks_on, still_same, still_on, takes_after, fresh_still, found_after}
 use Rattle.lst_serial.specs.declared.keys.KeySet.{KeySet}
 use Rattle.lst_serial.specs.declared.kinds.SerialCommit.{SerialCommit}
 use Rattle.lst_serial.specs.declared.kinds.SerialEnd.{SerialEnd}

@@ -1,16 +1,13 @@
--- Calls that only look, one after the other, and before a commit.
-use Rattle.std.proofs.Common.{◌≡◌, ℕ, ◌<◌, List, ◌∷◌, [], ◌++◌, length, Contains, refl, sym, subst, ap, ◌∙◌, arith, append_assoc}
+-- Calls that only look, one after the other, and before a turn is taken.
+use Rattle.std.proofs.Common.{ℕ, List, ◌++◌, length, Contains, refl, sym, subst, ap, ◌∙◌, append_assoc}
 use Rattle.std.proofs.lemmas.List.Elements.{Contains-append_left, Contains-append_right}
-use Rattle.lst_model.specs.declared.acts.Write.{Write}
 use Rattle.lst_model.specs.declared.commits.Commit.{Commit}
-use Rattle.lst_core_state.specs.Writes.{commit}
 use Rattle.lst_core_state.specs.declared.facts.Find.{Find}
 use Rattle.lst_core_state.specs.declared.facts.Find.TheVariants.{FreshClock}
-use Rattle.lst_core_state.proofs.Histories.{starts_length}
 use Rattle.lst_rule.specs.declared.view.View.{View}
 use Rattle.lst_rule.specs.Rule.{knows}
 use Rattle.lst_write.specs.Standings.{FoundSince}
-use Rattle.lst_session.specs.Calls.{OnlyLooks, FindsNoneFull, FindsHeld, Commits}
+use Rattle.lst_session.specs.Calls.{OnlyLooks, FindsNoneFull}
 use Rattle.lst_session.specs.Held.{LooksStill, TakesTurn}
 use Rattle.lst_session.proofs.Growing.{work_on, pins_on, pins_stay, none_full_on, none_full_still}
 use Rattle.lst_session.proofs.Keeping.{called_same}
@@ -38,10 +35,6 @@ still_same v s = record { looks = looks_same v s; seen = refl; room = none_full_
 pub still_on : (u v w : View) (s : ℕ) → LooksStill u v s → LooksStill v w s → LooksStill u w s
 still_on u v w s a b = record { looks = looks_on u v w s a.looks b.looks; seen = b.seen ∙ a.seen; room = none_full_on u v w s a.room b.room }
 
--- a commit word that was found held was looked at
-pub held_looks : (v w : View) (s : ℕ) → FindsHeld v w s → OnlyLooks v w s
-held_looks v w s h = record { called = h.called; same = h.same; pins = h.pins; lists = h.lists }
-
 -- a find after calls that only look is one since before them
 pub found_after : (u v w : View) (s : ℕ) (find : Find) → OnlyLooks u v s → FoundSince v w s find → FoundSince u w s find
 found_after u v w s find a f = record {
@@ -51,32 +44,6 @@ found_after u v w s find a f = record {
 }
 
 module _ (u v w : View) (s : ℕ) (a : OnlyLooks u v s) (room : FindsNoneFull u v s) where
-  pub same_commit : commit s (knows v s).number (knows v s).begin (knows v s).own ≡ commit s (knows u s).number (knows u s).begin (knows u s).own
-  same_commit = λ i. commit s (a.same.transaction.number i) (a.same.transaction.begin i) (a.same.own i)
-
-  pub commits_after : (time : ℕ) → Commits v w s time → Commits u w s time
-  commits_after time b = record {
-    called = called_on u v w s a.called b.called;
-    lists = lists_on (knows u s) (knows v s) (knows w s) a.lists b.lists;
-    ended = record { number = b.ended.number ∙ a.same.transaction.number; is_open = b.ended.is_open };
-    unpinned = record { pins = b.unpinned.pins ∙ a.pins.pins; pin = b.unpinned.pin };
-    order = let o = b.order in record {
-      over = o.over;
-      called = called_on u v o.over s a.called o.called;
-      ended = record { number = o.ended.number ∙ a.same.transaction.number; is_open = o.ended.is_open };
-      pins = record { pins = o.pins.pins ∙ a.pins.pins; pin = o.pins.pin ∙ a.pins.pin };
-      unpins = o.unpins;
-    };
-    wrote = subst (λ (ws : List Write). 0 < length ws) a.same.own b.wrote;
-    own = b.own;
-    above = (let h = starts_length (knows v s).seen (knows u s).seen a.called.seen in let above = b.above in omega arith);
-    before = b.before;
-    place = b.place;
-    seen = b.seen ∙ ap (λ (c : Commit). b.before ++ c ∷ []) same_commit;
-    mine = b.mine ∙ λ i. a.same.mine i ++ same_commit i ∷ [];
-    room = none_full_on u v w s room b.room;
-  }
-
   pub takes_after : TakesTurn v w s → TakesTurn u w s
   takes_after t = record {
     looks = looks_on u v w s a t.looks;

@@ -15,7 +15,7 @@ use Rattle.lst_txn.specs.declared.ends.Idle.{Idle}
 use Rattle.lst_session.specs.declared.kinds.Outcome.{Outcome}
 use Rattle.lst_session.specs.declared.kinds.Outcome.TheVariants.{Committed, Ended}
 use Rattle.lst_session.specs.declared.session.Session.{Session}
-use Rattle.lst_session.specs.Calls.{Called, SameLists, Gets, FindsHeld, Commits}
+use Rattle.lst_session.specs.Calls.{Called, SameLists, Gets, OnlyLooks, FindsNoneFull, FindsHeld, Commits}
 use Rattle.lst_session.specs.Passes.{IsReady}
 use Rattle.lst_session.specs.Waits.{TriesInVain, Concludes, ConcludesAtLast, IsWaiting}
 use Rattle.lst_session.proofs.Growing.{none_full_on}
@@ -38,14 +38,18 @@ pub get_called : (v w : View) (s key : ℕ) (result : Result (Option (List Cell)
 get_called v w s key (Ok row) ok err = ok.1.called
 get_called v w s key (Err none) ok err = called_same v w s err.1
 
--- ---- a try in vain, and then the commit
+-- ---- calls that only look, and then the commit
 
-module _ (u v w : View) (s : ℕ) (a : FindsHeld u v s) where
-  same_commit : commit s (knows v s).number (knows v s).begin (knows v s).own ≡ commit s (knows u s).number (knows u s).begin (knows u s).own
+-- a commit word that was found held was looked at
+pub held_looks : (v w : View) (s : ℕ) → FindsHeld v w s → OnlyLooks v w s
+held_looks v w s h = record { called = h.called; same = h.same; pins = h.pins; lists = h.lists }
+
+module _ (u v w : View) (s : ℕ) (a : OnlyLooks u v s) (room : FindsNoneFull u v s) where
+  pub same_commit : commit s (knows v s).number (knows v s).begin (knows v s).own ≡ commit s (knows u s).number (knows u s).begin (knows u s).own
   same_commit = λ i. commit s (a.same.transaction.number i) (a.same.transaction.begin i) (a.same.own i)
 
-  commits_then : (time : ℕ) → Commits v w s time → Commits u w s time
-  commits_then time b = record {
+  pub commits_after : (time : ℕ) → Commits v w s time → Commits u w s time
+  commits_after time b = record {
     called = called_on u v w s a.called b.called;
     lists = lists_on (knows u s) (knows v s) (knows w s) a.lists b.lists;
     ended = record { number = b.ended.number ∙ a.same.transaction.number; is_open = b.ended.is_open };
@@ -57,14 +61,14 @@ module _ (u v w : View) (s : ℕ) (a : FindsHeld u v s) where
       pins = record { pins = o.pins.pins ∙ a.pins.pins; pin = o.pins.pin ∙ a.pins.pin };
       unpins = o.unpins;
     };
-    wrote = a.wrote;
+    wrote = subst (λ (ws : List Write). 0 < length ws) a.same.own b.wrote;
     own = b.own;
     above = (let h = starts_length (knows v s).seen (knows u s).seen a.called.seen in let above = b.above in omega arith);
     before = b.before;
     place = b.place;
     seen = b.seen ∙ ap (λ (c : Commit). b.before ++ c ∷ []) same_commit;
     mine = b.mine ∙ λ i. a.same.mine i ++ same_commit i ∷ [];
-    room = none_full_on u v w s a.room b.room;
+    room = none_full_on u v w s room b.room;
   }
 
 some_writes : (xs : List Write) → 0 < length xs → ¬ (xs ≡ [])
@@ -75,7 +79,7 @@ some_writes (x ∷ xs) some e = cc
 
 pub commits_at_last : (v m w : View) (s time n : ℕ) → TriesInVain v m s n → Commits m w s time → Commits v w s time
 commits_at_last v m w s time zero same c = subst (λ (x : View). Commits x w s time) same c
-commits_at_last v m w s time (suc n) t c = commits_at_last v t.0 w s time n t.1 (commits_then t.0 m w s t.2 time c)
+commits_at_last v m w s time (suc n) t c = commits_at_last v t.0 w s time n t.1 (commits_after t.0 m w s (held_looks t.0 m s t.2) t.2.room time c)
 
 -- without writes no try is in vain
 none_in_vain : (v m : View) (s n : ℕ) → TriesInVain v m s n → (knows m s).own ≡ [] → m ≡ v
