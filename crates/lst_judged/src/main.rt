@@ -1,4 +1,4 @@
-//! The program `lstore` once more, for a stored run that is refused.
+//! The program `lstore` once more, for a stored run with options: a report that isn't legal.
 #![tactic(auto)]
 
 use lst_command::program;
