@@ -4,6 +4,7 @@
 ghost use Rattle.std.specs.Prelude.{◌<◌, IfSome};
 
 mod engines;
+mod levels;
 mod making;
 mod packs;
 mod phases;
@@ -14,6 +15,7 @@ mod sums;
 mod works;
 
 use engines::engine;
+use levels::{course_of, levels};
 use lst_layout::{Layout, Limits};
 use lst_seat::open_store;
 use packs::{deed_of, packs};
@@ -68,6 +70,9 @@ fn answer<R: Threads + Wait + Sync + Clock>(
 ) -> Option<u64> {
     if let Some(task) = task_of(kind) {
         return works(rt, alloc, task, count).ok();
+    }
+    if let Some(course) = course_of(kind) {
+        return levels(alloc, course, count).ok();
     }
     match kind.split_once('_') {
         Some(("rows", forms)) => return gets(alloc, forms, true, count).ok(),

@@ -23,7 +23,7 @@ const LIMITS: Limits = Limits {
 };
 
 /// Puts a row of these numbers, in the open transaction of session 0, and answers whether it was put.
-fn put(store: &Store, crew: &mut Crew, key: Key, first: u64, second: u64) -> bool
+pub(crate) fn put(store: &Store, crew: &mut Crew, key: Key, first: u64, second: u64) -> bool
     requires { IsCrewOf store.now crew.old }
     ensures { IsCrewOf store.now crew.new }
 {
