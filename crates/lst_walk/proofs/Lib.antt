@@ -19,3 +19,4 @@ pub mod Rowing
 pub mod Straight
 pub mod Newest
 pub mod Masks
+pub mod Firsts

@@ -2,6 +2,7 @@
 ghost use Rattle.std.specs.Prelude.{◌≡◌, ℕ, ◌+◌, ◌*◌, ◌<◌, ◌≤◌, slice_index, true};
 ghost use Rattle.lst_layout.specs.declared.place.Place.TheVariants.{CellWord};
 ghost use Rattle.lst_layout.specs.Addresses.{address};
+ghost use Rattle.lst_layout.specs.Areas.{cell_words};
 ghost use Rattle.lst_core_state.specs.Cells.{act_with, nulls_of};
 ghost use Rattle.lst_rule.specs.Rule.{knows, hosts};
 ghost use Rattle.lst_rule.specs.Stores.{IsSeatOf};
@@ -13,10 +14,10 @@ ghost use Rattle.lst_rule.specs.TailLoads.{LoadsTail};
 ghost use Rattle.lst_walk.specs.Readers.{IsReader, IsAt, HasVersion, Resolves};
 ghost use Rattle.lst_walk.specs.Stamping.{sees_by, TimedAs};
 ghost use Rattle.lst_bits.specs.Encodings.{kind_code, encoding_of};
-ghost use Rattle.lst_model.specs.Cells.{cells_of};
+ghost use Rattle.lst_model.specs.Cells.{cell_of, cells_of};
 
 use crate::stamps::{is_seen_at, unstamped};
-use lst_bits::{Encoding, unpack_encoding};
+use lst_bits::{Encoding, has_column, unpack_encoding};
 use lst_rule::{Resolution, Seat, Store, load_cell_from, resolve_from, step_stamp, tail_of};
 
 /// The address of the first word of a range's tail record, which has this number from 1 on.
@@ -31,8 +32,38 @@ pub(crate) fn first_word(store: &Store, range: u32, number: u32) -> u64
         .cell_address(tail_of(store, range, number), 0)
 }
 
+/// What `first_word` answers, by the address of the first word of the range's first tail record, and by how many words each has.
+#[inline(always)]
+pub(crate) fn first_after(store: &Store, range: u32, number: u32, start: u64, words: u64) -> u64
+    requires range { range < store.now.layout.limits.ranges }
+    requires number { (0 < number) × (number ≤ store.now.layout.limits.tails) }
+    requires start { start ≡ address store.now.layout.limits (CellWord (range * store.now.layout.limits.tails + 1) 0) }
+    requires words { words ≡ cell_words store.now.layout.limits }
+    ensures { result ≡ address store.now.layout.limits (CellWord (range * store.now.layout.limits.tails + number) 0) }
+{
+    let _ = range;
+    later(store.layout().words, start, (number - 1) as u64 * words)
+}
+
+/// The address so many words after another one, in a store of so many words.
+#[inline(always)]
+fn later(most: u64, start: u64, passed: u64) -> u64
+    requires { start + passed < most }
+    ensures { result ≡ start + passed }
+{
+    let _ = most;
+    start + passed
+}
+
 /// A word of a version, not its start word. The tail record's first word has the address `first`.
-fn word_from(store: &Store, seat: &mut Seat, s: u32, tail: u32, first: u64, place: u32) -> u64
+pub(crate) fn word_from(
+    store: &Store,
+    seat: &mut Seat,
+    s: u32,
+    tail: u32,
+    first: u64,
+    place: u32,
+) -> u64
     requires reader { IsReader store.now seat.old s }
     requires version { HasVersion seat.old.view s tail }
     requires first { first ≡ address store.now.layout.limits (CellWord tail 0) }
@@ -85,6 +116,33 @@ pub(crate) fn value_from(
     ensures value { (c : Version) → IsAt seat.old.view s tail c → result ≡ slice_index c.values column }
 {
     word_from(store, seat, s, tail, first, 3 + column)
+}
+
+/// The cell of a column of a version, under the bits of its null columns: a null's value word isn't loaded. The tail record's first word has the address
+/// `first`.
+pub(crate) fn cell_from(
+    store: &Store,
+    seat: &mut Seat,
+    s: u32,
+    tail: u32,
+    first: u64,
+    nulls: u8,
+    column: u32,
+) -> Option<u64>
+    requires reader { IsReader store.now seat.old s }
+    requires version { HasVersion seat.old.view s tail }
+    requires first { first ≡ address store.now.layout.limits (CellWord tail 0) }
+    requires column { column < store.now.layout.limits.columns }
+    ensures reader { IsReader store.now seat.new s }
+    ensures watched { Watched seat.old.view seat.new.view s }
+    ensures loads { LoadsTail seat.old.view seat.new.view s tail }
+    ensures cell { (c : Version) → IsAt seat.old.view s tail c → result ≡ cell_of nulls column (slice_index c.values column) }
+{
+    if has_column(nulls, column) {
+        None
+    } else {
+        Some(value_from(store, seat, s, tail, first, column))
+    }
 }
 
 /// The number in its range of the version below one, or 0. Does what `version_below` does, without making the address up anew.

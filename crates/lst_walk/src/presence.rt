@@ -1,5 +1,7 @@
 //! Whether a record has a row.
 ghost use Rattle.std.specs.Prelude.{◌≡◌, ℕ, ◌<◌, true};
+ghost use Rattle.lst_layout.specs.declared.place.Place.TheVariants.{CellWord};
+ghost use Rattle.lst_layout.specs.Addresses.{address};
 ghost use Rattle.lst_core_state.specs.Cells.{record_count};
 ghost use Rattle.lst_rule.specs.Rule.{knows, hosts};
 ghost use Rattle.lst_rule.specs.Stores.{IsSeatOf};
@@ -11,10 +13,10 @@ ghost use Rattle.lst_walk.specs.Readers.{IsReader, IsAt, HasVersion};
 ghost use Rattle.lst_walk.specs.Newest as newest;
 ghost use Rattle.lst_walk.specs.Newest.{HasRow, WalksToSeen};
 
-use crate::stamps::is_seen;
-use crate::words::{encoding, head};
+use crate::placed::{below_from, encoding_from, first_word, is_seen_from};
+use crate::words::head;
 use lst_bits::Kind;
-use lst_rule::{RecordId, Seat, Store, tail_of, version_below};
+use lst_rule::{RecordId, Seat, Store, tail_of};
 
 /// Whether the open transaction sees a row of a record: of the snapshot at its begin, with its own writes on it. The walk goes along the chain from the
 /// newest version to the first one that is seen, and no further, whatever stands below: words of no other tail records are loaded than of those that it
@@ -36,24 +38,27 @@ pub fn has_row(store: &Store, seat: &mut Seat, s: u32, rec: RecordId) -> bool
     let mut number = head(store, seat, s, rec);
     while number > 0 {
         let tail = tail_of(store, range, number);
-        if is_seen(store, seat, s, range, number) {
-            return leaves_row(store, seat, s, tail);
+        let first = first_word(store, range, number);
+        if is_seen_from(store, seat, s, range, number, first) {
+            return leaves_row(store, seat, s, tail, first);
         }
-        number = version_below(store, seat, s, tail);
+        number = below_from(store, seat, s, tail, first);
     }
     false
 }
 
-/// Whether a version that is seen leaves a row: where it puts one or sets columns of one, and not where it deletes it.
-fn leaves_row(store: &Store, seat: &mut Seat, s: u32, tail: u32) -> bool
+/// Whether a version that is seen leaves a row: where it puts one or sets columns of one, and not where it deletes it. The tail record's
+/// first word has the address `first`.
+fn leaves_row(store: &Store, seat: &mut Seat, s: u32, tail: u32, first: u64) -> bool
     requires reader { IsReader store.now seat.old s }
     requires version { HasVersion seat.old.view s tail }
+    requires first { first ≡ address store.now.layout.limits (CellWord tail 0) }
     ensures reader { IsReader store.now seat.new s }
     ensures watched { Watched seat.old.view seat.new.view s }
     ensures loads { LoadsTail seat.old.view seat.new.view s tail }
     ensures leaves { (c : Version) → IsAt seat.old.view s tail c → result ≡ newest.leaves_row (act_by c) }
 {
-    match encoding(store, seat, s, tail).kind {
+    match encoding_from(store, seat, s, tail, first).kind {
         Kind::Put | Kind::Set => true,
         Kind::Del => false,
     }

@@ -1,7 +1,11 @@
 //! A record's row.
-ghost use Rattle.std.specs.Prelude.{◌≡◌, ℕ, ◌+◌, ◌*◌, ◌<◌, ◌≤◌, [], true, length, map, slice_index, unwrap_or, is_some, None, Bool};
+ghost use Rattle.std.specs.Prelude.{◌≡◌, ◌↔◌, bit_or, ℕ, ◌+◌, ◌*◌, ◌<◌, ◌≤◌, [], true, length, map, slice_index, unwrap_or, is_some, None, Bool};
 ghost use Rattle.std.specs.List.{list_all};
 ghost use Rattle.lst_model.specs.Cells.{overlaid, cell_of, cells_of, patched};
+ghost use Rattle.lst_bits.specs.Encodings.{IsEncodingWord, encoding_of};
+ghost use Rattle.lst_bits.specs.declared.encodings.Kind.TheVariants.{Set};
+ghost use Rattle.lst_layout.specs.declared.place.Place.TheVariants.{CellWord};
+ghost use Rattle.lst_layout.specs.Addresses.{address};
 ghost use Rattle.lst_core_state.specs.Cells.{record_count};
 ghost use Rattle.lst_rule.specs.declared.view.View.{View};
 ghost use Rattle.lst_rule.specs.Rule.{knows, hosts};
@@ -19,13 +23,13 @@ ghost use Rattle.lst_walk.specs.Whole.{PagedRow, RowBy, row_where};
 ghost use Rattle.lst_walk.specs.Filling.{RowPages, GoesOn, Fills, SetsAll, FillsColumn, SetsColumn};
 
 use crate::pages::{Entry, cell_of, entries_of, newest};
-use crate::stamps::is_seen;
+use crate::placed::{below_from, cell_from, first_after, first_word, is_seen_from, word_from};
 use crate::whole::paged;
-use crate::words::{cell, encoding, head};
+use crate::words::head;
 use arrayvec::ArrayVec;
-use lst_bits::{Encoding, Kind, has_column};
+use lst_bits::{Encoding, Kind, has_column, unpack_encoding};
 use lst_model::Row;
-use lst_rule::{RecordId, Seat, Store, tail_of, version_below};
+use lst_rule::{RecordId, Seat, Store, tail_of};
 
 /// What a visit of a version comes to.
 pub(crate) enum Visit {
@@ -142,6 +146,8 @@ fn walked(store: &Store, seat: &mut Seat, s: u32, rec: RecordId, number: u32) ->
     let mut set = 0;
     let entries = entries_of(store, seat, s, rec);
     let last = newest(&entries);
+    let start = first_word(store, range, 1);
+    let words = store.layout().limits.cell_words();
     while number > 0 {
         match fill(store, seat, s, rec, number, &entries, last, patch, &mut set) {
             Filled::Absent => return None,
@@ -149,10 +155,13 @@ fn walked(store: &Store, seat: &mut Seat, s: u32, rec: RecordId, number: u32) ->
             Filled::Partly => {}
         }
         let tail = tail_of(store, range, number);
-        match look(store, seat, s, range, number, patch, &mut set) {
-            Visit::Row { nulls } => return Some(row_under(store, seat, s, tail, nulls, patch)),
+        let first = first_after(store, range, number, start, words);
+        match look(store, seat, s, range, number, first, patch, &mut set) {
+            Visit::Row { nulls } => {
+                return Some(row_under(store, seat, s, tail, first, nulls, patch));
+            }
             Visit::NoRow => return None,
-            Visit::Older => number = version_below(store, seat, s, tail),
+            Visit::Older => number = below_from(store, seat, s, tail, first),
         }
     }
     None
@@ -250,13 +259,14 @@ fn row_of(patch: &[Option<Option<u64>>]) -> Row
 }
 
 /// Looks at a version of a range, by the number of its tail record, under a patch of newer versions. Bit c of `set` is set only where the patch sets column
-/// c, before and after.
+/// c, before and after. The tail record's first word has the address `first`.
 fn look(
     store: &Store,
     seat: &mut Seat,
     s: u32,
     range: u32,
     number: u32,
+    first: u64,
     patch: &mut [Option<Option<u64>>],
     set: &mut u8,
 ) -> Visit
@@ -264,6 +274,7 @@ fn look(
     requires range { range < store.now.layout.limits.ranges }
     requires number { (0 < number) × (number ≤ store.now.layout.limits.tails) }
     requires version { HasVersion seat.old.view s (range * store.now.layout.limits.tails + number) }
+    requires first { first ≡ address store.now.layout.limits (CellWord (range * store.now.layout.limits.tails + number) 0) }
     requires wide { length patch.old ≡ store.now.layout.limits.columns }
     requires set { AreSet set.old patch.old }
     ensures reader { IsReader store.now seat.new s }
@@ -274,25 +285,35 @@ fn look(
     ensures resolved { Resolves seat.old.view seat.new.view s range number }
     ensures set { AreSet set.new patch.new }
 {
-    if is_seen(store, seat, s, range, number) {
-        acted(store, seat, s, tail_of(store, range, number), patch, set)
+    if is_seen_from(store, seat, s, range, number, first) {
+        acted(
+            store,
+            seat,
+            s,
+            tail_of(store, range, number),
+            first,
+            patch,
+            set,
+        )
     } else {
         Visit::Older
     }
 }
 
 /// Looks at a version that is seen, under a patch of newer versions. Bit c of `set` is set only where the patch sets column c, before and after: a set of
-/// columns that all have their bits there adds nothing.
+/// columns that all have their bits there adds nothing. The tail record's first word has the address `first`.
 fn acted(
     store: &Store,
     seat: &mut Seat,
     s: u32,
     tail: u32,
+    first: u64,
     patch: &mut [Option<Option<u64>>],
     set: &mut u8,
 ) -> Visit
     requires reader { IsReader store.now seat.old s }
     requires version { HasVersion seat.old.view s tail }
+    requires first { first ≡ address store.now.layout.limits (CellWord tail 0) }
     requires wide { length patch.old ≡ store.now.layout.limits.columns }
     requires set { AreSet set.old patch.old }
     ensures reader { IsReader store.now seat.new s }
@@ -302,16 +323,17 @@ fn acted(
     ensures leaves { (c : Version) → IsAt seat.old.view s tail c → Leaves (λ column. touches_by column c.encoding) patch.old patch.new result }
     ensures set { AreSet set.new patch.new }
 {
-    let encoding = encoding(store, seat, s, tail);
+    let word = word_from(store, seat, s, tail, first, 1);
+    if sets_none(word, *set) {
+        return Visit::Older;
+    }
+    let encoding = unpack_encoding(word);
     match encoding.kind {
         Kind::Put => Visit::Row {
             nulls: encoding.nulls,
         },
         Kind::Set => {
-            if encoding.mask | *set == *set {
-                return Visit::Older;
-            }
-            set_under(store, seat, s, tail, encoding, patch);
+            set_under(store, seat, s, tail, first, encoding, patch);
             *set |= encoding.mask;
             if is_whole(patch) {
                 Visit::Row {
@@ -325,6 +347,18 @@ fn acted(
     }
 }
 
+/// Whether a version with this encoding word is a set of columns that all have their bits in `set`.
+fn sets_none(word: u64, set: u8) -> bool
+    requires { IsEncodingWord word }
+    ensures { (result ≡ true) ↔ (((encoding_of word).kind ≡ Set) × (bit_or (encoding_of word).mask set ≡ set)) }
+{
+    let encoding = unpack_encoding(word);
+    match encoding.kind {
+        Kind::Set => encoding.mask | set == set,
+        Kind::Put | Kind::Del => false,
+    }
+}
+
 /// Whether a patch sets each column.
 fn is_whole(patch: &[Option<Option<u64>>]) -> bool
     ensures { result ≡ list_all is_some patch.now }
@@ -332,17 +366,19 @@ fn is_whole(patch: &[Option<Option<u64>>]) -> bool
     patch.iter().all(|cell| cell.is_some())
 }
 
-/// The row of a version's values, null where the bits say so, with a patch of newer versions on it.
+/// The row of a version's values, null where the bits say so, with a patch of newer versions on it. The tail record's first word has the address `first`.
 fn row_under(
     store: &Store,
     seat: &mut Seat,
     s: u32,
     tail: u32,
+    first: u64,
     nulls: u8,
     patch: &[Option<Option<u64>>],
 ) -> Row
     requires reader { IsReader store.now seat.old s }
     requires version { HasVersion seat.old.view s tail }
+    requires first { first ≡ address store.now.layout.limits (CellWord tail 0) }
     requires wide { length patch.now ≡ store.now.layout.limits.columns }
     ensures reader { IsReader store.now seat.new s }
     ensures watched { Watched seat.old.view seat.new.view s }
@@ -352,23 +388,26 @@ fn row_under(
     let mut row = Row::of_numbers(ArrayVec::new());
     for column in 0..store.layout().limits.columns {
         let newer = patch[column as usize];
-        row.push(cell_under(store, seat, s, tail, nulls, column, newer));
+        row.push(cell_under(store, seat, s, tail, first, nulls, column, newer));
     }
     row
 }
 
-/// The cell of a column of a version, under the bits of its null columns, or the cell of newer versions, where there is one.
+/// The cell of a column of a version, under the bits of its null columns, or the cell of newer versions, where there is one. The tail record's first word
+/// has the address `first`.
 fn cell_under(
     store: &Store,
     seat: &mut Seat,
     s: u32,
     tail: u32,
+    first: u64,
     nulls: u8,
     column: u32,
     newer: Option<Option<u64>>,
 ) -> Option<u64>
     requires reader { IsReader store.now seat.old s }
     requires version { HasVersion seat.old.view s tail }
+    requires first { first ≡ address store.now.layout.limits (CellWord tail 0) }
     requires column { column < store.now.layout.limits.columns }
     ensures reader { IsReader store.now seat.new s }
     ensures watched { Watched seat.old.view seat.new.view s }
@@ -377,21 +416,23 @@ fn cell_under(
 {
     match newer {
         Some(newer) => newer,
-        None => cell(store, seat, s, tail, nulls, column),
+        None => cell_from(store, seat, s, tail, first, nulls, column),
     }
 }
 
-/// Puts the cells of a set with this encoding under those of a patch of newer versions.
+/// Puts the cells of a set with this encoding under those of a patch of newer versions. The tail record's first word has the address `first`.
 fn set_under(
     store: &Store,
     seat: &mut Seat,
     s: u32,
     tail: u32,
+    first: u64,
     encoding: Encoding,
     patch: &mut [Option<Option<u64>>],
 )
     requires reader { IsReader store.now seat.old s }
     requires version { HasVersion seat.old.view s tail }
+    requires first { first ≡ address store.now.layout.limits (CellWord tail 0) }
     requires wide { length patch.old ≡ store.now.layout.limits.columns }
     ensures reader { IsReader store.now seat.new s }
     ensures watched { Watched seat.old.view seat.new.view s }
@@ -400,7 +441,15 @@ fn set_under(
 {
     for column in 0..store.layout().limits.columns {
         if has_column(encoding.mask, column) && patch[column as usize].is_none() {
-            patch[column as usize] = Some(cell(store, seat, s, tail, encoding.nulls, column));
+            patch[column as usize] = Some(cell_from(
+                store,
+                seat,
+                s,
+                tail,
+                first,
+                encoding.nulls,
+                column,
+            ));
         }
     }
 }

@@ -29,23 +29,6 @@ pub fn stamp(store: &Store, seat: &mut Seat, s: u32, range: u32, tail: u32) -> b
     is_timed(resolve_stamped(store, seat, s, range, tail))
 }
 
-/// Whether the open transaction sees a version of a range, by the number of its tail record. It stamps the version where it finds it
-/// committed.
-pub(crate) fn is_seen(store: &Store, seat: &mut Seat, s: u32, range: u32, tail: u32) -> bool
-    requires reader { IsReader store.now seat.old s }
-    requires range { range < store.now.layout.limits.ranges }
-    requires tail { (0 < tail) × (tail ≤ store.now.layout.limits.tails) }
-    requires version { HasVersion seat.old.view s (range * store.now.layout.limits.tails + tail) }
-    ensures reader { IsReader store.now seat.new s }
-    ensures watched { Watched seat.old.view seat.new.view s }
-    ensures loads { LoadsTail seat.old.view seat.new.view s (range * store.now.layout.limits.tails + tail) }
-    ensures seen { (c : Version) → IsAt seat.old.view s (range * store.now.layout.limits.tails + tail) c → result ≡ sees (knows seat.old.view s) s c.writer }
-    ensures resolved { Resolves seat.old.view seat.new.view s range tail }
-{
-    let found = resolve_stamped(store, seat, s, range, tail);
-    is_seen_at(found, seat.begin(s))
-}
-
 /// How a version of a range stands to the open transaction. Where its transaction is found committed, and the start word has no time yet, the time is
 /// stored there.
 #[inline(always)]

@@ -19,8 +19,8 @@ use Rattle.lst_walk.proofs.rows.set_under.Goals.{then-has_column+then-is_none, e
 pub loop-column-init : goal.loop-column-init
 loop-column-init c = merges_start c.args.store.now c.args.s c.args.tail (λ (d : Version). merged c.args.patch.now (patched c.args.encoding.mask 0 (cells_of c.args.encoding.nulls 0 d.values))) c.args.seat.now c.args.patch.now c.requires.reader
 
-pub cell-requires-clause-version : goal.cell-requires-clause-version
-cell-requires-clause-version c = version_on c.args.seat.now.view c.loop-column.seat.view c.args.s c.args.tail c.loop-column.invariant.watched c.requires.version
+pub cell_from-requires-clause-version : goal.cell_from-requires-clause-version
+cell_from-requires-clause-version c = version_on c.args.seat.now.view c.loop-column.seat.view c.args.s c.args.tail c.loop-column.invariant.watched c.requires.version
 
 pub loop-column-preserved : goal.loop-column-preserved
 loop-column-preserved c =
@@ -35,12 +35,12 @@ loop-column-preserved c =
     (patched_first mask (cells_of nulls 0 d.values) k (let len = length-cells_of nulls 0 d.values in let f = few d at in omega arith))
     ∙ ap (λ (x : Cell). Some (newest here (cond (has_bit mask k) (Some x) None))) (cell_first nulls d.values k (few d at)) in
     elim c.if-has_column.branch [
-      | then-has_column+then-is_none w ↦ let now = slice_set c.loop-column.patch k (Some w.cell.result) in
+      | then-has_column+then-is_none w ↦ let now = slice_set c.loop-column.patch k (Some w.cell_from.result) in
           subst (λ (seat : Sitting). Merges c.args.store.now v seat c.args.s c.args.tail (k + 1) c.args.patch.now c.if-has_column.patch target) (sym w.seat-is)
-          (subst (λ (cells : List (Option Cell)). Merges c.args.store.now v w.cell.new.seat c.args.s c.args.tail (k + 1) c.args.patch.now cells target) (sym w.patch-is)
-          (merges_next c.args.store.now c.args.s c.args.tail target v c.loop-column.seat w.cell.new.seat k c.args.patch.now c.loop-column.patch (Some w.cell.result) c.loop-column.invariant w.cell.ensures.reader w.cell.ensures.watched w.cell.ensures.loads low
+          (subst (λ (cells : List (Option Cell)). Merges c.args.store.now v w.cell_from.new.seat c.args.s c.args.tail (k + 1) c.args.patch.now cells target) (sym w.patch-is)
+          (merges_next c.args.store.now c.args.s c.args.tail target v c.loop-column.seat w.cell_from.new.seat k c.args.patch.now c.loop-column.patch (Some w.cell_from.result) c.loop-column.invariant w.cell_from.ensures.reader w.cell_from.ensures.watched w.cell_from.ensures.loads low
           (λ d at. at_k d at ∙ ap (λ o. Some o) (newest_set here (has_bit mask k) (cell_of nulls k (slice_index d.values k)) (w.is_none.ensures ∙ ap (λ b. not b) w.if-is_none.true) (bit_set mask k (w.if-has_column.ensures.0 refl))
-          ∙ ap (λ x. Some x) (sym (w.cell.ensures.cell d (at_on v c.loop-column.seat.view c.args.s c.args.tail d c.loop-column.invariant.watched at)))))))
+          ∙ ap (λ x. Some x) (sym (w.cell_from.ensures.cell d (at_on v c.loop-column.seat.view c.args.s c.args.tail d c.loop-column.invariant.watched at)))))))
       | else-has_column w ↦
           subst (λ (seat : Sitting). Merges c.args.store.now v seat c.args.s c.args.tail (k + 1) c.args.patch.now c.if-has_column.patch target) (sym w.seat-is)
           (subst (λ (cells : List (Option Cell)). Merges c.args.store.now v c.loop-column.seat c.args.s c.args.tail (k + 1) c.args.patch.now cells target) (sym w.patch-is)

@@ -12,6 +12,8 @@ use Rattle.lst_walk.proofs.Rowing.{rows_next, rows_saved, rows_held, rows_whole,
 use Rattle.lst_walk.proofs.Straight.{walked_start}
 use Rattle.lst_rule.proofs.Finds.{loads_tail}
 use Rattle.lst_walk.proofs.Setting.{none_known}
+use Rattle.lst_layout.specs.declared.place.Place.TheVariants.{CellWord}
+use Rattle.lst_layout.specs.Addresses.{address}
 use Rattle.lst_walk.proofs.rows.walked.Goals as goal
 
 pub look-requires-clause-reader : goal.look-requires-clause-reader
@@ -32,11 +34,11 @@ tail_of-tail-requires-clause-range c = range_low c.args.store.now.layout.limits 
 pub tail_of-tail-requires-clause-number : goal.tail_of-tail-requires-clause-number
 tail_of-tail-requires-clause-number c = number_few c.args.store.now c.fill.new.seat c.args.s c.args.rec.number c.loop-number.number (c.in-Partly.ensures.filled c.requires.walk.0 (c.loop-number.invariant.goes c.requires.walk.0 c.requires.walk.1)).walk.reader (c.in-Partly.ensures.filled c.requires.walk.0 (c.loop-number.invariant.goes c.requires.walk.0 c.requires.walk.1)).walk.versions (c.in-Partly.ensures.filled c.requires.walk.0 (c.loop-number.invariant.goes c.requires.walk.0 c.requires.walk.1)).walk.chain c.loop-number-test.true
 
-pub version_below-number-requires-clause-version : goal.version_below-number-requires-clause-version
-version_below-number-requires-clause-version c = let q = at_number c.args.store.now c.fill.new.seat c.args.s c.args.rec.number c.loop-number.number (c.in-Partly.ensures.filled c.requires.walk.0 (c.loop-number.invariant.goes c.requires.walk.0 c.requires.walk.1)).walk.reader (c.in-Partly.ensures.filled c.requires.walk.0 (c.loop-number.invariant.goes c.requires.walk.0 c.requires.walk.1)).walk.versions (c.in-Partly.ensures.filled c.requires.walk.0 (c.loop-number.invariant.goes c.requires.walk.0 c.requires.walk.1)).walk.chain c.loop-number-test.true (c.args.rec.number / 256) (c.args.rec.number / 256 * c.args.store.now.layout.limits.tails + c.loop-number.number) refl refl in linked_at c.look.new.seat.view c.args.s c.tail_of-tail.result q.0 (at_same c.look.new.seat.view c.args.s (c.args.rec.number / 256 * c.args.store.now.layout.limits.tails + c.loop-number.number) c.tail_of-tail.result q.0 (sym c.tail_of-tail.ensures) (at_on c.fill.new.seat.view c.look.new.seat.view c.args.s (c.args.rec.number / 256 * c.args.store.now.layout.limits.tails + c.loop-number.number) q.0 c.look.ensures.watched q.3)) (let falls = q.4 in let same = ap (λ (l : Limits). l.tails) c.look.ensures.reader.seat_of.limits in let n = number_few c.args.store.now c.fill.new.seat c.args.s c.args.rec.number c.loop-number.number (c.in-Partly.ensures.filled c.requires.walk.0 (c.loop-number.invariant.goes c.requires.walk.0 c.requires.walk.1)).walk.reader (c.in-Partly.ensures.filled c.requires.walk.0 (c.loop-number.invariant.goes c.requires.walk.0 c.requires.walk.1)).walk.versions (c.in-Partly.ensures.filled c.requires.walk.0 (c.loop-number.invariant.goes c.requires.walk.0 c.requires.walk.1)).walk.chain c.loop-number-test.true in omega arith)
+pub below_from-number-requires-clause-version : goal.below_from-number-requires-clause-version
+below_from-number-requires-clause-version c = let q = at_number c.args.store.now c.fill.new.seat c.args.s c.args.rec.number c.loop-number.number (c.in-Partly.ensures.filled c.requires.walk.0 (c.loop-number.invariant.goes c.requires.walk.0 c.requires.walk.1)).walk.reader (c.in-Partly.ensures.filled c.requires.walk.0 (c.loop-number.invariant.goes c.requires.walk.0 c.requires.walk.1)).walk.versions (c.in-Partly.ensures.filled c.requires.walk.0 (c.loop-number.invariant.goes c.requires.walk.0 c.requires.walk.1)).walk.chain c.loop-number-test.true (c.args.rec.number / 256) (c.args.rec.number / 256 * c.args.store.now.layout.limits.tails + c.loop-number.number) refl refl in linked_at c.look.new.seat.view c.args.s c.tail_of-tail.result q.0 (at_same c.look.new.seat.view c.args.s (c.args.rec.number / 256 * c.args.store.now.layout.limits.tails + c.loop-number.number) c.tail_of-tail.result q.0 (sym c.tail_of-tail.ensures) (at_on c.fill.new.seat.view c.look.new.seat.view c.args.s (c.args.rec.number / 256 * c.args.store.now.layout.limits.tails + c.loop-number.number) q.0 c.look.ensures.watched q.3)) (let falls = q.4 in let same = ap (λ (l : Limits). l.tails) c.look.ensures.reader.seat_of.limits in let n = number_few c.args.store.now c.fill.new.seat c.args.s c.args.rec.number c.loop-number.number (c.in-Partly.ensures.filled c.requires.walk.0 (c.loop-number.invariant.goes c.requires.walk.0 c.requires.walk.1)).walk.reader (c.in-Partly.ensures.filled c.requires.walk.0 (c.loop-number.invariant.goes c.requires.walk.0 c.requires.walk.1)).walk.versions (c.in-Partly.ensures.filled c.requires.walk.0 (c.loop-number.invariant.goes c.requires.walk.0 c.requires.walk.1)).walk.chain c.loop-number-test.true in omega arith)
 
 pub loop-number-smaller : goal.loop-number-smaller
-loop-number-smaller c = let q = at_number c.args.store.now c.fill.new.seat c.args.s c.args.rec.number c.loop-number.number (c.in-Partly.ensures.filled c.requires.walk.0 (c.loop-number.invariant.goes c.requires.walk.0 c.requires.walk.1)).walk.reader (c.in-Partly.ensures.filled c.requires.walk.0 (c.loop-number.invariant.goes c.requires.walk.0 c.requires.walk.1)).walk.versions (c.in-Partly.ensures.filled c.requires.walk.0 (c.loop-number.invariant.goes c.requires.walk.0 c.requires.walk.1)).walk.chain c.loop-number-test.true (c.args.rec.number / 256) (c.args.rec.number / 256 * c.args.store.now.layout.limits.tails + c.loop-number.number) refl refl in let e = back_at c.look.new.seat.view c.args.s c.tail_of-tail.result c.version_below-number.result q.0 c.version_below-number.ensures.back (at_same c.look.new.seat.view c.args.s (c.args.rec.number / 256 * c.args.store.now.layout.limits.tails + c.loop-number.number) c.tail_of-tail.result q.0 (sym c.tail_of-tail.ensures) (at_on c.fill.new.seat.view c.look.new.seat.view c.args.s (c.args.rec.number / 256 * c.args.store.now.layout.limits.tails + c.loop-number.number) q.0 c.look.ensures.watched q.3)) in let falls = q.4 in omega arith
+loop-number-smaller c = let q = at_number c.args.store.now c.fill.new.seat c.args.s c.args.rec.number c.loop-number.number (c.in-Partly.ensures.filled c.requires.walk.0 (c.loop-number.invariant.goes c.requires.walk.0 c.requires.walk.1)).walk.reader (c.in-Partly.ensures.filled c.requires.walk.0 (c.loop-number.invariant.goes c.requires.walk.0 c.requires.walk.1)).walk.versions (c.in-Partly.ensures.filled c.requires.walk.0 (c.loop-number.invariant.goes c.requires.walk.0 c.requires.walk.1)).walk.chain c.loop-number-test.true (c.args.rec.number / 256) (c.args.rec.number / 256 * c.args.store.now.layout.limits.tails + c.loop-number.number) refl refl in let e = back_at c.look.new.seat.view c.args.s c.tail_of-tail.result c.below_from-number.result q.0 c.below_from-number.ensures.back (at_same c.look.new.seat.view c.args.s (c.args.rec.number / 256 * c.args.store.now.layout.limits.tails + c.loop-number.number) c.tail_of-tail.result q.0 (sym c.tail_of-tail.ensures) (at_on c.fill.new.seat.view c.look.new.seat.view c.args.s (c.args.rec.number / 256 * c.args.store.now.layout.limits.tails + c.loop-number.number) q.0 c.look.ensures.watched q.3)) in let falls = q.4 in omega arith
 
 pub row_under-requires-clause-version : goal.row_under-requires-clause-version
 row_under-requires-clause-version c = has_same c.look.new.seat.view c.args.s (c.args.rec.number / 256 * c.args.store.now.layout.limits.tails + c.loop-number.number) c.tail_of-tail.result (sym c.tail_of-tail.ensures)
@@ -103,10 +105,10 @@ loop-number-init c = let l = ap (λ (y : Layout). y.limits.columns) c.layout.ens
 
 pub loop-number-preserved : goal.loop-number-preserved
 loop-number-preserved c = let q = at_number c.args.store.now c.fill.new.seat c.args.s c.args.rec.number c.loop-number.number (c.in-Partly.ensures.filled c.requires.walk.0 (c.loop-number.invariant.goes c.requires.walk.0 c.requires.walk.1)).walk.reader (c.in-Partly.ensures.filled c.requires.walk.0 (c.loop-number.invariant.goes c.requires.walk.0 c.requires.walk.1)).walk.versions (c.in-Partly.ensures.filled c.requires.walk.0 (c.loop-number.invariant.goes c.requires.walk.0 c.requires.walk.1)).walk.chain c.loop-number-test.true (c.args.rec.number / 256) (c.args.rec.number / 256 * c.args.store.now.layout.limits.tails + c.loop-number.number) refl refl in record {
-  goes = λ v p. rows_next c.args.store.now v c.fill.new.seat c.look.new.seat c.version_below-number.new.seat c.args.s c.args.rec.number c.loop-number.number (c.args.rec.number / 256) (c.args.rec.number / 256 * c.args.store.now.layout.limits.tails + c.loop-number.number) c.version_below-number.result c.loop-number-test.true refl refl c.entries_of-entries.result c.fill.new.patch c.look.new.patch (c.in-Partly.ensures.filled v (c.loop-number.invariant.goes v p)) (high_column c.args.store.now v c.fill.new.seat c.args.s c.args.rec.number c.loop-number.number c.entries_of-entries.result c.fill.new.patch (c.in-Partly.ensures.filled v (c.loop-number.invariant.goes v p)) (unset_still c.loop-number.patch c.fill.new.patch c.loop-number.invariant.unset c.in-Partly.ensures.sets.0) c.in-Partly.ensures.sets.1) c.look.ensures.watched (c.look.auto.patch ∙ (c.in-Partly.ensures.filled v (c.loop-number.invariant.goes v p)).walk.wide) c.in-Older.ensures.visited c.look.ensures.resolved
-      (reader_on c.args.store.now c.look.new.seat c.version_below-number.new.seat c.args.s c.look.ensures.reader c.version_below-number.ensures.watched c.version_below-number.ensures.seat) c.version_below-number.ensures.watched
-      (λ d at. back_at c.look.new.seat.view c.args.s c.tail_of-tail.result c.version_below-number.result d c.version_below-number.ensures.back (at_same c.look.new.seat.view c.args.s (c.args.rec.number / 256 * c.args.store.now.layout.limits.tails + c.loop-number.number) c.tail_of-tail.result d (sym c.tail_of-tail.ensures) (at_on c.fill.new.seat.view c.look.new.seat.view c.args.s (c.args.rec.number / 256 * c.args.store.now.layout.limits.tails + c.loop-number.number) d c.look.ensures.watched at)))
-      c.in-Older.ensures.leaves c.look.ensures.loads c.tail_of-tail.result c.tail_of-tail.ensures c.version_below-number.ensures.loads;
+  goes = λ v p. rows_next c.args.store.now v c.fill.new.seat c.look.new.seat c.below_from-number.new.seat c.args.s c.args.rec.number c.loop-number.number (c.args.rec.number / 256) (c.args.rec.number / 256 * c.args.store.now.layout.limits.tails + c.loop-number.number) c.below_from-number.result c.loop-number-test.true refl refl c.entries_of-entries.result c.fill.new.patch c.look.new.patch (c.in-Partly.ensures.filled v (c.loop-number.invariant.goes v p)) (high_column c.args.store.now v c.fill.new.seat c.args.s c.args.rec.number c.loop-number.number c.entries_of-entries.result c.fill.new.patch (c.in-Partly.ensures.filled v (c.loop-number.invariant.goes v p)) (unset_still c.loop-number.patch c.fill.new.patch c.loop-number.invariant.unset c.in-Partly.ensures.sets.0) c.in-Partly.ensures.sets.1) c.look.ensures.watched (c.look.auto.patch ∙ (c.in-Partly.ensures.filled v (c.loop-number.invariant.goes v p)).walk.wide) c.in-Older.ensures.visited c.look.ensures.resolved
+      (reader_on c.args.store.now c.look.new.seat c.below_from-number.new.seat c.args.s c.look.ensures.reader c.below_from-number.ensures.watched c.below_from-number.ensures.seat) c.below_from-number.ensures.watched
+      (λ d at. back_at c.look.new.seat.view c.args.s c.tail_of-tail.result c.below_from-number.result d c.below_from-number.ensures.back (at_same c.look.new.seat.view c.args.s (c.args.rec.number / 256 * c.args.store.now.layout.limits.tails + c.loop-number.number) c.tail_of-tail.result d (sym c.tail_of-tail.ensures) (at_on c.fill.new.seat.view c.look.new.seat.view c.args.s (c.args.rec.number / 256 * c.args.store.now.layout.limits.tails + c.loop-number.number) d c.look.ensures.watched at)))
+      c.in-Older.ensures.leaves c.look.ensures.loads c.tail_of-tail.result c.tail_of-tail.ensures c.below_from-number.ensures.loads;
   held = c.look.ensures.set;
   unset = unset_still c.fill.new.patch c.look.new.patch (unset_still c.loop-number.patch c.fill.new.patch c.loop-number.invariant.unset c.in-Partly.ensures.sets.0) (c.in-Older.ensures.leaves q.0 q.3).1;
 }
@@ -116,3 +118,21 @@ returns-clause-reader c = (c.loop-number.invariant.goes c.requires.walk.0 c.requ
 
 pub look-requires-clause-set : goal.look-requires-clause-set
 look-requires-clause-set c = c.in-Partly.ensures.set c.loop-number.invariant.held
+
+pub first_after-first-requires-clause-range : goal.first_after-first-requires-clause-range
+first_after-first-requires-clause-range c = range_low c.args.store.now.layout.limits c.args.rec.number (c.args.rec.number / 256) c.requires.rec refl
+
+pub first_after-first-requires-clause-number : goal.first_after-first-requires-clause-number
+first_after-first-requires-clause-number c = (c.loop-number-test.true, number_few c.args.store.now c.fill.new.seat c.args.s c.args.rec.number c.loop-number.number (c.in-Partly.ensures.filled c.requires.walk.0 (c.loop-number.invariant.goes c.requires.walk.0 c.requires.walk.1)).walk.reader (c.in-Partly.ensures.filled c.requires.walk.0 (c.loop-number.invariant.goes c.requires.walk.0 c.requires.walk.1)).walk.versions (c.in-Partly.ensures.filled c.requires.walk.0 (c.loop-number.invariant.goes c.requires.walk.0 c.requires.walk.1)).walk.chain c.loop-number-test.true)
+
+pub row_under-requires-clause-first : goal.row_under-requires-clause-first
+row_under-requires-clause-first c = c.first_after-first.ensures ∙ ap (λ (t : ℕ). address c.args.store.now.layout.limits (CellWord t 0)) (sym c.tail_of-tail.ensures)
+
+pub below_from-number-requires-clause-first : goal.below_from-number-requires-clause-first
+below_from-number-requires-clause-first c = c.first_after-first.ensures ∙ ap (λ (t : ℕ). address c.args.store.now.layout.limits (CellWord t 0)) (sym c.tail_of-tail.ensures)
+
+pub first_word-start-requires-clause-range : goal.first_word-start-requires-clause-range
+first_word-start-requires-clause-range c = range_low c.args.store.now.layout.limits c.args.rec.number (c.args.rec.number / 256) c.requires.rec refl
+
+pub first_word-start-requires-clause-number : goal.first_word-start-requires-clause-number
+first_word-start-requires-clause-number c = (omega arith, c.args.store.now.layout.valid.tails.0)

@@ -1,7 +1,7 @@
 use Rattle.lst_rule.proofs.Watching.{watched_same}
 use Rattle.std.proofs.Common.{◌≡◌, refl}
 use Rattle.lst_rule.proofs.Finds.{loads_none}
-use Rattle.lst_walk.proofs.words.cell.Goals as goal
+use Rattle.lst_walk.proofs.placed.cell_from.Goals as goal
 
 pub returns-then-has_column-clause-watched : goal.returns-then-has_column-clause-watched
 returns-then-has_column-clause-watched c = watched_same c.args.seat.now.view c.args.s
