@@ -17,3 +17,5 @@ pub mod Opened
 pub mod Sorted
 pub mod Summing
 pub mod Decoded
+pub mod Grouped
+pub mod Overlaid

@@ -8,3 +8,4 @@ pub mod Checking
 pub mod Tabled
 pub mod Refusals
 pub mod Decoding
+pub mod Grouped

@@ -13,7 +13,7 @@ use arrayvec::ArrayVec;
 use lst_model::{Row, Time};
 
 /// The cells of a row while it is decoded, one a column.
-type Cells = ArrayVec<Option<u64>, 8>;
+pub(crate) type Cells = ArrayVec<Option<u64>, 8>;
 
 /// The number that stands at a place, and the place behind it. Most have three bytes or fewer.
 #[inline(always)]
@@ -70,7 +70,7 @@ fn cell_in(emptied: bool, old: Option<u64>, bytes: &[u8], place: usize) -> (Opti
 }
 
 /// Puts a cell in its column.
-fn set(cells: &mut Cells, column: usize, cell: Option<u64>)
+pub(crate) fn set(cells: &mut Cells, column: usize, cell: Option<u64>)
     requires { column < array_vec_len cells.old }
     ensures { cells.new.items ≡ slice_set cells.old.items column cell }
 {
@@ -102,7 +102,8 @@ fn step(
 }
 
 /// Makes cells those of the row behind them, by the bits of the columns that differ and of those that became null, and answers the place
-/// behind it.
+/// behind it. It is compiled into each call, so that one without nulls has no look at them.
+#[inline(always)]
 fn cells_in(cells: &mut Cells, mask: u64, nulls: u64, bytes: &[u8], place: usize) -> usize
     requires { IsSome (cells_behind mask nulls cells.old.items (drop place bytes.now)) }
     ensures { Some (cells.new.items, drop result bytes.now) ≡ cells_behind mask nulls cells.old.items (drop place bytes.now) }
@@ -122,7 +123,7 @@ fn cells_in(cells: &mut Cells, mask: u64, nulls: u64, bytes: &[u8], place: usize
 
 /// Makes cells those of so many numbers 0.
 #[inline(always)]
-fn clear(cells: &mut Cells, columns: u32)
+pub(crate) fn clear(cells: &mut Cells, columns: u32)
     requires { columns ≤ 8 }
     ensures { cells.new.items ≡ replicate columns (Some 0) }
 {
@@ -143,6 +144,10 @@ fn row_behind_in(columns: u32, cells: &mut Cells, bytes: &[u8], place: usize) ->
     if tag == 0 {
         clear(cells, columns);
         return (false, behind);
+    }
+    if tag <= 256 {
+        let end = cells_in(cells, tag - 1, 0, bytes, behind);
+        return (true, end);
     }
     let end = cells_in(cells, (tag - 1) % 256, (tag - 1) / 256, bytes, behind);
     (true, end)

@@ -7,8 +7,12 @@
 mod building;
 #[cfg(test)]
 mod changed_tests;
+mod changing;
 mod checking;
 mod decoding;
+mod digits;
+#[cfg(test)]
+mod digits_tests;
 mod gathering;
 mod historic;
 mod laws;

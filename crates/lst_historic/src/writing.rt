@@ -1,17 +1,18 @@
 //! Rows and versions written at the end of bytes, each as what differs from the row before it.
 ghost use Rattle.std.specs.Prelude.{◌≡◌, ◌++◌, ◌<◌, ◌≤◌, ◌+◌, ◌-◌, ◌*◌, [], cond, is_none, min, length, OnOk};
-ghost use Rattle.lst_model.specs.Histories.{row_after};
 ghost use Rattle.lst_historic.specs.Blocks.{are_same, tag_of, difference, code_of, differences, cell_text, row_text, chain_text};
 ghost use Rattle.std.specs.Prelude.{drop, None};
 ghost use Rattle.lst_historic.specs.Numbers.{spelled};
 ghost use Rattle.std.specs.List.{AllByRecursion};
 ghost use Rattle.lst_historic.specs.Blocks.{versions_text, CellFits, RowIsWide, VersionsAreWide, HasNumbers, HaveNumbers};
 ghost use Rattle.lst_historic.specs.Moves.{moves, made_of, times_in, goes_on};
+ghost use Rattle.lst_historic.specs.Decoding.{shown};
 
+use crate::changing::{cell_at, change, rebase};
+use crate::decoding::{Cells, clear};
 use crate::numbers::push_number;
-use crate::reading::base_of;
 use crate::steps::Step;
-use lst_model::{Act, OutOfMemory, Row, Time, overlay};
+use lst_model::{OutOfMemory, Time};
 
 /// The code of the difference of two numbers.
 fn code_of(old: u64, new: u64) -> u64
@@ -53,36 +54,38 @@ fn cell_bits(old: Option<u64>, new: Option<u64>) -> u64
 }
 
 /// How many columns both rows have.
-fn width(old: &Row, new: &Row) -> u32
-    ensures old { result ≤ length old.now }
-    ensures new { result ≤ length new.now }
-    ensures few { length old.now ≤ 8 }
-    ensures all { min (length old.now) (length new.now) ≤ result }
+fn width(old: &Cells, new: &Cells) -> u32
+    ensures old { result ≤ length old.now.items }
+    ensures new { result ≤ length new.now.items }
+    ensures few { length old.now.items ≤ 8 }
+    ensures all { min (length old.now.items) (length new.now.items) ≤ result }
 {
-    if old.len() < new.len() {
-        old.len() as u32
+    let olds = old.as_slice().len();
+    let news = new.as_slice().len();
+    if olds < news {
+        olds as u32
     } else {
-        new.len() as u32
+        news as u32
     }
 }
 
 /// The bits of the columns whose cell differs, and 256 times those of the ones that are null now.
-fn row_bits(old: &Row, new: &Row) -> u64
+fn row_bits(old: &Cells, new: &Cells) -> u64
     ensures low { result < 65536 }
-    ensures tag { 1 + result ≡ tag_of old.now new.now }
+    ensures tag { 1 + result ≡ tag_of old.now.items new.now.items }
 {
     let mut bits = 0;
     let mut column = width(old, new);
     while column > 0 {
         column -= 1;
-        bits = cell_bits(old.cell(column), new.cell(column)) + 2 * bits;
+        bits = cell_bits(cell_at(old, column), cell_at(new, column)) + 2 * bits;
     }
     bits
 }
 
 /// The number in front of a row that is compared with another.
-fn tag_of(old: &Row, new: &Row) -> u64
-    ensures { result ≡ tag_of old.now new.now }
+fn tag_of(old: &Cells, new: &Cells) -> u64
+    ensures { result ≡ tag_of old.now.items new.now.items }
 {
     1 + row_bits(old, new)
 }
@@ -102,43 +105,27 @@ fn push_cell(out: &mut Vec<u8>, old: Option<u64>, new: Option<u64>) -> Result<()
 }
 
 /// Writes the differences of the cells that differ and are not null.
-fn push_differences(out: &mut Vec<u8>, old: &Row, new: &Row) -> Result<(), OutOfMemory>
-    ensures numbers { OnOk result (length new.now ≡ length old.now → AllByRecursion CellFits new.now) }
-    ensures text { OnOk result (out.new.items ≡ out.old.items ++ differences old.now new.now) }
+fn push_differences(out: &mut Vec<u8>, old: &Cells, new: &Cells) -> Result<(), OutOfMemory>
+    ensures numbers { OnOk result (length new.now.items ≡ length old.now.items → AllByRecursion CellFits new.now.items) }
+    ensures text { OnOk result (out.new.items ≡ out.old.items ++ differences old.now.items new.now.items) }
 {
     for column in 0..width(old, new) {
-        push_cell(out, old.cell(column), new.cell(column))?;
+        push_cell(out, cell_at(old, column), cell_at(new, column))?;
     }
     Ok(())
 }
 
-/// Writes a row, or that the key is absent.
-fn push_row(out: &mut Vec<u8>, base: &Row, row: &Option<Row>) -> Result<(), OutOfMemory>
-    ensures numbers { OnOk result (RowIsWide (length base.now) row.now → HasNumbers row.now) }
-    ensures text { OnOk result (out.new.items ≡ out.old.items ++ row_text base.now row.now) }
+/// Writes the row of these cells, or that the key is absent where there is none.
+fn push_row(out: &mut Vec<u8>, base: &Cells, is_some: bool, row: &Cells) -> Result<(), OutOfMemory>
+    ensures numbers { OnOk result (RowIsWide (length base.now.items) (shown is_some row.now.items) → HasNumbers (shown is_some row.now.items)) }
+    ensures text { OnOk result (out.new.items ≡ out.old.items ++ row_text base.now.items (shown is_some row.now.items)) }
 {
-    match row {
-        None => push_number(out, 0),
-        Some(row) => {
-            push_number(out, tag_of(base, row))?;
-            push_differences(out, base, row)?;
-            Ok(())
-        }
+    if !is_some {
+        return push_number(out, 0);
     }
-}
-
-/// The row that an act makes of a row, or of none.
-fn row_changed(row: Option<Row>, act: &Act) -> Option<Row>
-    ensures { result ≡ row_after row act.now }
-{
-    match act {
-        Act::Put(new) => Some(new.copied()),
-        Act::Set(patch) => match row {
-            Some(old) => Some(overlay(&old, patch)),
-            None => None,
-        },
-        Act::Del => None,
-    }
+    push_number(out, tag_of(base, row))?;
+    push_differences(out, base, row)?;
+    Ok(())
 }
 
 /// Whether the step at a place has this time.
@@ -175,36 +162,39 @@ fn times_in(steps: &[Step]) -> u64
 fn push_version(
     out: &mut Vec<u8>,
     at: Time,
-    base: &Row,
+    base: &Cells,
     time: Time,
-    row: &Option<Row>,
+    is_some: bool,
+    row: &Cells,
 ) -> Result<(), OutOfMemory>
-    ensures numbers { OnOk result (RowIsWide (length base.now) row.now → HasNumbers row.now) }
-    ensures text { OnOk result (out.new.items ≡ out.old.items ++ (spelled (time - at) ++ row_text base.now row.now)) }
+    ensures numbers { OnOk result (RowIsWide (length base.now.items) (shown is_some row.now.items) → HasNumbers (shown is_some row.now.items)) }
+    ensures text { OnOk result (out.new.items ≡ out.old.items ++ (spelled (time - at) ++ row_text base.now.items (shown is_some row.now.items))) }
 {
     push_number(out, time.saturating_sub(at))?;
-    push_row(out, base, row)?;
+    push_row(out, base, is_some, row)?;
     Ok(())
 }
 
-/// Writes the versions that steps on one key make.
+/// Writes the versions that steps on one key make. One row is changed in place, and one has the cells of the last version.
 fn push_versions(out: &mut Vec<u8>, columns: u32, steps: &[Step]) -> Result<(), OutOfMemory>
     requires { columns ≤ 8 }
     ensures numbers { OnOk result (VersionsAreWide columns (made_of None (moves steps.now)) → HaveNumbers (made_of None (moves steps.now))) }
     ensures text { OnOk result (out.new.items ≡ out.old.items ++ versions_text columns 0 None (made_of None (moves steps.now))) }
 {
     let mut at = 0;
-    let mut row = None;
-    let mut base = base_of(columns, &row);
+    let mut is_some = false;
+    let mut row = Cells::new();
+    let mut base = Cells::new();
+    clear(&mut base, columns);
     for place in 0..steps.len() {
         let step = steps[place];
-        row = row_changed(row, step.act);
+        is_some = change(&mut row, is_some, step.act);
         if goes_on(steps, place + 1, step.time) {
             continue;
         }
-        push_version(out, at, &base, step.time, &row)?;
+        push_version(out, at, &base, step.time, is_some, &row)?;
         at = step.time;
-        base = base_of(columns, &row);
+        rebase(&mut base, columns, is_some, &row);
     }
     Ok(())
 }

@@ -5,6 +5,6 @@ use Rattle.lst_historic.proofs.writing.push_differences.Given as goal
 
 abbrev pub invariant-loop-column : goal.invariant-loop-column
 invariant-loop-column l = record {
-  text : l.out.items ++ differences (drop l.column l.old) (drop l.column l.new) ≡ l.fn.out.items ++ differences l.old l.new;
-  numbers : AllByRecursion CellFits (drop l.column l.new) → AllByRecursion CellFits l.new;
+  text : l.out.items ++ differences (drop l.column l.old.items) (drop l.column l.new.items) ≡ l.fn.out.items ++ differences l.old.items l.new.items;
+  numbers : AllByRecursion CellFits (drop l.column l.new.items) → AllByRecursion CellFits l.new.items;
 }
