@@ -1,6 +1,6 @@
 -- The one commit of a name in a sound history, and what is asked at its time.
-use Rattle.std.proofs.Common.{◌≡◌, ◌↔◌, ℕ, ◌+◌, ◌-◌, ◌<◌, ◌≤◌, ◌⊎◌, inl, inr, Bool, true, false, cond, ◌||◌, ◌&&◌, eqb, IsTrue, List, [], ◌∷◌, ◌++◌, length, get_or, take, drop, Option, Some, None, IfSome, option_map, refl, sym, ap, ◌∙◌, subst, arith, ⊎_elim}
-use Rattle.std.specs.Prelude.{IsSomeAnd, slice_get}
+use Rattle.std.proofs.Common.{◌≡◌, ◌↔◌, ℕ, ◌+◌, ◌-◌, ◌<◌, ◌≤◌, ◌⊎◌, inl, inr, Bool, true, false, cond, ◌||◌, ◌&&◌, eqb, IsTrue, List, [], ◌∷◌, ◌++◌, length, get_or, take, drop, Option, Some, None, IfSome, option_map, refl, sym, ap, ◌∙◌, subst, arith, ⊎_elim, true≢false}
+use Rattle.std.specs.Prelude.{IsSomeAnd, is_some, slice_get}
 use Rattle.std.specs.List.{list_any}
 use Rattle.std.proofs.lemmas.Bool.{eqb-true, eqb-false, ne_eqb}
 use Rattle.std.proofs.lemmas.List.{take_more, length-map, length-take-le}
@@ -13,7 +13,7 @@ use Rattle.lst_model.specs.declared.lines.Call.{Call as CallKind}
 use Rattle.lst_model.specs.declared.replies.Reply.{Reply}
 use Rattle.lst_model.specs.Tables.{Rows}
 use Rattle.lst_model.specs.Histories.{snapshot}
-use Rattle.lst_model.specs.Soundness.{IsSound, Follows}
+use Rattle.lst_model.specs.Soundness.{IsSound}
 use Rattle.lst_replies.specs.declared.states.Transaction.{Transaction}
 use Rattle.lst_replies.specs.declared.states.SessionState.{SessionState}
 use Rattle.lst_replies.specs.Runs.{Answered, AtEachCall, speaker_of}
@@ -22,10 +22,9 @@ use Rattle.lst_replies.specs.Explained.{commit_at, is_numbered}
 use Rattle.lst_legal_runs.specs.declared.marks.Marks.{Marks}
 use Rattle.lst_legal_runs.specs.Firsts.{IsFirst, AreFirstNumbers}
 use Rattle.lst_legal_runs.specs.Marks.{number_at}
-use Rattle.lst_legal_runs.specs.declared.outlines.OpenOutline.{OpenOutline}
 use Rattle.lst_legal_runs.specs.declared.outlines.StateOutline.{StateOutline}
 use Rattle.lst_legal_runs.specs.declared.places.Place.{Place}
-use Rattle.lst_legal_runs.specs.Outlines.{outline_of_open}
+use Rattle.lst_legal_runs.specs.Outlines.{outline_of, outline_of_open}
 use Rattle.lst_legal_runs.specs.Places.{AreTraced, AtEach, IfCall, outline_at, run_at, seen_at}
 use Rattle.lst_legal_runs.proofs.Behind.{begun-le}
 use Rattle.lst_legal_runs.proofs.Placing.{traced_read}
@@ -83,7 +82,7 @@ here history test time is = by_zero (eqb time 0) refl is
     by_zero true e h = absurd h
     by_zero false e h = let some = eqb-false time 0 e in by_read (slice_get_cases history (time - 1)) (omega (arith, some)) h
 
-read_at : (history : List Commit) (time : ℕ) (d : Commit) → 0 < time → time ≤ length history → commit_at history time ≡ Some (get_or history (time - 1) d)
+pub read_at : (history : List Commit) (time : ℕ) (d : Commit) → 0 < time → time ≤ length history → commit_at history time ≡ Some (get_or history (time - 1) d)
 read_at history time d low high =
     ap (λ b. cond b None (slice_get history (time - 1))) (ne_eqb time 0 (λ same. absurd (omega (arith, same, low))))
     ∙ slice_get-get_or history (time - 1) d (omega arith)
@@ -242,6 +241,22 @@ place_opens firsts front place opening is opens = by_line (seen_at place).line i
 
 -- ---- what a sight shows
 
+-- an outline tells whether a transaction is open
+pub opened_same : (outline : StateOutline) (state : SessionState) → outline ≡ outline_of state → is_some outline.current ≡ is_some state.current
+opened_same outline state same = ap (λ (o : StateOutline). is_some o.current) same ∙ by_current state.current
+  where
+    by_current : (current : Option Transaction) → is_some (option_map outline_of_open current) ≡ is_some current
+    by_current None = refl
+    by_current (Some transaction) = refl
+
+-- where no transaction is open, nothing is asked
+pub unopened_told : (history : List Commit) (at : ℕ → ℕ → Option ℕ) (state : SessionState) (call : CallKind) (reply : Reply) → is_some state.current ≡ false → IsSeenAt history at state.current call reply
+unopened_told history at state call reply none = by_current state.current none
+  where
+    by_current : (current : Option Transaction) → is_some current ≡ false → IsSeenAt history at current call reply
+    by_current None none = tt
+    by_current (Some transaction) none = absurd (cc)
+
 module _ (history : List Commit) (at : ℕ → ℕ → Option ℕ) (sight : Option Sight) (state : SessionState) (call : CallKind) (reply : Reply) where
   -- where a transaction is not looked at, nothing is asked
   pub unseen_told : IsSightOf history at sight state → sight ≡ None → IsSeenAt history at state.current call reply
@@ -256,9 +271,9 @@ module _ (history : List Commit) (at : ℕ → ℕ → Option ℕ) (sight : Opti
       by_current (Some transaction) e = by_time transaction (at transaction.number transaction.begin) (is transaction e)
 
   -- and else what decides for the sight decides for the transaction
-  pub seen_told : (now : Sight) (outline : OpenOutline) (b : Bool) → IsSightOf history at sight state → Some outline ≡ option_map outline_of_open state.current → sight ≡ Some now
+  pub seen_told : (now : Sight) (b : Bool) → IsSightOf history at sight state → is_some state.current ≡ true → sight ≡ Some now
       → IsTrue b ↔ IsAnsweredBy (seen history now) call reply → IsTrue b ↔ IsSeenAt history at state.current call reply
-  seen_told now outline b is opened here decides = by_current state.current refl
+  seen_told now b is opened here decides = by_current state.current refl
     where
       by_time : (transaction : Transaction) (time : Option ℕ) → ShowsAt history sight transaction.writes time → IsTrue b ↔ IfSome time (λ t. IsAnsweredBy (snapshot history t transaction.writes) call reply)
       by_time transaction None shows = absurd (none-some now (sym shows ∙ here))
@@ -267,5 +282,5 @@ module _ (history : List Commit) (at : ℕ → ℕ → Option ℕ) (sight : Opti
           subst (λ (table : Rows). IsTrue b ↔ IsAnsweredBy table call reply) (ap (λ (s : Sight). seen history s) (sym same) ∙ shows.shows) decides
 
       by_current : (current : Option Transaction) → state.current ≡ current → IsTrue b ↔ IsSeenAt history at current call reply
-      by_current None e = absurd (none-some outline (sym (opened ∙ ap (option_map outline_of_open) e)))
+      by_current None e = absurd (true≢false (sym opened ∙ ap (λ (o : Option Transaction). is_some o) e))
       by_current (Some transaction) e = by_time transaction (at transaction.number transaction.begin) (is transaction e)

@@ -26,7 +26,7 @@ use Rattle.lst_legal_runs.proofs.Behind.{state_of-push}
 use Rattle.lst_legal_runs.proofs.Splits.{of_calls, calls_of}
 use Rattle.lst_snapshots.specs.declared.sight.Sight.{Sight}
 use Rattle.lst_snapshots.specs.Sights.{seen}
-use Rattle.lst_legal.specs.Sights.{Shows, ShowsAt, from_begin, IsSightOf, AreSights, begun_time, Opens, TellsSeen}
+use Rattle.lst_legal.specs.Sights.{ShowsAt, from_begin, IsSightOf, AreSights, begun_time, Opens, TellsSeen}
 
 -- ---- one session's
 

@@ -1,6 +1,6 @@
 -- Legal reports at the serializable level: the nine rules with the wider one on ends, each committed transaction answered at its serial place, and
 -- each stale commit explained.
-use Rattle.std.specs.Prelude.{◌≡◌, ◌⊎◌, ℕ, ◌-◌, ◌<◌, ◌≤◌, List, [], ◌∷◌, ◌++◌, Bool, true, false, cond, Option, Some, None, IsSome, IsNone, IfSome, IsSomeAnd, IsTrue, length}
+use Rattle.std.specs.Prelude.{◌⊎◌, ℕ, ◌-◌, ◌<◌, ◌≤◌, List, [], ◌∷◌, ◌++◌, Bool, true, false, cond, Option, Some, None, IsSome, IsNone, IfSome, IsSomeAnd, IsTrue, length}
 use Rattle.std.specs.List.{list_any, fold}
 use Rattle.lst_layout.specs.declared.limits.Limits.{Limits}
 use Rattle.lst_model.specs.declared.commits.Commit.{Commit}
@@ -16,7 +16,6 @@ use Rattle.lst_model.specs.Tables.{Rows, row_of}
 use Rattle.lst_model.specs.Histories.{snapshot}
 use Rattle.lst_replies.specs.declared.reports.Report.{Report}
 use Rattle.lst_replies.specs.declared.states.Transaction.{Transaction}
-use Rattle.lst_replies.specs.declared.states.SessionState.{SessionState}
 use Rattle.lst_replies.specs.Runs.{Answered, AtEachCall, run_of, names, write_of, key_of, is_by, is_begun}
 use Rattle.lst_replies.specs.States.{state_of}
 use Rattle.lst_replies.specs.Explained.{commit_at, has_write_on, is_numbered, TellsSight}

@@ -1,6 +1,8 @@
 -- What is kept along a run to judge serial places and stale commits.
-use Rattle.std.specs.Prelude.{◌≡◌, ℕ, ◌-◌, ◌<◌, ◌==◌, cond, List, Bool, false, length, slice_index_or, Option, Some, None, IfSome}
+use Rattle.std.specs.Prelude.{◌≡◌, ℕ, ◌-◌, ◌<◌, ◌==◌, cond, List, Bool, true, false, length, slice_index_or, Option, Some, None, IfSome}
 use Rattle.std.specs.List.{list_any, filter_map}
+use Rattle.std.specs.BTreeMap.{is_at}
+use Rattle.std.specs.Ordering.{nat_cmp}
 use Rattle.lst_model.specs.declared.commits.Commit.{Commit}
 use Rattle.lst_model.specs.declared.lines.Call.{Call as CallKind}
 use Rattle.lst_model.specs.declared.replies.Reply.{Reply}
@@ -8,7 +10,7 @@ use Rattle.lst_model.specs.Histories.{snapshot}
 use Rattle.lst_replies.specs.declared.states.Transaction.{Transaction}
 use Rattle.lst_replies.specs.Runs.{Answered}
 use Rattle.lst_replies.specs.States.{state_of}
-use Rattle.lst_replies.specs.Explained.{has_write_on}
+use Rattle.lst_replies.specs.Explained.{commit_at, has_write_on}
 use Rattle.lst_legal_runs.specs.declared.marks.Marks.{Marks}
 use Rattle.lst_legal_runs.specs.Marks.{number_at}
 use Rattle.lst_legal_runs.specs.Places.{IfCall}
@@ -39,14 +41,32 @@ abbrev pub has_written : Option Commit → ℕ → Bool
 has_written None key = false
 has_written (Some commit) key = has_write_on key commit
 
--- what these lines have read
-pub record AreReadsOf (reads : Reads) (lines : List Answered) : Type 0 where
+-- the number is one of these
+abbrev pub has_number : List ℕ → ℕ → Bool
+has_number numbers number = list_any (is_at (nat_cmp number)) numbers
+
+-- a key is looked for among the very keys that are named
+abbrev pub AreNamed : Reads → Type 0
+AreNamed reads = (key : ℕ) → has_number reads.named.keys key ≡ has_number reads.keys.items key
+
+-- what these lines have read, under a history
+pub record AreReadsOf (history : List Commit) (reads : Reads) (lines : List Answered) : Type 0 where
   pub keys : reads.keys.items ≡ filter_map (λ one. key_named one.line) lines
+  pub named : AreNamed reads
+  pub told : (time : ℕ) → has_number reads.told.keys time ≡ true → list_any (has_written (commit_at history time)) reads.keys.items ≡ true
   pub whole : reads.whole ≡ list_any (λ one. reads_table one.reply) lines
 
+-- a step keeps that a key is looked for among those that are named
+abbrev pub NamesAsMuch : Reads → Reads → Type 0
+NamesAsMuch old new = AreNamed old → AreNamed new
+
+-- what the lines have read stays so
+abbrev pub StayReads : List Commit → Reads → Reads → Type 0
+StayReads history old new = (lines : List Answered) → AreReadsOf history old lines → AreReadsOf history new lines
+
 -- by number: what the sessions' lines have read since the last begin, behind the front of a run
-abbrev pub AreReads : List Reads → List Answered → Type 0
-AreReads all front = (session : ℕ) (none : Reads) → session < length all → AreReadsOf (slice_index_or all session none) (lines_since_begin session front)
+abbrev pub AreReads : List Commit → List Reads → List Answered → Type 0
+AreReads history all front = (session : ℕ) (none : Reads) → session < length all → AreReadsOf history (slice_index_or all session none) (lines_since_begin session front)
 
 abbrev pub TellsStale : List Commit → List Answered → Answered → Type 0
 TellsStale history before one = IfCall (λ session call reply. StaleIsExplained history before session (state_of session before).current reply) one.line one.reply

@@ -38,7 +38,8 @@ pub fn legal(
 
 /// Whether a store with these limits may give this report to a script of these lines where its sessions are at the serializable
 /// level: whether the report is legal there. The sessions of the script are below the limit. It takes the time of `legal`, and
-/// once more that of what reads tell; a commit that is told stale takes the time of the keys that its transaction has named, too.
+/// once more that of what reads tell; a commit that is told stale takes the time of the shorter of two lists, the keys that its transaction has named and the
+/// writes of the commit that it names, and that once for each such commit.
 pub fn legal_serial(
     alloc: Global,
     limits: &Limits,
@@ -51,8 +52,9 @@ pub fn legal_serial(
     legal_at(alloc, Level::Serializable, limits, lines, report)
 }
 
-/// Whether a report is legal at a level.
-fn legal_at(
+/// Whether a store with these limits may give this report to a script of these lines at a level: `legal` for snapshot isolation, and
+/// `legal_serial` for the serializable level. The sessions of the script are below the limit.
+pub fn legal_at(
     alloc: Global,
     level: Level,
     limits: &Limits,
@@ -132,8 +134,7 @@ fn follows_all(
     if !follows_rules(alloc, level, limits, swept, places)? {
         return Ok(false);
     }
-    let added = follows_level(alloc, level, limits.sessions, swept, places)?;
-    Ok(added)
+    follows_level(alloc, level, limits.sessions, swept, places)
 }
 
 /// Whether they follow the rules that the level adds: the serializable one has two.
@@ -151,10 +152,7 @@ fn follows_level(
 {
     match level {
         Level::Snapshot => Ok(true),
-        Level::Serializable => {
-            let follows = follows_serial(alloc, sessions, swept, places)?;
-            Ok(follows)
-        }
+        Level::Serializable => follows_serial(alloc, sessions, swept, places),
     }
 }
 
@@ -173,8 +171,7 @@ fn follows_serial(
     if !are_stales_explained(alloc, sessions, swept.snapshots(), places)? {
         return Ok(false);
     }
-    let placed = are_commits_in_place(alloc, sessions, swept, places)?;
-    Ok(placed)
+    are_commits_in_place(alloc, sessions, swept, places)
 }
 
 /// Whether the lines of a run follow the rules of both levels, under a history, with the level's own on ends.

@@ -27,7 +27,8 @@ mod stales;
 mod tests;
 mod writes;
 
-pub use judging::{are_sessions_below, legal, legal_serial};
+pub use judging::{are_sessions_below, legal, legal_at, legal_serial};
+pub use lst_legal_runs::Level;
 pub use places::are_commits_in_place;
 pub use sights::are_sights_told;
 pub use stales::are_stales_explained;

@@ -1,12 +1,11 @@
 //! Committed transactions are at their serial places: their calls are answered by the table as of the time before the commit.
-ghost use Rattle.std.specs.Prelude.{◌≡◌, ◌↔◌, ℕ, ◌+◌, ◌<◌, ◌-◌, ◌^◌, List, [], Option, None, length, IsTrue, IfSome, IfOk};
+ghost use Rattle.std.specs.Prelude.{◌≡◌, ◌↔◌, ℕ, ◌+◌, ◌<◌, ◌-◌, ◌^◌, List, [], Option, None, is_some, length, IsTrue, IfSome, IfOk};
 ghost use Rattle.lst_model.specs.Tables.{row_of};
 ghost use Rattle.lst_model.specs.Soundness.{IsSound};
 ghost use Rattle.lst_replies.specs.declared.states.SessionState.{SessionState};
 ghost use Rattle.lst_replies.specs.Runs.{Answered, AtEachCall, speaker_of, write_of};
 ghost use Rattle.lst_replies.specs.States.{state_of};
 ghost use Rattle.lst_legal_runs.specs.Firsts.{AreFirstNumbers};
-ghost use Rattle.lst_legal_runs.specs.Outlines.{outline_of};
 ghost use Rattle.lst_legal_runs.specs.Places.{AreTraced, AreWithin, IfCall, outline_at, run_at, seen_at};
 ghost use Rattle.lst_snapshots.specs.Sights.{seen};
 ghost use Rattle.lst_legal.specs.Sights.{IsSightOf, AreSights};
@@ -15,7 +14,7 @@ ghost use Rattle.lst_legal.specs.Serials.{time_before, from_place, IsSeenAt, Tel
 
 use crate::reads::tells_sight;
 use crate::sights::{no_sights, pass};
-use lst_legal_runs::{Marks, OpenOutline, Place, first_numbers};
+use lst_legal_runs::{Marks, Place, first_numbers};
 use lst_model::{Call, Cause, Key, OutOfMemory, Reply, Time};
 use lst_replies::Answer;
 use lst_snapshots::{Sight, Snapshots, Swept};
@@ -97,25 +96,26 @@ fn tells_place(snapshots: &Swept, sights: &[Option<Sight>], place: &Place) -> bo
         } => is_in_place(
             snapshots,
             &sights[session as usize],
-            &place.outline.current,
+            place.outline.current.is_some(),
             call,
             reply,
         ),
     }
 }
 
+/// Whether a call is answered as it is seen, where a transaction is open and is looked at.
 fn is_in_place(
     snapshots: &Swept,
     sight: &Option<Sight>,
-    current: &Option<OpenOutline>,
+    is_open: bool,
     call: &Call,
     reply: &Reply,
 ) -> bool
-    ensures { (at : ℕ → ℕ → Option ℕ) (state : SessionState) → IsSightOf snapshots.now at sight.now state → current.now ≡ (outline_of state).current → (IsTrue result ↔ IsSeenAt snapshots.now at state.current call.now reply.now) }
+    ensures { (at : ℕ → ℕ → Option ℕ) (state : SessionState) → IsSightOf snapshots.now at sight.now state → is_open ≡ is_some state.current → (IsTrue result ↔ IsSeenAt snapshots.now at state.current call.now reply.now) }
 {
-    let Some(_outline) = current else {
+    if !is_open {
         return true;
-    };
+    }
     let Some(sight) = sight else {
         return true;
     };
@@ -135,9 +135,9 @@ fn tells_written(snapshots: &Snapshots, sight: &Sight, call: &Call, reply: &Repl
     ensures { IsTrue result ↔ IfSome (write_of call.now) (λ write. TellsKey (row_of (seen snapshots.now sight.now) write.key) reply.now) }
 {
     match call {
-        Call::Insert { key, .. } => tells_key(snapshots, sight, *key, reply),
-        Call::Update { key, .. } => tells_key(snapshots, sight, *key, reply),
-        Call::Delete { key } => tells_key(snapshots, sight, *key, reply),
+        Call::Insert { key, .. } | Call::Update { key, .. } | Call::Delete { key } => {
+            tells_key(snapshots, sight, *key, reply)
+        }
         _ => true,
     }
 }

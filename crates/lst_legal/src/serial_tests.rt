@@ -306,3 +306,76 @@ fn a_stale_commit_raises_no_floor(rt: HostRuntime) -> Result<(), Fail> {
     replies.push_str("1 begun 0\nhistory 2\n1 2 1 0\n2 0 1 1\n")?;
     is_judged_behind(&rt, alloc, script.as_str(), replies.as_str(), NEITHER)
 }
+
+/// A transaction that has named the keys 10 to 21 is told stale twice for each of two commits: one that wrote this key alone, and one that wrote this
+/// key and thirty others. Behind it the lines of another transaction of its session, and what they are answered.
+fn is_stale_often(
+    rt: &impl Abort,
+    alloc: Global,
+    keys: (u64, u64),
+    behind: (&str, &str),
+    wanted: Legal,
+) -> Result<(), Fail> {
+    let (alone, among) = keys;
+    let mut rest = String::from_str(alloc, "1 begin\n")?;
+    let mut replies = String::from_str(alloc, "1 begun 1\n")?;
+    for key in 10..22u64 {
+        rest.push_str(format!(in alloc; "1 get {key}\n")?.as_str())?;
+        replies.push_str("1 none\n")?;
+    }
+    rest.push_str("1 update 1 0 _\n0 begin\n")?;
+    rest.push_str(format!(in alloc; "0 insert {alone} 5 5\n0 commit\n0 begin\n")?.as_str())?;
+    replies.push_str("1 ok\n0 begun 1\n0 ok\n0 committed 2\n0 begun 2\n")?;
+    for key in 100..130u64 {
+        rest.push_str(format!(in alloc; "0 insert {key} 5 5\n")?.as_str())?;
+        replies.push_str("0 ok\n")?;
+    }
+    rest.push_str(format!(in alloc; "0 insert {among} 5 5\n0 commit\n")?.as_str())?;
+    rest.push_str("1 commit\n1 commit\n1 commit\n1 commit\n1 abort\n")?;
+    replies.push_str("0 ok\n0 committed 3\n1 conflict stale 2\n1 conflict stale 3\n")?;
+    replies.push_str("1 conflict stale 2\n1 conflict stale 3\n1 aborted\n")?;
+    rest.push_str(behind.0)?;
+    replies.push_str(behind.1)?;
+    replies.push_str("history 3\n1 2 1 0\n2 0 1 1\n3 0 2 2\n")?;
+    is_judged_behind(rt, alloc, rest.as_str(), replies.as_str(), wanted)
+}
+
+#[test]
+fn a_stale_commit_of_many_keys_is_explained_by_one(rt: HostRuntime) -> Result<(), Fail> {
+    let alloc = rt.alloc();
+    for (keys, wanted) in [
+        ((10, 21), SERIALIZABLE),
+        ((21, 10), SERIALIZABLE),
+        ((15, 16), SERIALIZABLE),
+        ((22, 15), NEITHER),
+        ((15, 22), NEITHER),
+        ((9, 9), NEITHER),
+    ] {
+        is_stale_often(&rt, alloc, keys, ("", ""), wanted)?;
+    }
+    Ok(())
+}
+
+#[test]
+fn what_was_told_stale_before_the_begin_explains_nothing(rt: HostRuntime) -> Result<(), Fail> {
+    let alloc = rt.alloc();
+    for (behind, wanted) in [
+        (
+            (
+                "1 begin\n1 get 15\n1 update 1 0 _\n1 commit\n",
+                "1 begun 1\n1 none\n1 ok\n1 conflict stale 2\n",
+            ),
+            SERIALIZABLE,
+        ),
+        (
+            (
+                "1 begin\n1 get 14\n1 update 1 0 _\n1 commit\n",
+                "1 begun 1\n1 none\n1 ok\n1 conflict stale 2\n",
+            ),
+            NEITHER,
+        ),
+    ] {
+        is_stale_often(&rt, alloc, (15, 16), behind, wanted)?;
+    }
+    Ok(())
+}

@@ -64,10 +64,10 @@ fn read_line(alloc: Global, limits: &Limits, text: &str) -> Result<Line, Fail> {
         Ok(script) => script,
         Err(_) => return Err(Fail::from("the line was not read")),
     };
-    match script.into_items().pop() {
-        Some(line) => Ok(line),
-        None => Err(Fail::from("there is no line")),
+    if script.is_empty() {
+        return Err(Fail::from("there is no line"));
     }
+    Ok(script.line(0))
 }
 
 fn is_judged(

@@ -1,11 +1,12 @@
--- Words name the limits of one store at most, those of one table at most, and one load at most.
+-- Words name the limits of one store at most, those of one table, one load, one time and one level at most.
 use Rattle.std.proofs.Common.{◌≡◌, List, Option, Some, codes, sym, ap, ◌∙◌}
 use Rattle.clap.specs.Words.{Text}
 use Rattle.lst_layout.specs.declared.limits.Limits.{Limits}
 use Rattle.lst_layout.specs.Limits.{default_limits}
 use Rattle.lst_options.specs.declared.as_of.AsOfOptions.{AsOfOptions}
+use Rattle.lst_options.specs.declared.level.LevelOptions.{LevelOptions}
 use Rattle.lst_options.specs.declared.load.LoadNumbers.{LoadNumbers}
-use Rattle.lst_options.specs.Options.{GivesAsOf, GivesLimits, GivesLoad, NamesAsOf, NamesLimits, NamesLoad, NamesTable, index_or}
+use Rattle.lst_options.specs.Options.{GivesAsOf, GivesLevel, GivesLimits, GivesLoad, NamesAsOf, NamesLevel, NamesLimits, NamesLoad, NamesTable, index_or}
 
 same_value : {X : Type 0} (o : Option X) (a b : X) → o ≡ Some a → o ≡ Some b → a ≡ b
 same_value o a b first second = let same : Some a ≡ Some b = sym first ∙ second in cc
@@ -65,3 +66,14 @@ gives_one_as_of value a b first second = same_as_of a b (gives_one value a.limit
 
 pub names_one_as_of : (words : List Text) (a b : AsOfOptions) → NamesAsOf words a → NamesAsOf words b → a ≡ b
 names_one_as_of words a b first second = gives_one_as_of _ a b first.gives second.gives
+
+-- ---- a level
+
+same_level : (a b : LevelOptions) → a.limits ≡ b.limits → a.level ≡ b.level → a ≡ b
+same_level a b limits level = λ i. record { limits = limits i; level = level i }
+
+gives_one_level : (value : Text → Option Text) (a b : LevelOptions) → GivesLevel value a → GivesLevel value b → a ≡ b
+gives_one_level value a b first second = same_level a b (gives_one value a.limits b.limits first.limits second.limits) (same_value _ a.level b.level first.level second.level)
+
+pub names_one_level : (words : List Text) (a b : LevelOptions) → NamesLevel words a → NamesLevel words b → a ≡ b
+names_one_level words a b first second = gives_one_level _ a b first.gives second.gives

@@ -1,12 +1,15 @@
--- The options of a store, of a table and of a load on a command line: which words are taken, and which limits and numbers they give.
-use Rattle.std.specs.Prelude.{◌≡◌, ℕ, ◌^◌, ◌&&◌, ◌<◌, ◌≤◌, nat_le, nat_lt, List, [], ◌∷◌, Option, Some, None, option_and_then, if◌then◌else◌, codes}
+-- The options of a store, of a table and of a load on a command line: which words are taken, and which limits, numbers and levels they give.
+use Rattle.std.specs.Prelude.{◌≡◌, ℕ, ◌^◌, ◌&&◌, ◌==◌, ◌<◌, ◌≤◌, nat_le, nat_lt, List, [], ◌∷◌, Option, Some, None, option_and_then, if◌then◌else◌, codes}
 use Rattle.clap.specs.Words.{Text, fault_of, first_of, matches_of}
 use Rattle.lst_layout.specs.declared.limits.Limits.{Limits}
 use Rattle.lst_layout.specs.Limits.{default_limits}
 use Rattle.lst_script.specs.Numbers.{number_of}
+use Rattle.lst_legal_runs.specs.declared.levels.Level.{Level}
+use Rattle.lst_legal_runs.specs.declared.levels.Level.TheVariants.{Snapshot, Serializable}
 use Rattle.lst_options.specs.declared.as_of.AsOfOptions.{AsOfOptions}
+use Rattle.lst_options.specs.declared.level.LevelOptions.{LevelOptions}
 use Rattle.lst_options.specs.declared.load.LoadNumbers.{LoadNumbers}
-use Rattle.lst_options.specs.Words.{as_of_options, load_options, run_options, table_options}
+use Rattle.lst_options.specs.Words.{as_of_options, level_options, load_options, run_options, table_options}
 
 -- ---- the values
 
@@ -37,6 +40,15 @@ seed_or_one (Some text) = number_of text
 abbrev pub time_or_zero : Option Text → Option ℕ
 time_or_zero None = Some 0
 time_or_zero (Some text) = number_of text
+
+-- a level of isolation by its number: 1 or 2
+abbrev pub level_numbered : ℕ → Option Level
+level_numbered number = if number == 1 then Some Snapshot else if number == 2 then Some Serializable else None
+
+-- a level; where it isn't given, snapshot isolation, which is level 1
+abbrev pub level_or_snapshot : Option Text → Option Level
+level_or_snapshot None = Some Snapshot
+level_or_snapshot (Some text) = option_and_then level_numbered (number_of text)
 
 -- ---- the options of a store
 
@@ -76,6 +88,23 @@ pub record NamesAsOf (words : List Text) (options : AsOfOptions) : Type 0 where
 abbrev pub TellsAsOf : List Text → Option AsOfOptions → Type 0
 TellsAsOf words (Some options) = NamesAsOf words options
 TellsAsOf words None = (options : AsOfOptions) → ¬ NamesAsOf words options
+
+-- ---- the options of a store, and a level
+
+-- the value of each option gives its limit, or the level
+pub record GivesLevel (value : Text → Option Text) (options : LevelOptions) : Type 0 where
+  pub limits : GivesLimits value options.limits
+  pub level : level_or_snapshot (value (codes "level")) ≡ Some options.level
+
+-- the words behind a command are taken, each option with one value and none twice, and their values give the limits and the level
+pub record NamesLevel (words : List Text) (options : LevelOptions) : Type 0 where
+  pub taken : fault_of level_options ([] ∷ words) ≡ []
+  pub gives : GivesLevel (λ name. first_of name (matches_of level_options ([] ∷ words))) options
+
+-- these are the limits and the level that the words name, or they name none
+abbrev pub TellsLevel : List Text → Option LevelOptions → Type 0
+TellsLevel words (Some options) = NamesLevel words options
+TellsLevel words None = (options : LevelOptions) → ¬ NamesLevel words options
 
 -- ---- the options of a table
 

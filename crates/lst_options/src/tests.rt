@@ -1,7 +1,10 @@
-//! Words of command lines, and the limits or the load that they name.
+//! Words of command lines, and the limits, the time, the level or the load that they name.
 
-use crate::{LoadNumbers, as_of_of_words, limits_of_words, load_of_words, table_of_words};
+use crate::{
+    LoadNumbers, as_of_of_words, level_of_words, limits_of_words, load_of_words, table_of_words,
+};
 use lst_layout::Limits;
+use lst_legal_runs::Level;
 use lst_model::OutOfMemory;
 use std::alloc::Global;
 use std::process::Abort;
@@ -88,6 +91,7 @@ fn other_words_name_no_limits(rt: HostRuntime) -> Result<(), Fail> {
         "run --ranges=1 --ranges=1",
         "run --range 1",
         "run --keys 1",
+        "run --level 1",
         "run ranges 1",
         "run run",
         "run --help",
@@ -238,6 +242,46 @@ fn time_is_named_beside_limits(rt: HostRuntime) -> Result<(), Fail> {
         assert_eq!(rt;
             found.map(|options| (options.limits.ranges, options.time)),
             wanted
+        );
+    }
+    Ok(())
+}
+
+/// The number of a level.
+fn numbered(level: Level) -> u32 {
+    match level {
+        Level::Snapshot => 1,
+        Level::Serializable => 2,
+    }
+}
+
+#[test]
+fn level_is_named_beside_limits(rt: HostRuntime) -> Result<(), Fail> {
+    for (line, wanted) in [
+        ("check", Some((4, 1))),
+        ("check --level 1", Some((4, 1))),
+        ("check --level 2", Some((4, 2))),
+        ("check --level=2 --ranges 2", Some((2, 2))),
+        ("check --ranges=2 --level=01", Some((2, 1))),
+        ("check --level 0", None),
+        ("check --level 3", None),
+        ("check --level 12", None),
+        ("check --level -1", None),
+        ("check --level 2x", None),
+        ("check --level=", None),
+        ("check --level", None),
+        ("check --level 18446744073709551617", None),
+        ("check --level 1 --level 2", None),
+        ("check --level 2 --ranges 65", None),
+        ("check --level 2 --time 1", None),
+        ("check level 2", None),
+    ] {
+        let words = words_of(rt.alloc(), line)?;
+        let found = level_of_words(rt.alloc(), words.as_slice())?;
+        assert_eq!(rt;
+            found.map(|options| (options.limits.ranges, numbered(options.level))),
+            wanted,
+            "{line}"
         );
     }
     Ok(())

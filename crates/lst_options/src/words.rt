@@ -1,7 +1,7 @@
 //! The words of a command line, taken by options.
 ghost use Rattle.std.specs.Prelude.{◌≡◌, ◌↔◌, true, [], IfOk, IfSome, IsSome, map, option_map, string_bytes};
 ghost use Rattle.clap.specs.Words.{app_of, fault_of, first_of, found_of, is_simple, is_simple_and_free, matches_of, rows_of, with_rule};
-ghost use Rattle.lst_options.specs.Words.{option, as_of_options, bare, load_options, run_options, table_options};
+ghost use Rattle.lst_options.specs.Words.{option, as_of_options, bare, level_options, load_options, run_options, table_options};
 
 use clap::error::ErrorKind;
 use clap::{Arg, ArgAction, ArgMatches, Command};
@@ -30,6 +30,18 @@ pub(crate) fn as_of_matches<'a>(
     ensures rows { IfOk result (λ found. IfSome found (λ matches. rows_of (found_of matches) ≡ matches_of as_of_options (map string_bytes words.entry.now))) }
 {
     parsed(as_of_command(alloc)?, words)
+}
+
+/// The values that the words give the options of a store and a level, or None where they aren't taken. The first word isn't looked at.
+/// The only error is want of memory.
+pub(crate) fn level_matches<'a>(
+    alloc: Global,
+    words: &'a [String],
+) -> Result<Option<ArgMatches<'a>>, OutOfMemory>
+    ensures taken { IfOk result (λ found. IsSome found ↔ (fault_of level_options (map string_bytes words.entry.now) ≡ [])) }
+    ensures rows { IfOk result (λ found. IfSome found (λ matches. rows_of (found_of matches) ≡ matches_of level_options (map string_bytes words.entry.now))) }
+{
+    parsed(level_command(alloc)?, words)
 }
 
 /// The values that the words give the options of a table, or None where they aren't taken. The first word isn't looked at.
@@ -96,6 +108,14 @@ fn as_of_command<'a>(alloc: Global) -> Result<Command<'a>, AllocError>
 {
     let command = run_command(alloc)?;
     with_option(alloc, command, "time")
+}
+
+/// A command that takes the options of a store and a level, and no flag for help or the version.
+fn level_command<'a>(alloc: Global) -> Result<Command<'a>, AllocError>
+    ensures { IfOk result (λ command. app_of command ≡ level_options) }
+{
+    let command = run_command(alloc)?;
+    with_option(alloc, command, "level")
 }
 
 /// A command that takes the options of a table, and no flag for help or the version.

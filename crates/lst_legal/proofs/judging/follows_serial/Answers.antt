@@ -1,4 +1,5 @@
 use Rattle.std.proofs.Common.{◌↔◌, IsTrue, List, subst}
+use Rattle.std.proofs.lemmas.Result.{IfOk-weaker}
 use Rattle.lst_model.specs.declared.commits.Commit.{Commit}
 use Rattle.lst_replies.specs.Runs.{AtEachCall}
 use Rattle.lst_replies.specs.States.{state_of}
@@ -14,7 +15,10 @@ returns-then-not-branch c =
 
 pub returns : goal.returns
 returns c =
-    let decides = subst (λ (history : List Commit). IsTrue c.in_ok-are_stales_explained.field-0 ↔ AtEachCall (λ before session call reply. StaleIsExplained history before session (state_of session before).current reply) (run_at c.args.places.now)) c.snapshots.ensures c.in_ok-are_stales_explained.ensures in (
-      (λ sure. record { places = c.in_ok-placed.ensures.0 sure; stales = passes c.in_ok-are_stales_explained.field-0 c.if-not-branch.false decides }),
-      (λ both. c.in_ok-placed.ensures.1 both.places),
-    )
+    let decides = subst (λ (history : List Commit). IsTrue c.in_ok-are_stales_explained.field-0 ↔ AtEachCall (λ before session call reply. StaleIsExplained history before session (state_of session before).current reply) (run_at c.args.places.now)) c.snapshots.ensures c.in_ok-are_stales_explained.ensures in
+    IfOk-weaker c.are_commits_in_place.result _ _
+    (λ b placed. (
+      (λ sure. record { places = placed.0 sure; stales = passes c.in_ok-are_stales_explained.field-0 c.if-not-branch.false decides }),
+      (λ both. placed.1 both.places),
+    ))
+    c.are_commits_in_place.ensures

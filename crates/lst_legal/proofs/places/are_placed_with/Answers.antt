@@ -2,7 +2,7 @@ use Rattle.std.proofs.Common.{IfSome, ℕ, ◌<◌, take, length, sym, ◌∙◌
 use Rattle.lst_replies.specs.Runs.{speaker_of}
 use Rattle.lst_legal_runs.specs.Places.{seen_at, run_at}
 use Rattle.lst_legal_runs.proofs.Deciding.{is_true, is_false, passes, refuses}
-use Rattle.lst_legal_runs.proofs.Splits.{so_far_none, so_far_step, so_far_wrong, so_far_all}
+use Rattle.lst_legal_runs.proofs.Splits.{so_far_step, so_far_wrong, so_far_all}
 use Rattle.lst_legal_runs.proofs.Placing.{run_more, traced_read}
 use Rattle.lst_legal_runs.proofs.Stepping.{speaker_within}
 use Rattle.lst_legal.specs.Sights.{AreSights}

@@ -4,12 +4,12 @@ use Rattle.lst_model.specs.declared.lines.Line.TheVariants.{Call}
 use Rattle.lst_replies.specs.Seen.{seen}
 use Rattle.lst_replies.specs.Runs.{Answered, answered, speaker_of}
 use Rattle.lst_replies.specs.States.{state_of}
-use Rattle.lst_legal_runs.specs.declared.outlines.StateOutline.{StateOutline}
 use Rattle.lst_legal_runs.specs.Outlines.{outline_of}
 use Rattle.lst_legal_runs.specs.Places.{seen_at, outline_at}
 use Rattle.lst_snapshots.specs.declared.sight.Sight.{Sight}
 use Rattle.lst_legal.specs.Sights.{IsSightOf}
 use Rattle.lst_legal.specs.Serials.{TellsPlace}
+use Rattle.lst_legal.proofs.Serials.{opened_same}
 use Rattle.lst_legal.proofs.places.tells_place.Goals as goal
 
 pub returns-in-Call : goal.returns-in-Call
@@ -23,4 +23,4 @@ returns-in-Call c = λ at before are outline.
     subst (λ (one : Answered). IsTrue c.is_in_place.result ↔ TellsPlace c.args.snapshots.now at before one) (sym one_is)
     (c.is_in_place.ensures (at session) (state_of session before)
     (subst (λ (o : Option Sight). IsSightOf c.args.snapshots.now (at session) o (state_of session before)) (sym (c.index-sights-session.is ∙ get_or_default sights session c.index-sights-session.result None within)) (are session within))
-    (ap (λ (o : StateOutline). o.current) here))
+    (c.is_some.ensures ∙ opened_same c.args.place.now.outline (state_of session before) here))

@@ -6,4 +6,4 @@ use Rattle.lst_legal.proofs.Rereading.{Reading}
 use Rattle.lst_legal.proofs.stales.are_explained_with.Given as goal
 
 abbrev pub invariant-loop-place : goal.invariant-loop-place
-invariant-loop-place l = SoFar seen_at (TellsStale l.snapshots) l.places l.place-index × Reading (length l.fn.reads) l.reads (run_at (take l.place-index l.places))
+invariant-loop-place l = SoFar seen_at (TellsStale l.snapshots) l.places l.place-index × Reading l.snapshots (length l.fn.reads) l.reads (run_at (take l.place-index l.places))
