@@ -14,7 +14,10 @@ fn expect_printed(rt: &impl Abort, alloc: Global, text: &str, wanted: &str) -> R
     let printed = print(alloc, &script)?;
     assert_eq!(rt; printed.as_bytes(), wanted.as_bytes());
     let again = parse(alloc, printed.as_bytes(), &Limits::default())?;
-    assert_eq!(rt; again.items(), script.items());
+    assert_eq!(rt;
+        again.unpacked(alloc)?.as_slice(),
+        script.unpacked(alloc)?.as_slice()
+    );
     Ok(())
 }
 
@@ -101,7 +104,7 @@ fn a_session_without_a_second_key_moves_nothing(rt: HostRuntime) -> Result<(), F
     let text = print(rt.alloc(), &script)?;
     // Session 1 owns the key 2 alone, so the second of the three steps has no lines.
     let mut updates = 0u32;
-    for line in script.items() {
+    for line in script.unpacked(rt.alloc())?.iter() {
         match line {
             Line::Call {
                 session,
@@ -126,7 +129,7 @@ fn a_session_without_a_second_key_moves_nothing(rt: HostRuntime) -> Result<(), F
 fn a_merge_stands_behind_each_64_steps(rt: HostRuntime) -> Result<(), Fail> {
     let script = generate(rt.alloc(), 3, 600, 4)?;
     let mut merges = Vec::new(rt.alloc());
-    for line in script.items() {
+    for line in script.unpacked(rt.alloc())?.iter() {
         match line {
             Line::Merge { range, .. } => merges.push(*range)?,
             _ => {}

@@ -68,7 +68,7 @@ fn every_built_line_is_read(rt: HostRuntime) -> Result<(), Fail> {
         Line::Phase,
         call(2, Call::Abort),
     ];
-    assert_eq!(rt; script.items(), lines.as_slice());
+    assert_eq!(rt; script.unpacked(rt.alloc())?.as_slice(), lines.as_slice());
     Ok(())
 }
 
@@ -161,7 +161,7 @@ fn a_merge_has_a_range_and_a_column_below_their_limits(rt: HostRuntime) -> Resul
             column: 0,
         },
     ];
-    assert_eq!(rt; script.items(), lines.as_slice());
+    assert_eq!(rt; script.unpacked(rt.alloc())?.as_slice(), lines.as_slice());
     for (text, kind) in [
         (b"merge".as_slice(), FaultKind::BadCount),
         (b"merge 0", FaultKind::BadCount),

@@ -11,7 +11,8 @@ use std::test::Fail;
 fn expect_judged(rt: &impl Abort, alloc: Global, text: &str, wanted: bool) -> Result<(), Fail> {
     let limits = Limits::default();
     let claim = read_claim(alloc, text.as_bytes(), &limits)?;
-    let judged = legal(alloc, &limits, claim.script.items(), &claim.report)?;
+    let lines = claim.script.unpacked(alloc)?;
+    let judged = legal(alloc, &limits, lines.as_slice(), &claim.report)?;
     assert_eq!(rt; judged, wanted);
     Ok(())
 }
@@ -140,7 +141,7 @@ fn read_apart(alloc: Global, text: &[u8]) -> Result<(usize, usize), ScriptFault>
     let script = text.get(..front).unwrap_or(b"");
     let read = parse(alloc, script, &limits)?;
     match parse_report(alloc, text.get(behind..).unwrap_or(b""), 2) {
-        Ok(report) => Ok((read.items().len(), report.replies.len())),
+        Ok(report) => Ok((read.len(), report.replies.len())),
         Err(ReportFault::Bad { line }) => Err(ScriptFault::Bad {
             line: newlines(script).wrapping_add(1).wrapping_add(line),
             kind: FaultKind::BadReport,
@@ -163,10 +164,7 @@ fn a_text_with_a_byte_changed_is_read_as_its_parts_are(rt: HostRuntime) -> Resul
                 changed.push(if at == place { byte } else { *old })?;
             }
             let read = read_claim(alloc, changed.as_slice(), &Limits::default());
-            let counted = read.map(|claim| (
-                claim.script.items().len(),
-                claim.report.replies.len(),
-            ));
+            let counted = read.map(|claim| (claim.script.len(), claim.report.replies.len()));
             assert_eq!(rt; counted, read_apart(alloc, changed.as_slice()));
             match counted {
                 Ok(_) => claims = claims.wrapping_add(1),

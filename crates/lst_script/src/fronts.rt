@@ -11,6 +11,7 @@ use crate::columns::Heads;
 use crate::pair_fronts::{named_cells_in_front, named_changes_in_front, named_column_in_front};
 use arrayvec::ArrayVec;
 use lst_layout::Limits;
+use lst_line_list::LineList;
 use lst_model::{Call, Line, OutOfMemory, Patch, Row};
 
 /// The most digits of a number that is read here: each such number fits 64 bits.
@@ -291,9 +292,9 @@ fn update_in_front<'a>(text: &'a [u8], heads: Heads<'_>) -> Option<(Call, &'a [u
 fn push_found<'a>(
     found: Option<(Call, &'a [u8])>,
     session: u32,
-    lines: &mut Vec<Line>,
+    lines: &mut LineList,
 ) -> Result<Option<&'a [u8]>, OutOfMemory>
-    ensures { (columns : Columns) (text : List ℕ) → IfSome found.entry (λ call. BeginsWithCall columns text call.0 call.1.now) → IfOk result (AddsCall columns session text lines.old.items lines.new.items) }
+    ensures { (columns : Columns) (text : List ℕ) → IfSome found.entry (λ call. BeginsWithCall columns text call.0 call.1.now) → IfOk result (AddsCall columns session text lines.old lines.new) }
 {
     let Some((call, rest)) = found else {
         return Ok(None);
@@ -308,11 +309,11 @@ fn push_call<'a>(
     text: &'a [u8],
     heads: Heads<'_>,
     session: u32,
-    lines: &mut Vec<Line>,
+    lines: &mut LineList,
 ) -> Result<Option<&'a [u8]>, OutOfMemory>
     requires narrow { count_of (columns_of heads) ≤ 8 }
     requires proper { AreProper (columns_of heads) }
-    ensures { IfOk result (AddsCall (columns_of heads.entry) session text.now lines.old.items lines.new.items) }
+    ensures { IfOk result (AddsCall (columns_of heads.entry) session text.now lines.old lines.new) }
 {
     match text {
         [b'g', ..] => push_found(get_in_front(text), session, lines),
@@ -355,11 +356,11 @@ pub fn push_front<'a>(
     text: &'a [u8],
     heads: Heads<'_>,
     limits: &Limits,
-    lines: &mut Vec<Line>,
+    lines: &mut LineList,
 ) -> Result<Option<&'a [u8]>, OutOfMemory>
     requires narrow { count_of (columns_of heads) ≤ 8 }
     requires proper { AreProper (columns_of heads) }
-    ensures { IfOk result (AddsLine limits.now (columns_of heads.entry) text.now lines.old.items lines.new.items) }
+    ensures { IfOk result (AddsLine limits.now (columns_of heads.entry) text.now lines.old lines.new) }
 {
     let Some((session, call)) = session_in_front(text, limits.sessions) else {
         return Ok(None);

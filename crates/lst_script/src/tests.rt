@@ -210,7 +210,10 @@ fn drawn_scripts_are_printed_and_read(rt: HostRuntime) -> Result<(), Fail> {
         let drawn = drawn_script(alloc, seed, 50)?;
         let text = print2(alloc, &drawn)?;
         let read = parse_named(alloc, text.as_bytes(), &Limits::default())?;
-        assert_eq!(rt; read.script.items(), drawn.script.items());
+        assert_eq!(rt;
+            read.script.unpacked(alloc)?.as_slice(),
+            drawn.script.unpacked(alloc)?.as_slice()
+        );
         assert_eq!(rt; print2(alloc, &read)?.as_bytes(), text.as_bytes());
     }
     Ok(())

@@ -1,0 +1,3 @@
+pub mod Behind
+pub mod Slicing
+pub mod Values
