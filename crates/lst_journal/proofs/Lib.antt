@@ -1,2 +1,9 @@
+pub mod Owning
+pub mod Lists
+pub mod Telling
+pub mod Committing
+pub mod Passing
+pub mod ByCrew
+pub mod Answering
 pub mod Looking
 pub mod Opened

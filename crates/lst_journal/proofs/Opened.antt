@@ -1,5 +1,5 @@
 -- A journal that was opened: the commits of its records are run again.
-use Rattle.std.proofs.Common.{◌≡◌, ℕ, suc, ◌<◌, Bool, List, [], ◌∷◌, length, refl, sym, ap, ◌∙◌, subst, arith}
+use Rattle.std.proofs.Common.{◌≡◌, ℕ, suc, ◌<◌, ◌≤◌, Bool, true, false, cond, Option, Some, None, List, [], ◌∷◌, length, replicate, refl, sym, ap, ◌∙◌, subst, arith}
 use Rattle.std.specs.List.{AllByRecursion}
 use Rattle.lst_layout.specs.declared.limits.Limits.{Limits}
 use Rattle.lst_model.specs.declared.acts.Act.{Act}
@@ -9,18 +9,26 @@ use Rattle.lst_model.specs.declared.commits.Commit.{Commit}
 use Rattle.lst_model.specs.Lines.{CallFits}
 use Rattle.lst_snapshots.specs.Replays.{numbered_at, numbered_from, IsRecovered}
 use Rattle.lst_replay.specs.Again.{call_of}
-use Rattle.lst_replay.specs.Counts.{SameCommits}
+use Rattle.lst_core_state.specs.declared.known.Known.{Known}
+use Rattle.lst_machine.specs.State.{Opened}
+use Rattle.lst_refinement.specs.Telling.{opened_of}
+use Rattle.lst_replay.specs.Counts.{IsCounted, SameCommits}
 use Rattle.lst_replay.specs.Rests.{HasRoomFor}
 use Rattle.lst_replay.specs.Runs.{HasWrites, IsFullAt}
-use Rattle.lst_replay.proofs.Runs.{again_are_same, numbered_are_same, same_have_room}
+use Rattle.lst_replay.proofs.Runs.{again_are_same, again_is_counted, numbered_are_same, same_have_room}
 use Rattle.lst_redo.specs.Format.{FitsTable, IsWrite, HasRecord}
 use Rattle.lst_redo.specs.Journals.{StandsFor, HasOneList}
 use Rattle.lst_redo.specs.Logs.{Keeps}
 use Rattle.lst_redo.specs.declared.log.Log.{Log}
 use Rattle.lst_recovery.specs.Recoveries.{HasRunAgain}
 use Rattle.lst_rule.specs.declared.store.Store.{Store as Table}
+use Rattle.lst_rule.specs.declared.view.View.{View}
+use Rattle.lst_rule.specs.Rule.{knows}
 use Rattle.lst_session.specs.declared.crew.Crew.{Crew}
+use Rattle.lst_session.specs.Crews.{store_told}
+use Rattle.lst_session.proofs.Crewed.{opened_is}
 use Rattle.lst_journal.specs.Openings.{HasOpened, IsTooFull}
+use Rattle.lst_journal.proofs.Lists.{own_opened}
 
 -- ---- the commits of records can be run again
 
@@ -48,6 +56,14 @@ numbered_again time (c ∷ cs) = ap (λ (ds : List Commit). numbered_at time c �
 recovered_again : (cs : List Commit) → IsRecovered cs → IsRecovered (numbered_from 1 cs)
 recovered_again cs recovered front c rest split = recovered front c rest (sym (numbered_again 1 cs) ∙ split)
 
+-- a session without an open transaction
+shut : (k : Known) → opened_of k ≡ None → k.is_open ≡ false
+shut k e = at k.is_open e
+  where
+    at : (b : Bool) → cond {A = Option Opened} b (Some (record { begin = k.begin; read_only = k.read_only })) None ≡ None → b ≡ false
+    at true some = cc
+    at false none = refl
+
 -- ---- what was read of a disk, with its log
 
 module _ {D : Type 0} (content : D → List ℕ) (images : D → List ℕ → Type 0) (limits : Limits) (old : D) (log : Log D) (read : List Commit)
@@ -61,22 +77,27 @@ module _ {D : Type 0} (content : D → List ℕ) (images : D → List ℕ → Ty
   ran_of : (store : Table) (crew : Crew) → HasRunAgain store limits read crew → HasRunAgain store limits (numbered_from 1 found.0) crew
   ran_of store crew ran = subst (λ (cs : List Commit). HasRunAgain store limits cs crew) found.3 ran
 
-  pub has_opened : (store : Table) (crew : Crew) (failed : Bool) → log.columns ≡ limits.columns → store.layout.limits ≡ limits → HasRunAgain store limits read crew
-      → (commits : List Commit) × HasOpened content images limits old commits (record { log = log; store = store; crew = crew; failed = failed })
-  has_opened store crew failed columns layout ran = (
-    found.0,
-    record {
-      stood = found.1;
-      journal = record {
-        keeps = found.2;
-        columns = columns ∙ ap (λ (l : Limits). l.columns) (sym layout);
-        crew_of = ran.crew_of;
-        tells = ran.tells;
-        same = subst (λ (h : List Commit). SameCommits h found.0) (sym (ran_of store crew ran).rested.history) (again_are_same found.0 1);
-      };
-      ran = ran_of store crew ran;
-    },
-  )
+  pub has_opened : (store : Table) (crew : Crew) (own : List (List Write)) (failed : Bool) → log.columns ≡ limits.columns → limits.columns ≤ 8 → store.layout.limits ≡ limits → HasRunAgain store limits read crew → own ≡ replicate limits.sessions []
+      → (commits : List Commit) × HasOpened content images limits old commits (record { log = log; store = store; crew = crew; own = own; failed = failed })
+  has_opened store crew own failed columns few layout ran none =
+      let ran_now = ran_of store crew ran in
+      let v : View = crew.seat.view in (
+        found.0,
+        record {
+          stood = found.1;
+          journal = record {
+            keeps = found.2;
+            columns = columns ∙ ap (λ (l : Limits). l.columns) (sym layout);
+            few = subst (λ (n : ℕ). n ≤ 8) (sym columns) few;
+            crew_of = ran.crew_of;
+            tells = ran.tells;
+            same = subst (λ (h : List Commit). SameCommits h found.0) (sym ran_now.rested.history) (again_are_same found.0 1);
+            counted = subst (λ (l : Limits). IsCounted l (store_told v)) (sym ran_now.limits_are) (subst (IsCounted limits) (sym ran_now.told) (again_is_counted limits (numbered_from 1 found.0) ran_now.runs));
+            own = own_opened v own (none ∙ ap (λ (l : Limits). replicate l.sessions []) (sym ran_now.limits_are)) (λ t below. shut (knows v t) (sym (opened_is v t below) ∙ ran_now.rested.opened t));
+          };
+          ran = ran_now;
+        },
+      )
 
   pub too_full : (time : ℕ) → IsFullAt limits read time → IsTooFull limits (content old) time
   too_full time full = record {

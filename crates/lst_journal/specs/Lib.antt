@@ -1,2 +1,4 @@
+pub mod Answers
 pub mod Journals
 pub mod Openings
+pub mod Owns

@@ -1,19 +1,26 @@
 //! A journal, opened over a disk that a crash may have left.
-ghost use Rattle.std.specs.Prelude.{◌≡◌, ◌≢◌, ◌≤◌, ◌⊎◌, ◌↔◌, ◌-◌, ℕ, List, IfOk, IfErr, IfSome, Some, false};
+ghost use Rattle.std.specs.Prelude.{◌≡◌, ◌≢◌, ◌≤◌, ◌⊎◌, ◌↔◌, ◌-◌, ℕ, List, [], replicate, IfOk, IfErr, IfSome, Some, Err, false};
+ghost use Rattle.std.specs.List.{AllByRecursion};
 ghost use Rattle.lst_model.specs.declared.commits.Commit.{Commit as CommitValue};
 ghost use Rattle.lst_model.specs.Faults.{Rose};
 ghost use Rattle.lst_disk.specs.Disk.{LeavesOnly};
 ghost use Rattle.lst_redo.specs.Journals.{StandsFor, IsDamagedAt};
 ghost use Rattle.lst_redo.specs.Stores.{LastsSince};
 ghost use Rattle.lst_replay.specs.Rests.{HasRoomFor};
+ghost use Rattle.lst_replay.specs.Runs.{HasWrites, IsFullAt};
+ghost use Rattle.lst_recovery.specs.Recoveries.{HasRunAgain};
+ghost use Rattle.lst_snapshots.specs.Replays.{IsRecovered};
 ghost use Rattle.lst_journal.specs.Openings.{HasOpened, IsTooFull};
 
 use crate::journal::Redo;
 use lst_disk::Disk;
 use lst_layout::Layout;
-use lst_model::Time;
+use lst_model::{Commit, OutOfMemory, Time};
+use lst_own::OwnWrites;
 use lst_recovery::{RecoveryFault, recover};
 use lst_redo::{OpenCause as LogCause, OpenRefusal as LogRefusal, image_has_one_history, open};
+use lst_rule::Store;
+use lst_session::Crew;
 use std::alloc::Global;
 
 /// Why a journal was not opened.
@@ -65,11 +72,12 @@ pub fn open_redo<D: Disk>(
 {
     image_has_one_history();
     match open(alloc, disk, layout.limits.columns) {
-        Ok((log, snapshots)) => match recover(alloc, layout, snapshots.commits()) {
-            Ok((store, crew)) => Ok(Redo {
+        Ok((log, snapshots)) => match recovered(alloc, layout, snapshots.commits()) {
+            Ok((store, crew, own)) => Ok(Redo {
                 log,
                 store,
                 crew,
+                own,
                 failed: false,
             }),
             Err(fault) => Err(OpenRefusal {
@@ -78,6 +86,27 @@ pub fn open_redo<D: Disk>(
             }),
         },
         Err(refusal) => Err(refused(refusal)),
+    }
+}
+
+/// A store with its crew, recovered from commits, and no writes for each of its sessions.
+fn recovered(
+    alloc: Global,
+    layout: &Layout,
+    commits: &[Commit],
+) -> Result<(Store, Crew, OwnWrites), RecoveryFault>
+    requires recovered { IsRecovered commits.now }
+    requires writes { AllByRecursion (HasWrites layout.now.limits.columns) commits.now }
+    ensures store { IfOk result (λ x. x.0.layout ≡ layout.now) }
+    ensures crew { IfOk result (λ x. HasRunAgain x.0 layout.now.limits commits.now x.1) }
+    ensures own { IfOk result (λ x. x.2 ≡ replicate layout.now.limits.sessions []) }
+    ensures full { (time : ℕ) → result ≡ Err (RecoveryFault.Full time) → IsFullAt layout.now.limits commits.now time }
+    ensures never { HasRoomFor layout.now.limits commits.now → (time : ℕ) → ¬ (result ≡ Err (RecoveryFault.Full time)) }
+{
+    let (store, crew) = recover(alloc, layout, commits)?;
+    match OwnWrites::new(alloc, layout.limits.sessions) {
+        Ok(own) => Ok((store, crew, own)),
+        Err(OutOfMemory) => Err(RecoveryFault::OutOfMemory),
     }
 }
 

@@ -1,7 +1,7 @@
 mod Again
 mod Crashes
 mod Loops
-mod Moments
+pub mod Moments
 mod Ones
 mod Pushes
 mod Found

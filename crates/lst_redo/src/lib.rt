@@ -22,4 +22,4 @@ mod write;
 pub use laws::image_has_one_history;
 pub use log::{AppendFault, Log};
 pub use opening::{OpenCause, OpenRefusal, open};
-pub use read::is_record;
+pub use read::{has_place, is_record};
