@@ -1,0 +1,298 @@
+-- What the calls of a session leave of it, one after another.
+use Rattle.std.proofs.Common.{◌≡◌, ◌≢◌, ℕ, ◌+◌, ◌<◌, ◌≤◌, Bool, false, true, cond, List, [], ◌∷◌, ◌++◌, length, refl, sym, ap, ◌∙◌, subst, arith, append-nil, append_assoc, length-append}
+use Rattle.std.specs.Prelude.{Some, Result, Ok, Err, OnOk, OnErr, nat_lt}
+use Rattle.lst_model.specs.declared.acts.Act.{Act}
+use Rattle.lst_model.specs.declared.acts.Act.TheVariants.{Put}
+use Rattle.lst_model.specs.declared.acts.Write.{Write}
+use Rattle.lst_model.specs.declared.commits.Commit.{Commit}
+use Rattle.lst_model.specs.Tables.{row_of}
+use Rattle.lst_model.specs.Histories.{Extends, table_at, snapshot, joined}
+use Rattle.lst_core_state.specs.Writes.{write, commit}
+use Rattle.lst_core_state.specs.declared.known.Known.{Known}
+use Rattle.lst_core_state.specs.State.{mine}
+use Rattle.lst_rule.specs.declared.view.View.{View}
+use Rattle.lst_rule.specs.Rule.{knows}
+use Rattle.lst_rule.specs.declared.store.Store.{Store}
+use Rattle.lst_refinement.specs.Effects.{SameTransactions}
+use Rattle.lst_session.specs.declared.session.Session.{Session}
+use Rattle.lst_session.specs.Calls.{Called, Begins, Gets, Accepts, Refuses, Commits, Ends, FindsHeld, row_seen}
+use Rattle.lst_session.specs.Parting.{known_by}
+use Rattle.lst_session.specs.Passes.{IsReady}
+use Rattle.lst_work_laws.proofs.Telling.{extends_on}
+use Rattle.lst_accounts.specs.declared.transfer.Transfer.{Transfer}
+use Rattle.lst_accounts.specs.Books.{account, opening_of, setting_of, IsPaid, Transfers}
+use Rattle.lst_accounts.proofs.Lasting.{same_table}
+use Rattle.lst_embedded.specs.Deeds.{opening_balance, IsOpening, IsMove, Lasts}
+use Rattle.lst_embedded.specs.Doing.{HasAdded, HasMade, HasDone, HasStarted, GoesOn, HasMoved, commit_of}
+use Rattle.lst_embedded.proofs.Adding.{long, all_last, all_join}
+
+-- ---- one call
+
+now_is : (a b : Session) → b.number ≡ a.number → knows b.seat.view a.number ≡ known_by b
+now_is a b e = ap (knows b.seat.view) (sym e)
+
+pub added_by : (a b : Session) (more : List Commit) → b.number ≡ a.number → Called a.seat.view b.seat.view a.number → mine a.number (knows b.seat.view a.number) ≡ mine a.number (known_by a) ++ more → HasAdded a b more
+added_by a b more e called more_is = record {
+  number = e;
+  hosted = called.learns.hosted;
+  seen = subst (λ (k : Known). Extends k.seen (known_by a).seen) (now_is a b e) called.seen;
+  mine = subst (λ (k : Known). mine a.number k ≡ mine a.number (known_by a) ++ more) (now_is a b e) more_is;
+}
+
+-- a call that leaves the session's commits
+pub kept_by : (a b : Session) → b.number ≡ a.number → Called a.seat.view b.seat.view a.number → mine a.number (knows b.seat.view a.number) ≡ mine a.number (known_by a) → HasAdded a b []
+kept_by a b e called same = added_by a b [] e called (same ∙ sym (append-nil (mine a.number (known_by a))))
+
+-- and one that leaves the view
+pub still_by : (a b : Session) → b.number ≡ a.number → b.seat.view ≡ a.seat.view → HasAdded a b []
+still_by a b e same = record {
+  number = e;
+  hosted = ap (λ (v : View). v.hosts) same;
+  seen = ([], ap (λ (k : Known). k.seen) known ∙ sym (append-nil (known_by a).seen));
+  mine = ap (mine a.number) known ∙ sym (append-nil (mine a.number (known_by a)));
+}
+  where
+    known : known_by b ≡ known_by a
+    known = sym (now_is a b e) ∙ ap (λ (v : View). knows v a.number) same
+
+pub added_none : (a : Session) → HasAdded a a []
+added_none a = still_by a a refl refl
+
+pub started_by : (a b : Session) (clock : ℕ) → b.number ≡ a.number → Begins a.seat.view b.seat.view a.number clock clock false → HasStarted a b
+started_by a b clock e x = record {
+  added = kept_by a b e x.called x.mine;
+  opened = subst (λ (k : Known). k.is_open ≡ true) (now_is a b e) x.begun.is_open;
+  own = subst (λ (k : Known). k.own ≡ []) (now_is a b e) x.own;
+  early = subst (λ (k : Known). k.begin ≤ length k.seen) (now_is a b e) (let begun = x.begun.begin_is in let seen = x.seen in omega (arith, begun, seen));
+}
+
+committed_by : (a b : Session) (time : ℕ) → b.number ≡ a.number → Commits a.seat.view b.seat.view a.number time → HasAdded a b (commit_of a ∷ [])
+committed_by a b time e x = added_by a b (commit_of a ∷ []) e x.called x.mine
+
+goes_by : (a b : Session) (own : List Write) → b.number ≡ a.number → Called a.seat.view b.seat.view a.number → SameTransactions (known_by a) (knows b.seat.view a.number) → (knows b.seat.view a.number).own ≡ own
+    → mine a.number (knows b.seat.view a.number) ≡ mine a.number (known_by a) → GoesOn a b own
+goes_by a b own e called same own_is kept = record {
+  added = kept_by a b e called kept;
+  transaction = subst (λ (k : Known). SameTransactions (known_by a) k) (now_is a b e) same;
+  own_is = subst (λ (k : Known). k.own ≡ own) (now_is a b e) own_is;
+}
+
+pub got_by : (a b : Session) (key : ℕ) (row : _) → b.number ≡ a.number → Gets a.seat.view b.seat.view a.number key row → GoesOn a b (known_by a).own
+got_by a b key row e x = goes_by a b (known_by a).own e x.called x.same.transaction x.same.own x.same.mine
+
+pub got_row : (a b : Session) (key : ℕ) (row : _) → b.number ≡ a.number → Gets a.seat.view b.seat.view a.number key row → row ≡ row_seen (known_by b) key
+got_row a b key row e x = subst (λ (k : Known). row ≡ row_seen k key) (now_is a b e) x.is
+
+pub accepted_by : (a b : Session) (key most : ℕ) (act : Act) → b.number ≡ a.number → Accepts a.seat.view b.seat.view a.number key most act → GoesOn a b (joined (known_by a).own (write key act))
+accepted_by a b key most act e x = goes_by a b (joined (known_by a).own (write key act)) e x.called x.transaction x.own x.mine
+
+pub refused_by : (a b : Session) (key most : ℕ) → b.number ≡ a.number → Refuses a.seat.view b.seat.view a.number key most → GoesOn a b (known_by a).own
+refused_by a b key most e x = goes_by a b (known_by a).own e x.called x.same.transaction x.same.own x.same.mine
+
+-- ---- one call after another
+
+pub added_on : (a b c : Session) (xs ys : List Commit) → HasAdded a b xs → HasAdded b c ys → HasAdded a c (xs ++ ys)
+added_on a b c xs ys x y = record {
+  number = y.number ∙ x.number;
+  hosted = y.hosted ∙ x.hosted;
+  seen = extends_on (known_by a).seen (known_by b).seen (known_by c).seen x.seen y.seen;
+  mine = subst (λ (n : ℕ). mine n (known_by c) ≡ mine n (known_by b) ++ ys) x.number y.mine ∙ (ap (λ (cs : List Commit). cs ++ ys) x.mine ∙ append_assoc (mine a.number (known_by a)) xs ys);
+}
+
+pub goes_none : (a : Session) → GoesOn a a (known_by a).own
+goes_none a = record { added = added_none a; transaction = record { number = refl; begin = refl; read_only = refl; is_open = refl }; own_is = refl }
+
+pub goes_on : (a b c : Session) (one other : List Write) → GoesOn a b one → GoesOn b c other → GoesOn a c other
+goes_on a b c one other x y = record {
+  added = added_on a b c [] [] x.added y.added;
+  transaction = record {
+    number = y.transaction.number ∙ x.transaction.number;
+    begin = y.transaction.begin ∙ x.transaction.begin;
+    read_only = y.transaction.read_only ∙ x.transaction.read_only;
+    is_open = y.transaction.is_open ∙ x.transaction.is_open;
+  };
+  own_is = y.own_is;
+}
+
+-- with what it wrote when it goes on from what it had written
+pub goes_with : (a b c : Session) (act : List Write → List Write) → GoesOn a b (known_by a).own → GoesOn b c (act (known_by b).own) → GoesOn a c (act (known_by a).own)
+goes_with a b c act x y = subst (λ (own : List Write). GoesOn a c (act own)) x.own_is (goes_on a b c (known_by a).own (act (known_by b).own) x y)
+
+-- ---- a commit is tried again and again
+
+-- a transaction that goes on as it was would be the same commit
+same_commit : (a b : Session) → GoesOn a b (known_by a).own → commit_of b ≡ commit_of a
+same_commit a b goes = let now = known_by b in let then = known_by a in
+    ap (λ (s : ℕ). commit s now.number now.begin now.own) goes.added.number
+    ∙ (ap (λ (n : ℕ). commit a.number n now.begin now.own) goes.transaction.number
+    ∙ (ap (λ (n : ℕ). commit a.number then.number n now.own) goes.transaction.begin
+    ∙ ap (λ (own : List Write). commit a.number then.number then.begin own) goes.own_is))
+
+pub committed_at_last : (a b c : Session) (time : ℕ) → GoesOn a b (known_by a).own → c.number ≡ b.number → Commits b.seat.view c.seat.view b.number time → HasAdded a c (commit_of a ∷ [])
+committed_at_last a b c time goes e x = subst (λ (one : Commit). HasAdded a c (one ∷ [])) (same_commit a b goes) (added_on a b c [] (commit_of b ∷ []) goes.added (committed_by b c time e x))
+
+pub busy_still : (a b c : Session) → GoesOn a b (known_by a).own → c.number ≡ b.number → FindsHeld b.seat.view c.seat.view b.number → GoesOn a c (known_by a).own
+busy_still a b c goes e x = goes_with a b c (λ own. own) goes (goes_by b c (known_by b).own e x.called x.same.transaction x.same.own x.same.mine)
+
+-- one that goes on is open still, and has its writes
+pub open_still : (a b : Session) → GoesOn a b (known_by a).own → (known_by a).is_open ≡ true → (known_by b).is_open ≡ true
+open_still a b goes opened = goes.transaction.is_open ∙ opened
+
+pub wrote_still : (a b : Session) → GoesOn a b (known_by a).own → 0 < length (known_by a).own → 0 < length (known_by b).own
+wrote_still a b goes wrote = subst (λ (own : List Write). 0 < length own) (sym goes.own_is) wrote
+
+-- ---- a write is tried again and again
+
+pub set_at_last : (a b c : Session) (key most : ℕ) (act : Act) → GoesOn a b (known_by a).own → c.number ≡ b.number → Accepts b.seat.view c.seat.view b.number key most act → GoesOn a c (joined (known_by a).own (write key act))
+set_at_last a b c key most act goes e x = goes_with a b c (λ own. joined own (write key act)) goes (accepted_by b c key most act e x)
+
+pub refused_still : (a b c : Session) (key most : ℕ) → GoesOn a b (known_by a).own → c.number ≡ b.number → Refuses b.seat.view c.seat.view b.number key most → GoesOn a c (known_by a).own
+refused_still a b c key most goes e x = goes_with a b c (λ own. own) goes (refused_by b c key most e x)
+
+module _ (P : List Commit → Commit → Type 0) (lasts : Lasts P) where
+  pub made_none : (a : Session) → HasMade P a a 0
+  made_none a = record { more = []; added = added_none a; count = refl; each = tt }
+
+  pub made_on : (a b c : Session) (m n : ℕ) → HasMade P a b m → HasMade P b c n → HasMade P a c (m + n)
+  made_on a b c m n x y = record {
+    more = x.more ++ y.more;
+    added = added_on a b c x.more y.more x.added y.added;
+    count = let size = length-append x.more y.more in let a = x.count in let b = y.count in omega (arith, size, a, b);
+    each = all_join (P (known_by c).seen) x.more y.more (all_last P lasts (known_by c).seen (known_by b).seen y.added.seen x.more x.each) y.each;
+  }
+
+  -- once after nothing
+  pub made_after : (a b c : Session) (n : ℕ) → HasAdded a b [] → HasMade P b c n → HasMade P a c n
+  made_after a b c n x y = record { more = y.more; added = added_on a b c [] y.more x y.added; count = y.count; each = y.each }
+
+module _ (store : Store) (P : List Commit → Commit → Type 0) where
+  pub done_none : (a : Session) → IsReady store a → HasDone store P a a 0
+  done_none a ready = record { ready = ready; made = record { more = []; added = added_none a; count = refl; each = tt } }
+
+  pub done_on : Lasts P → (a b c : Session) (n : ℕ) → HasDone store P a b n → IsReady store c → HasMade P b c 1 → HasDone store P a c (n + 1)
+  done_on lasts a b c n x ready made = record { ready = ready; made = made_on P lasts a b c n 1 x.made made }
+
+-- ---- an account is opened
+
+pub opened_by : (a b c d : Session) (key : ℕ) → HasStarted a b → c.number ≡ b.number → Accepts b.seat.view c.seat.view b.number key 1 (Put (account opening_balance)) → HasAdded c d (commit_of c ∷ []) → HasMade IsOpening a d 1
+opened_by a b c d key started e accepted added = record {
+  more = commit_of c ∷ [];
+  added = added_on a b d [] (commit_of c ∷ []) started.added (added_on b c d [] (commit_of c ∷ []) goes.added added);
+  count = refl;
+  each = (
+    record {
+      early = early;
+      key = key;
+      is = goes.own_is ∙ ap (λ (own : List Write). joined own (opening_of key opening_balance)) started.own;
+    },
+    tt,
+  );
+}
+  where
+    goes : GoesOn b c (joined (known_by b).own (write key (Put (account opening_balance))))
+    goes = accepted_by b c key 1 (Put (account opening_balance)) e accepted
+
+    early : (known_by c).begin ≤ length (known_by d).seen
+    early = let one = long (known_by c).seen (known_by b).seen goes.added.seen in let other = long (known_by d).seen (known_by c).seen added.seen in let same = goes.transaction.begin in let low = started.early in omega (arith, one, other, same, low)
+
+pub wrote_by : (a b c : Session) (key : ℕ) → HasStarted a b → c.number ≡ b.number → Accepts b.seat.view c.seat.view b.number key 1 (Put (account opening_balance)) → 0 < length (known_by c).own
+wrote_by a b c key started e accepted = let goes = accepted_by b c key 1 (Put (account opening_balance)) e accepted in
+    subst (λ (own : List Write). 0 < length own) (sym (goes.own_is ∙ ap (λ (own : List Write). joined own (opening_of key opening_balance)) started.own)) (omega arith)
+
+-- ---- a transfer is made
+
+-- what is seen without writes is the table as of the begin
+table_seen : (a b : Session) (key : ℕ) → (known_by a).begin ≤ length (known_by a).seen → (known_by a).own ≡ [] → GoesOn a b (known_by a).own → row_seen (known_by b) key ≡ row_of (table_at (known_by a).seen (known_by a).begin) key
+table_seen a b key early none goes =
+    ap (λ (own : List Write). row_of (snapshot (known_by b).seen (known_by b).begin own) key) (goes.own_is ∙ none)
+    ∙ (ap (λ (n : ℕ). row_of (table_at (known_by b).seen n) key) goes.transaction.begin
+    ∙ ap (λ t. row_of t key) (same_table (known_by b).seen (known_by a).seen goes.added.seen (known_by a).begin early))
+
+module _ (a b c d e : Session) (t : Transfer) (payer payee payer_after payee_after : ℕ) (early : (known_by a).begin ≤ length (known_by a).seen) (none : (known_by a).own ≡ []) (differ : t.from ≢ t.to)
+    (first : GoesOn a b (known_by a).own) (has : row_seen (known_by b) t.from ≡ Some (account payer))
+    (second : GoesOn b c (known_by b).own) (gets : row_seen (known_by c) t.to ≡ Some (account payee))
+    (paid : IsPaid t payer payee payer_after payee_after)
+    (takes : GoesOn c d (joined (known_by c).own (setting_of t.from payer_after))) (gives : GoesOn d e (joined (known_by d).own (setting_of t.to payee_after))) where
+  both : GoesOn a c (known_by a).own
+  both = goes_with a b c (λ own. own) first second
+
+  pub moved_by : HasMoved a e t
+  moved_by = record {
+    own = joined (setting_of t.from payer_after ∷ []) (setting_of t.to payee_after);
+    goes = subst (λ (own : List Write). GoesOn a e own) written (goes_on a c e (known_by a).own _ both (goes_on c d e _ _ takes gives));
+    is = record {
+      differ = differ;
+      payer = payer;
+      payee = payee;
+      payer_has = sym (table_seen a b t.from early none first) ∙ has;
+      payee_has = sym (table_seen a c t.to early none both) ∙ gets;
+      payer_after = payer_after;
+      payee_after = payee_after;
+      paid = paid;
+      is = refl;
+    };
+  }
+    where
+      written : joined (known_by d).own (setting_of t.to payee_after) ≡ joined (setting_of t.from payer_after ∷ []) (setting_of t.to payee_after)
+      written = ap (λ (own : List Write). joined own (setting_of t.to payee_after)) (takes.own_is ∙ ap (λ (own : List Write). joined own (setting_of t.from payer_after)) (both.own_is ∙ none))
+
+module _ (a b c d : Session) (t : Transfer) (some : 0 < t.amount) (started : HasStarted a b) (moved : HasMoved b c t) (added : HasAdded c d (commit_of c ∷ [])) where
+  after_begin : Extends (known_by d).seen (known_by b).seen
+  after_begin = extends_on (known_by b).seen (known_by c).seen (known_by d).seen moved.goes.added.seen added.seen
+
+  seen_then : table_at (known_by d).seen (known_by c).begin ≡ table_at (known_by b).seen (known_by b).begin
+  seen_then = ap (table_at (known_by d).seen) moved.goes.transaction.begin ∙ same_table (known_by d).seen (known_by b).seen after_begin (known_by b).begin started.early
+
+  early : (known_by c).begin ≤ length (known_by d).seen
+  early = let more = long (known_by d).seen (known_by b).seen after_begin in let same = moved.goes.transaction.begin in let low = started.early in omega (arith, more, same, low)
+
+  pub transferred_by : HasMade IsMove a d 1
+  transferred_by = record {
+    more = commit_of c ∷ [];
+    added = added_on a b d [] (commit_of c ∷ []) started.added (added_on b c d [] (commit_of c ∷ []) moved.goes.added added);
+    count = refl;
+    each = (
+      record {
+        early = early;
+        transfer = t;
+        some = some;
+        is = subst (λ table. Transfers table t (known_by c).own) (sym seen_then) (subst (λ (own : List Write). Transfers (table_at (known_by b).seen (known_by b).begin) t own) (sym moved.goes.own_is) moved.is);
+      },
+      tt,
+    );
+  }
+
+-- a transfer has writes
+pub moved_writes : (b c : Session) (t : Transfer) → HasMoved b c t → 0 < length (known_by c).own
+moved_writes b c t moved = subst (λ (own : List Write). 0 < length own) (sym (moved.goes.own_is ∙ moved.is.is)) (some_joined (setting_of t.from moved.is.payer_after) (setting_of t.to moved.is.payee_after))
+  where
+    some_joined : (one other : Write) → 0 < length (joined (one ∷ []) other)
+    some_joined one other = by (nat_lt other.key one.key)
+      where
+        by : (b : Bool) → 0 < length (cond b (other ∷ one ∷ []) (one ∷ other ∷ []))
+        by true = omega arith
+        by false = omega arith
+
+-- ---- a transaction ends without a commit, or was none
+
+pub ended_by : (a b : Session) → b.number ≡ a.number → Ends a.seat.view b.seat.view a.number → HasAdded a b []
+ended_by a b e x = kept_by a b e x.called x.mine
+
+aborted_by : {A E : Type 0} (c d : Session) → d.number ≡ c.number → (result : Result A E) → OnOk result (((known_by c).is_open ≡ true) × Ends c.seat.view d.seat.view c.number)
+    → OnErr result (((known_by c).is_open ≡ false) × (d.seat.view ≡ c.seat.view)) → HasAdded c d []
+aborted_by c d e (Ok x) ends still = ended_by c d e ends.1
+aborted_by c d e (Err x) ends still = still_by c d e still.1
+
+pub aborted_after : {A E : Type 0} (a b c d : Session) → HasStarted a b → HasAdded b c [] → (result : Result A E) → d.number ≡ c.number → OnOk result (((known_by c).is_open ≡ true) × Ends c.seat.view d.seat.view c.number)
+    → OnErr result (((known_by c).is_open ≡ false) × (d.seat.view ≡ c.seat.view)) → HasAdded a d []
+aborted_after a b c d started refused result e ok err = added_on a b d [] [] started.added (added_on b c d [] [] refused (aborted_by c d e result ok err))
+
+-- ---- a result of which more is so
+
+pub when_ok : {A E : Type 0} (P Q : Type 0) → (P → Q) → (result : Result A E) → OnOk result P → OnOk result Q
+when_ok P Q f (Ok x) p = f p
+when_ok P Q f (Err x) p = tt
+
+pub when_err : {A E : Type 0} (P Q : Type 0) → (P → Q) → (result : Result A E) → OnErr result P → OnErr result Q
+when_err P Q f (Ok x) p = tt
+when_err P Q f (Err x) p = f p

@@ -1,0 +1,4 @@
+pub mod Deeds
+pub mod Doing
+pub mod Kept
+pub mod Staffs
