@@ -9,6 +9,9 @@ ghost use Rattle.lst_command.specs.Merges.{other_text};
 ghost use Rattle.lst_command.specs.Loads.{LoadsReadNothing};
 ghost use Rattle.lst_command.specs.Runs.{RunsAreSound};
 ghost use Rattle.lst_command.specs.Reported.{WorkIsJudgedLegal};
+ghost use Rattle.lst_command.specs.TablesAgain.{ImportIsScript, TablesComeBack};
+
+use lst_replay::puts_are_committed;
 
 /// An input is one script at most, so a run has one output alone. The contract is a law; the body does nothing.
 pub fn input_is_one_script()
@@ -44,3 +47,14 @@ pub fn histories_of_runs_are_sound()
 pub fn work_is_judged_legal()
     ensures { WorkIsJudgedLegal }
 {}
+
+/// What an import owes is read as a script, under any limits with as many columns. An import takes the text of a table of at most 16,384 rows, as `dump`
+/// may write it; and what a dump owes for the script that the import owes is the same text, byte for byte. For that a new store has to have room for the
+/// rows: no more than 256 for each range, and as many tail records in a range as there are rows, or 256. A table with no rows needs none. The contract is a
+/// law; the body does nothing.
+pub fn tables_come_back()
+    ensures script { ImportIsScript }
+    ensures same { TablesComeBack }
+{
+    puts_are_committed();
+}

@@ -5,5 +5,6 @@ pub mod Rows
 pub mod Tabled
 pub mod Written
 pub mod TableAgain
+pub mod Faultless
 pub mod ScriptAgain
 pub mod Lists

@@ -1,5 +1,5 @@
 -- The script of a table that was written is read as one transaction.
-use Rattle.std.proofs.Common.{◌≡◌, ℕ, List, [], ◌∷◌, ◌++◌, Some, None, map, sym, subst}
+use Rattle.std.proofs.Common.{ℕ, List, [], ◌∷◌, ◌++◌, Some, None, map, sym, subst}
 use Rattle.std.specs.Prelude.{All}
 use Rattle.std.specs.List.{AllByRecursion}
 use Rattle.std.proofs.lemmas.List.Elements.{All-nil, All-cons}
@@ -10,13 +10,14 @@ use Rattle.lst_model.specs.Tables.{Rows, scan_of}
 use Rattle.lst_model.specs.declared.lines.Line.{Line}
 use Rattle.lst_model.specs.declared.lines.Line.TheVariants as lines
 use Rattle.lst_model.specs.declared.lines.Call.TheVariants.{Begin, Commit}
-use Rattle.lst_script.specs.Canonical.{named_text}
 use Rattle.lst_script.specs.Columns.{named}
 use Rattle.lst_script.specs.Printed.{IsCellWord, IsSayable}
 use Rattle.lst_script.specs.Scripts.{IsNamed}
 use Rattle.lst_script.proofs.Printed.{named_printed_again}
 use Rattle.lst_csv.specs.Importing.{insert_of, transaction_of}
-use Rattle.lst_csv.specs.Laws.{IsCell64, IsRow, ScriptIsRead}
+use Rattle.lst_csv.specs.Laws.{IsCell64, IsRow, ScriptIsRead, AnyScriptIsRead}
+use Rattle.lst_csv.specs.Tables.{names_of, rows_of}
+use Rattle.lst_csv.proofs.Faultless.{faultless_fits}
 use Rattle.lst_csv.proofs.TableAgain.{table_again}
 
 module _ (limits : Limits) (names : List (List ℕ)) (valid : IsValid limits) where
@@ -43,3 +44,10 @@ script_read limits names table valid are few all =
     let script = transaction_of (scan_of table) in
     subst (λ (text : List ℕ). IsNamed limits text (record { names = names; script = script })) (sym (table_again limits.columns names table are few all).script)
     (named_printed_again limits names script valid are (sayable limits names valid (scan_of table) all))
+
+pub any_script_read : (limits : Limits) (records : List (List (List ℕ))) → AnyScriptIsRead limits records
+any_script_read limits records valid faultless =
+    let names = names_of records in
+    let rows = rows_of records in
+    let fits = faultless_fits limits.columns records faultless in
+    named_printed_again limits names (transaction_of rows) valid fits.0 (sayable limits names valid rows fits.1)

@@ -136,7 +136,7 @@ made table (row ∷ rows) sorted q =
         ap (λ o. or_else o (Some row.1)) (ap (λ k. find nat_cmp k rows) same ∙ none_below row.0 rows (t_first (below_all nat_cmp row.0 rows) (is_sorted nat_cmp rows) sorted))
     by false is = refl
 
-made_whole : (table : Rows) → all_applied no_rows (map put_of (scan_of table)) ≡ table
+pub made_whole : (table : Rows) → all_applied no_rows (map put_of (scan_of table)) ≡ table
 made_whole table = same_map nat_cmp_total nat_cmp-IsAntisymmetric (all_applied no_rows (map put_of (scan_of table))) table (λ q.
     made no_rows (scan_of table) (entries_sorted table) q
     ∙ ap (or_else (find nat_cmp q (scan_of table))) (get-empty nat_cmp q)

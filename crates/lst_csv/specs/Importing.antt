@@ -1,5 +1,5 @@
 -- The script that stands for a table: one transaction of session 0 with an insert for each row.
-use Rattle.std.specs.Prelude.{◌≡◌, ℕ, List, [], ◌∷◌, ◌++◌, map}
+use Rattle.std.specs.Prelude.{ℕ, List, [], ◌∷◌, ◌++◌, map}
 use Rattle.lst_model.specs.declared.lines.Line.{Line}
 use Rattle.lst_model.specs.declared.lines.Line.TheVariants as lines
 use Rattle.lst_model.specs.declared.lines.Call.TheVariants.{Begin, Insert, Commit}

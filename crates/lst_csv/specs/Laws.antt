@@ -69,3 +69,8 @@ TextIsTheSame columns names table = are_names columns names ≡ true → count_o
 abbrev pub ScriptIsRead : Limits → List (List ℕ) → Rows → Type 0
 ScriptIsRead limits names table = IsValid limits → are_names limits.columns names ≡ true → count_of table ≤ 16384 → AllByRecursion (IsRow limits.columns) (scan_of table)
     → IsNamed limits (import_of (records_of (table_text names table))) (record { names = names; script = transaction_of (scan_of table) })
+
+-- the script that stands for any records without a fault is read, under any limits with so many columns, as one transaction that inserts their rows
+abbrev pub AnyScriptIsRead : Limits → List (List (List ℕ)) → Type 0
+AnyScriptIsRead limits records = IsValid limits → table_fault limits.columns records ≡ None
+    → IsNamed limits (import_of records) (record { names = names_of records; script = transaction_of (rows_of records) })

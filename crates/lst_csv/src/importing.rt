@@ -48,15 +48,15 @@ pub fn import_text(alloc: Global, bytes: &[u8], columns: u32) -> Result<Text, Ta
 fn print_rows(alloc: Global, names: Names, rows: &[(Key, Row)]) -> Result<Text, OutOfMemory>
     ensures { IfOk result (λ text. text ≡ named_text names (transaction_of rows.now)) }
 {
-    let script = Script::from_items(transaction(alloc, rows)?);
+    let script = transaction(alloc, rows)?;
     print2(alloc, &Named { names, script })
 }
 
 /// The lines of the transaction that inserts rows.
-fn transaction(alloc: Global, rows: &[(Key, Row)]) -> Result<Vec<Line>, OutOfMemory>
-    ensures { IfOk result (λ lines. lines.items ≡ transaction_of rows.now) }
+fn transaction(alloc: Global, rows: &[(Key, Row)]) -> Result<Script, OutOfMemory>
+    ensures { IfOk result (λ lines. lines ≡ transaction_of rows.now) }
 {
-    let mut lines = Vec::new(alloc);
+    let mut lines = Script::new(alloc);
     lines.push(of_session(Call::Begin))?;
     for (key, row) in rows {
         let insert = Call::Insert {

@@ -2,7 +2,7 @@
 ghost use Rattle.std.specs.Prelude.{ℕ, List};
 ghost use Rattle.lst_layout.specs.declared.limits.Limits.{Limits};
 ghost use Rattle.lst_model.specs.Tables.{Rows};
-ghost use Rattle.lst_csv.specs.Laws.{RecordsAreReadAgain, ScriptIsRead, TableIsReadAgain, TextIsTheSame};
+ghost use Rattle.lst_csv.specs.Laws.{AnyScriptIsRead, RecordsAreReadAgain, ScriptIsRead, TableIsReadAgain, TextIsTheSame};
 
 /// Records of some fields that the writer writes are read again as they are, where the text begins with no byte order mark.
 pub fn written_records_are_read_again()
@@ -24,4 +24,10 @@ pub fn text_of_table_is_the_same()
 /// that inserts its rows, under its names.
 pub fn script_of_table_is_read()
     ensures { (limits : Limits) (names : List (List ℕ)) (table : Rows) → ScriptIsRead limits names table }
+{}
+
+/// The script that stands for any records that are a table is read, under any limits with as many columns, as one transaction of session 0 that inserts
+/// their rows in order, under their names.
+pub fn script_of_any_table_is_read()
+    ensures { (limits : Limits) (records : List (List (List ℕ))) → AnyScriptIsRead limits records }
 {}

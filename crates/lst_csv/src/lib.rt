@@ -22,7 +22,7 @@ pub use faults::{TableFault, TableRefusal};
 pub use folding::dump_history;
 pub use importing::{NamedRows, import_text, read_table};
 pub use laws::{
-    script_of_table_is_read, text_of_table_is_the_same, written_records_are_read_again,
-    written_table_is_read_again,
+    script_of_any_table_is_read, script_of_table_is_read, text_of_table_is_the_same,
+    written_records_are_read_again, written_table_is_read_again,
 };
 pub use writing::dump_text;

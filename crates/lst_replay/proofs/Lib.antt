@@ -6,3 +6,4 @@ pub mod Rooms
 pub mod Missing
 pub mod Counted
 pub mod Runs
+pub mod Puts

@@ -2,6 +2,7 @@
 ghost use Rattle.lst_replay.specs.Laws.{OpeningRests, BeginsAgain, WritesAgain, CommitsAgain, RestsAgain, RestedHasRoom, RoomMeetsNone, AgainIsSame};
 ghost use Rattle.lst_replay.specs.Runs.{RecoveredRests, RoomRunsAgain, FullIsOne, FullIsNotRun, RoomGrows, SameTables, AgainAreSame, NumberedAreSame, SameHaveWrites, SameGrows, SameHaveRoom, AgainIsCounted};
 ghost use Rattle.lst_replay.specs.Counts.{OpeningIsCounted, CallsAreCounted, CountedHasRoom};
+ghost use Rattle.lst_replay.specs.Puts.{PutsAreCommitted};
 
 use lst_snapshots::replayed_commit_may_follow;
 
@@ -57,3 +58,11 @@ pub fn same_commits_stay_same()
     ensures tables { SameTables }
     ensures room { SameHaveRoom }
 {}
+
+/// A transaction that puts rows by rising key into a new store, with at most 256 rows for each range and a tail for each row of a range, is committed
+/// whole, and is the only commit. One that puts none makes no commit.
+pub fn puts_are_committed()
+    ensures { PutsAreCommitted }
+{
+    replayed_commit_may_follow();
+}

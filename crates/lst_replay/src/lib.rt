@@ -8,6 +8,6 @@
 mod laws;
 
 pub use laws::{
-    commits_run_again, histories_run_again, room_meets_no_limit, same_commits_stay_same,
-    stores_have_room,
+    commits_run_again, histories_run_again, puts_are_committed, room_meets_no_limit,
+    same_commits_stay_same, stores_have_room,
 };

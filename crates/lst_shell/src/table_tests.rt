@@ -121,6 +121,23 @@ fn table_with_nulls_comes_back(rt: HostRuntime) -> Result<(), Fail> {
 }
 
 #[test]
+fn table_without_rows_comes_back(rt: HostRuntime) -> Result<(), Fail> {
+    let table = "key,qty,price\n";
+    let script = "version 2 qty price\n0 begin\n0 commit\n";
+    answers(&rt, rt.alloc(), "import", table, script)?;
+    answers(&rt, rt.alloc(), "dump", script, table)
+}
+
+#[test]
+fn table_comes_back_where_a_range_has_room(rt: HostRuntime) -> Result<(), Fail> {
+    let table = "key,qty,price\n1,5,\n2,,9\n";
+    let script = "version 2 qty price\n0 begin\n0 insert 1 qty=5\n0 insert 2 price=9\n0 commit\n";
+    let fewer = "key,qty,price\n1,5,\n";
+    answers(&rt, rt.alloc(), "dump --ranges 1 --tails 2", script, table)?;
+    answers(&rt, rt.alloc(), "dump --ranges 1 --tails 1", script, fewer)
+}
+
+#[test]
 fn first_faulty_record_ends_the_call(rt: HostRuntime) -> Result<(), Fail> {
     for (table, place, kind, message) in [
         (
