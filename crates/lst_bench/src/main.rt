@@ -17,6 +17,7 @@ mod works;
 use engines::engine;
 use levels::{course_of, levels};
 use lst_layout::{Layout, Limits};
+use lst_legal::Level;
 use lst_seat::open_store;
 use packs::{deed_of, packs};
 use phases::phases;
@@ -92,7 +93,12 @@ fn answer<R: Threads + Wait + Sync + Clock>(
         "made" => Task::Make,
         "printed" => Task::Print,
         "read" => Task::Read,
-        "reports" => Task::Judge,
+        "reports" => Task::Judge {
+            level: Level::Snapshot,
+        },
+        "serial_reports" => Task::Judge {
+            level: Level::Serializable,
+        },
         _ => return seated(alloc, layout, kind, count),
     };
     reports(alloc, task, count).ok()

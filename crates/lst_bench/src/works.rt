@@ -83,7 +83,7 @@ pub fn task_of(kind: &str) -> Option<Task> {
 /// A script that is being drawn.
 #[derive(Drop)]
 struct Drawing {
-    lines: Vec<Line>,
+    lines: Script,
     seed: u64,
     /// Of how many sessions the lines are.
     sessions: u32,
@@ -93,8 +93,8 @@ impl Drawing {
     /// Adds a call of a session.
     fn ask(&mut self, session: u32, call: Call) -> Result<(), OutOfMemory>
         requires call { (session < self.old.sessions) × CallFits 2 call }
-        requires fits { All (LineFits self.old.sessions 4 2) self.old.lines.items }
-        ensures fits { OnOk result (All (LineFits self.old.sessions 4 2) self.new.lines.items) }
+        requires fits { All (LineFits self.old.sessions 4 2) self.old.lines }
+        ensures fits { OnOk result (All (LineFits self.old.sessions 4 2) self.new.lines) }
         ensures same { self.new.sessions ≡ self.old.sessions }
     {
         self.lines.push(Line::Call { session, call })?;
@@ -104,8 +104,8 @@ impl Drawing {
     /// The first phase, which puts each key.
     fn fill(&mut self) -> Result<(), OutOfMemory>
         requires some { 0 < self.old.sessions }
-        requires fits { All (LineFits self.old.sessions 4 2) self.old.lines.items }
-        ensures fits { OnOk result (All (LineFits self.old.sessions 4 2) self.new.lines.items) }
+        requires fits { All (LineFits self.old.sessions 4 2) self.old.lines }
+        ensures fits { OnOk result (All (LineFits self.old.sessions 4 2) self.new.lines) }
         ensures same { self.new.sessions ≡ self.old.sessions }
     {
         self.ask(0, Call::Begin)?;
@@ -137,8 +137,8 @@ impl Drawing {
     /// A transaction of six lines. One in ten is rolled back.
     fn transact(&mut self, session: u32, keys: u64) -> Result<(), OutOfMemory>
         requires session { session < self.old.sessions }
-        requires fits { All (LineFits self.old.sessions 4 2) self.old.lines.items }
-        ensures fits { OnOk result (All (LineFits self.old.sessions 4 2) self.new.lines.items) }
+        requires fits { All (LineFits self.old.sessions 4 2) self.old.lines }
+        ensures fits { OnOk result (All (LineFits self.old.sessions 4 2) self.new.lines) }
         ensures same { self.new.sessions ≡ self.old.sessions }
     {
         self.ask(session, Call::Begin)?;
@@ -161,7 +161,7 @@ fn script(alloc: Global, task: Task, lines: u32) -> Result<Script, OutOfMemory>
     ensures { IfOk result (All (LineFits task.sessions 4 2)) }
 {
     let mut drawing = Drawing {
-        lines: Vec::new(alloc),
+        lines: Script::new(alloc),
         seed: 1,
         sessions: task.sessions,
     };
@@ -175,7 +175,7 @@ fn script(alloc: Global, task: Task, lines: u32) -> Result<Script, OutOfMemory>
             0
         };
     }
-    Ok(Script::from_items(drawing.lines))
+    Ok(drawing.lines)
 }
 
 /// How many nanoseconds there are from one time to another, or 0 where either is missing.
@@ -201,7 +201,7 @@ pub fn works<R: Threads + Wait + Sync + Clock>(
     };
     let script = script(alloc, task, lines)?;
     if let Deed::Draw = task.deed {
-        return Ok(script.items().len() as u64);
+        return Ok(script.len() as u64);
     }
     let start = Instant::now(rt);
     let (report, _, _) = work(rt, alloc, &layout, &script, &FreeGate)?;

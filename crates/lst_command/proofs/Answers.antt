@@ -7,6 +7,7 @@ use Rattle.lst_command.specs.declared.status.Status.{Status}
 use Rattle.lst_command.specs.declared.status.Status.TheVariants.{Done, Illegal, Usage, BadScript, TooLong, ReadFault, WriteFault, OutOfMemory, BadTable}
 use Rattle.lst_script.proofs.Versions.{text_fault_none, one_script}
 use Rattle.lst_layout.specs.declared.limits.Limits.{Limits}
+use Rattle.lst_legal_runs.specs.declared.levels.Level.{Level}
 use Rattle.lst_replies.specs.declared.reports.Report.{Report}
 use Rattle.lst_replies.specs.ReportTexts.{IsReportText, text_lines}
 use Rattle.lst_replies.proofs.Faults.{only}
@@ -14,10 +15,11 @@ use Rattle.lst_report.specs.Claims.{IsClaim, report_part, script_lines}
 use Rattle.lst_report.specs.declared.claims.Claim.{Claim}
 use Rattle.lst_report.proofs.Claimed.{read_if_claim}
 use Rattle.lst_script.specs.declared.faults.ScriptFault.TheVariants as faults
+use Rattle.lst_options.specs.declared.level.LevelOptions.{LevelOptions}
 use Rattle.lst_options.specs.declared.load.LoadNumbers.{LoadNumbers}
 use Rattle.lst_options.specs.declared.as_of.AsOfOptions.{AsOfOptions}
 use Rattle.lst_options.specs.Options.{NamesLimits, NamesLoad}
-use Rattle.lst_options.proofs.OneStore.{names_one, names_one_as_of, names_one_load, names_one_table}
+use Rattle.lst_options.proofs.OneStore.{names_one, names_one_as_of, names_one_level, names_one_load, names_one_table}
 use Rattle.lst_command.specs.declared.command.Command.{Command}
 use Rattle.lst_command.specs.declared.command.Command.TheVariants.{Input, Load}
 use Rattle.lst_command.specs.declared.command.Task.{Task}
@@ -54,35 +56,36 @@ first_letter a b same = ap (λ (word : List ℕ). slice_index_or word 0 0) same
 same_named : (options : List (List ℕ)) (a b : Task) (limits other : Limits) → task_word a ≡ task_word b → NamesOptions options a limits → NamesOptions options b other → Input a limits ≡ Input b other
 same_named options Run Run limits other word first second = ap (λ (l : Limits). Input Run l) (names_one options limits other first second)
 same_named options Run Work limits other word first second = let letter : 114 ≡ 119 = first_letter Run Work word in absurd (omega (arith, letter))
-same_named options Run Check limits other word first second = let letter : 114 ≡ 99 = first_letter Run Check word in absurd (omega (arith, letter))
+same_named options Run (Check level) limits other word first second = let letter : 114 ≡ 99 = first_letter Run (Check level) word in absurd (omega (arith, letter))
 same_named options Run Migrate limits other word first second = let letter : 114 ≡ 109 = first_letter Run Migrate word in absurd (omega (arith, letter))
 same_named options Run (AsOf late) limits other word first second = let letter : 114 ≡ 97 = first_letter Run (AsOf late) word in absurd (omega (arith, letter))
 same_named options Run Import limits other word first second = let letter : 114 ≡ 105 = first_letter Run Import word in absurd (omega (arith, letter))
 same_named options Run Dump limits other word first second = let letter : 114 ≡ 100 = first_letter Run Dump word in absurd (omega (arith, letter))
 same_named options Work Run limits other word first second = let letter : 119 ≡ 114 = first_letter Work Run word in absurd (omega (arith, letter))
 same_named options Work Work limits other word first second = ap (λ (l : Limits). Input Work l) (names_one options limits other first second)
-same_named options Work Check limits other word first second = let letter : 119 ≡ 99 = first_letter Work Check word in absurd (omega (arith, letter))
+same_named options Work (Check level) limits other word first second = let letter : 119 ≡ 99 = first_letter Work (Check level) word in absurd (omega (arith, letter))
 same_named options Work Migrate limits other word first second = let letter : 119 ≡ 109 = first_letter Work Migrate word in absurd (omega (arith, letter))
 same_named options Work (AsOf late) limits other word first second = let letter : 119 ≡ 97 = first_letter Work (AsOf late) word in absurd (omega (arith, letter))
 same_named options Work Import limits other word first second = let letter : 119 ≡ 105 = first_letter Work Import word in absurd (omega (arith, letter))
 same_named options Work Dump limits other word first second = let letter : 119 ≡ 100 = first_letter Work Dump word in absurd (omega (arith, letter))
-same_named options Check Run limits other word first second = let letter : 99 ≡ 114 = first_letter Check Run word in absurd (omega (arith, letter))
-same_named options Check Work limits other word first second = let letter : 99 ≡ 119 = first_letter Check Work word in absurd (omega (arith, letter))
-same_named options Check Check limits other word first second = ap (λ (l : Limits). Input Check l) (names_one options limits other first second)
-same_named options Check Migrate limits other word first second = let letter : 99 ≡ 109 = first_letter Check Migrate word in absurd (omega (arith, letter))
-same_named options Check (AsOf late) limits other word first second = let letter : 99 ≡ 97 = first_letter Check (AsOf late) word in absurd (omega (arith, letter))
-same_named options Check Import limits other word first second = let letter : 99 ≡ 105 = first_letter Check Import word in absurd (omega (arith, letter))
-same_named options Check Dump limits other word first second = let letter : 99 ≡ 100 = first_letter Check Dump word in absurd (omega (arith, letter))
+same_named options (Check level) Run limits other word first second = let letter : 99 ≡ 114 = first_letter (Check level) Run word in absurd (omega (arith, letter))
+same_named options (Check level) Work limits other word first second = let letter : 99 ≡ 119 = first_letter (Check level) Work word in absurd (omega (arith, letter))
+same_named options (Check level) (Check at) limits other word first second =
+    ap (λ (o : LevelOptions). Input (Check o.level) o.limits) (names_one_level options (record { limits = limits; level = level }) (record { limits = other; level = at }) first second)
+same_named options (Check level) Migrate limits other word first second = let letter : 99 ≡ 109 = first_letter (Check level) Migrate word in absurd (omega (arith, letter))
+same_named options (Check level) (AsOf late) limits other word first second = let letter : 99 ≡ 97 = first_letter (Check level) (AsOf late) word in absurd (omega (arith, letter))
+same_named options (Check level) Import limits other word first second = let letter : 99 ≡ 105 = first_letter (Check level) Import word in absurd (omega (arith, letter))
+same_named options (Check level) Dump limits other word first second = let letter : 99 ≡ 100 = first_letter (Check level) Dump word in absurd (omega (arith, letter))
 same_named options Migrate Run limits other word first second = let letter : 109 ≡ 114 = first_letter Migrate Run word in absurd (omega (arith, letter))
 same_named options Migrate Work limits other word first second = let letter : 109 ≡ 119 = first_letter Migrate Work word in absurd (omega (arith, letter))
-same_named options Migrate Check limits other word first second = let letter : 109 ≡ 99 = first_letter Migrate Check word in absurd (omega (arith, letter))
+same_named options Migrate (Check level) limits other word first second = let letter : 109 ≡ 99 = first_letter Migrate (Check level) word in absurd (omega (arith, letter))
 same_named options Migrate Migrate limits other word first second = ap (λ (l : Limits). Input Migrate l) (names_one options limits other first second)
 same_named options Migrate (AsOf late) limits other word first second = let letter : 109 ≡ 97 = first_letter Migrate (AsOf late) word in absurd (omega (arith, letter))
 same_named options Migrate Import limits other word first second = let letter : 109 ≡ 105 = first_letter Migrate Import word in absurd (omega (arith, letter))
 same_named options Migrate Dump limits other word first second = let letter : 109 ≡ 100 = first_letter Migrate Dump word in absurd (omega (arith, letter))
 same_named options (AsOf time) Run limits other word first second = let letter : 97 ≡ 114 = first_letter (AsOf time) Run word in absurd (omega (arith, letter))
 same_named options (AsOf time) Work limits other word first second = let letter : 97 ≡ 119 = first_letter (AsOf time) Work word in absurd (omega (arith, letter))
-same_named options (AsOf time) Check limits other word first second = let letter : 97 ≡ 99 = first_letter (AsOf time) Check word in absurd (omega (arith, letter))
+same_named options (AsOf time) (Check level) limits other word first second = let letter : 97 ≡ 99 = first_letter (AsOf time) (Check level) word in absurd (omega (arith, letter))
 same_named options (AsOf time) Migrate limits other word first second = let letter : 97 ≡ 109 = first_letter (AsOf time) Migrate word in absurd (omega (arith, letter))
 same_named options (AsOf time) (AsOf late) limits other word first second =
     ap (λ (o : AsOfOptions). Input (AsOf o.time) o.limits) (names_one_as_of options (record { limits = limits; time = time }) (record { limits = other; time = late }) first second)
@@ -90,14 +93,14 @@ same_named options (AsOf time) Import limits other word first second = let lette
 same_named options (AsOf time) Dump limits other word first second = let letter : 97 ≡ 100 = first_letter (AsOf time) Dump word in absurd (omega (arith, letter))
 same_named options Import Run limits other word first second = let letter : 105 ≡ 114 = first_letter Import Run word in absurd (omega (arith, letter))
 same_named options Import Work limits other word first second = let letter : 105 ≡ 119 = first_letter Import Work word in absurd (omega (arith, letter))
-same_named options Import Check limits other word first second = let letter : 105 ≡ 99 = first_letter Import Check word in absurd (omega (arith, letter))
+same_named options Import (Check level) limits other word first second = let letter : 105 ≡ 99 = first_letter Import (Check level) word in absurd (omega (arith, letter))
 same_named options Import Migrate limits other word first second = let letter : 105 ≡ 109 = first_letter Import Migrate word in absurd (omega (arith, letter))
 same_named options Import (AsOf late) limits other word first second = let letter : 105 ≡ 97 = first_letter Import (AsOf late) word in absurd (omega (arith, letter))
 same_named options Import Import limits other word first second = ap (λ (l : Limits). Input Import l) (names_one_table options limits other first second)
 same_named options Import Dump limits other word first second = let letter : 105 ≡ 100 = first_letter Import Dump word in absurd (omega (arith, letter))
 same_named options Dump Run limits other word first second = let letter : 100 ≡ 114 = first_letter Dump Run word in absurd (omega (arith, letter))
 same_named options Dump Work limits other word first second = let letter : 100 ≡ 119 = first_letter Dump Work word in absurd (omega (arith, letter))
-same_named options Dump Check limits other word first second = let letter : 100 ≡ 99 = first_letter Dump Check word in absurd (omega (arith, letter))
+same_named options Dump (Check level) limits other word first second = let letter : 100 ≡ 99 = first_letter Dump (Check level) word in absurd (omega (arith, letter))
 same_named options Dump Migrate limits other word first second = let letter : 100 ≡ 109 = first_letter Dump Migrate word in absurd (omega (arith, letter))
 same_named options Dump (AsOf late) limits other word first second = let letter : 100 ≡ 97 = first_letter Dump (AsOf late) word in absurd (omega (arith, letter))
 same_named options Dump Import limits other word first second = let letter : 100 ≡ 105 = first_letter Dump Import word in absurd (omega (arith, letter))
@@ -151,12 +154,12 @@ not_both Dump limits input status line kind orderly faulty =
     let none = text_fault_none limits input orderly.0.0 orderly.0.1 in
     cc
 not_both Import limits input status line kind orderly faulty = faulty
-not_both Check limits input status line kind orderly faulty = read_if_claim limits input (Err (faults.Bad line kind)) faulty orderly.1.claim orderly.1.is_claim
+not_both (Check level) limits input status line kind orderly faulty = read_if_claim limits input (Err (faults.Bad line kind)) faulty orderly.1.claim orderly.1.is_claim
 
 not_both_table : (task : Task) (limits : Limits) (input : List ℕ) (status : Status) (place : ℕ) (kind : TableFault) → IsOrderlyFor task limits input status → IsTableFaultFor task limits input place kind → ⊥
 not_both_table Run limits input status place kind orderly faulty = faulty
 not_both_table Work limits input status place kind orderly faulty = faulty
-not_both_table Check limits input status place kind orderly faulty = faulty
+not_both_table (Check level) limits input status place kind orderly faulty = faulty
 not_both_table Migrate limits input status place kind orderly faulty = faulty
 not_both_table (AsOf time) limits input status place kind orderly faulty = faulty
 not_both_table Import limits input status place kind orderly faulty =
@@ -176,8 +179,8 @@ one_claim limits some text a b first second =
     let reports : a.report ≡ b.report = one_report limits.columns some (report_part text) a.report b.report first.report second.report in
     λ i. record { script = scripts i; report = reports i }
 
-one_verdict : (limits : Limits) (claim : Claim) (first second : List ℕ) (a b : Status) → IsVerdict limits claim first a → IsVerdict limits claim second b → a ≡ b
-one_verdict limits claim first second a b verdict other = elim verdict [
+one_verdict : (level : Level) (limits : Limits) (claim : Claim) (first second : List ℕ) (a b : Status) → IsVerdict level limits claim first a → IsVerdict level limits claim second b → a ≡ b
+one_verdict level limits claim first second a b verdict other = elim verdict [
   | inl legal ↦ elim other [
     | inl also ↦ legal.2 ∙ sym also.2
     | inr illegal ↦ absurd (illegal.0 legal.0)
@@ -196,15 +199,15 @@ one_status Migrate limits input a b orderly other = orderly.1 ∙ sym other.1
 one_status (AsOf time) limits input a b orderly other = orderly.1 ∙ sym other.1
 one_status Import limits input a b orderly other = orderly.1 ∙ sym other.1
 one_status Dump limits input a b orderly other = orderly.1 ∙ sym other.1
-one_status Check limits input a b orderly other =
+one_status (Check level) limits input a b orderly other =
     let same = one_claim limits orderly.1.wide input orderly.1.claim other.1.claim orderly.1.is_claim other.1.is_claim in
-    one_verdict limits other.1.claim orderly.0 other.0 a b (subst (λ (claim : Claim). IsVerdict limits claim orderly.0 a) same orderly.1.verdict) other.1.verdict
+    one_verdict level limits other.1.claim orderly.0 other.0 a b (subst (λ (claim : Claim). IsVerdict level limits claim orderly.0 a) same orderly.1.verdict) other.1.verdict
 
 -- an input for which something is owed is in order
 owed_orderly : (task : Task) (limits : Limits) (input text : List ℕ) (status : Status) (old new : Left) → OwesFor task limits input text status old new → IsOrderlyFor task limits input status
 owed_orderly Run limits input text status old new owed = ((owed.0.script, owed.0.is_script), owed.1)
 owed_orderly Work limits input text status old new owed = ((owed.0.script, owed.0.is_script), owed.1)
-owed_orderly Check limits input text status old new owed = (text, owed.0)
+owed_orderly (Check level) limits input text status old new owed = (text, owed.0)
 owed_orderly Migrate limits input text status old new owed = ((owed.0.named.script, (owed.0.named.names, owed.0.is_named)), owed.1)
 owed_orderly (AsOf time) limits input text status old new owed = ((owed.0.script, owed.0.is_script), owed.1)
 owed_orderly Import limits input text status old new owed = (owed.0.faultless, owed.1)

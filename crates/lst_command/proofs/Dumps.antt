@@ -57,16 +57,16 @@ dump_fault limits input bytes fault status same same_input is =
     subst (IsRefusalFor Dump limits input) (sym same) (refused limits input fault (subst (λ (text : List ℕ). Explains limits text fault) same_input is))
 
 -- the text of the table, with what the run leaves, is the output
-pub dump_output : (limits : Limits) (input bytes : List ℕ) (named : Named) (items : List Line) (text : List ℕ) (both : Store × Crew) (output : Output) → HasMade text both output
-    → bytes ≡ input → items ≡ named.script → IsNamed limits bytes named → text ≡ dump_of limits named.names items → LeftBy limits items both → IsOutputFor Dump limits input output
-dump_output limits input bytes named items text both output made same_input same_script is_named is_text by = (
+pub dump_output : (limits : Limits) (input bytes : List ℕ) (named : Named) (text : List ℕ) (both : Store × Crew) (output : Output) → HasMade text both output
+    → bytes ≡ input → IsNamed limits bytes named → text ≡ dump_of limits named.names named.script → LeftBy limits named.script both → IsOutputFor Dump limits input output
+dump_output limits input bytes named text both output made same_input is_named is_text by = (
   record {
     named = named;
     is_named = subst (λ (bytes : List ℕ). IsNamed limits bytes named) same_input is_named;
-    is_text = made.said ∙ subst (λ (lines : List Line). text ≡ dump_of limits named.names lines) same_script is_text;
+    is_text = made.said ∙ is_text;
     both = both;
     is_left = made.left;
-    by = subst (λ (lines : List Line). LeftBy limits lines both) same_script by;
+    by = by;
   },
   made.ended,
 )

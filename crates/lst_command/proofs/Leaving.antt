@@ -24,7 +24,8 @@ use Rattle.lst_script.specs.Scripts.{IsScript, IsNamed, Explains}
 use Rattle.lst_script.specs.declared.scripts.Named.{Named}
 use Rattle.lst_script.specs.declared.faults.ScriptFault.{ScriptFault}
 use Rattle.lst_script.specs.declared.faults.ScriptFault.TheVariants as faults
-use Rattle.lst_replies.specs.Legal.{IsLegalReport}
+use Rattle.lst_legal.specs.Judged.{IsLegalAt}
+use Rattle.lst_legal_runs.specs.declared.levels.Level.{Level}
 use Rattle.lst_replies.specs.declared.reports.Report.{Report}
 use Rattle.lst_replies.specs.ReportTexts.{report_text}
 use Rattle.lst_report.specs.Claims.{IsClaim, Explains as ExplainsClaim}
@@ -48,7 +49,7 @@ final Migrate limits input text status old new owed = subst IsFinal (sym owed.1)
 final (AsOf time) limits input text status old new owed = subst IsFinal (sym owed.1) tt
 final Import limits input text status old new owed = subst IsFinal (sym owed.1) tt
 final Dump limits input text status old new owed = subst IsFinal (sym owed.1) tt
-final Check limits input text status old new owed = elim owed.0.verdict [
+final (Check level) limits input text status old new owed = elim owed.0.verdict [
   | inl legal ↦ subst IsFinal (sym legal.2) tt
   | inr illegal ↦ subst IsFinal (sym illegal.2) tt
 ]
@@ -87,7 +88,7 @@ taken_over Work limits input text status both old new owed over = (
   },
   owed.1,
 )
-taken_over Check limits input text status both old new owed over = (owed.0, over.1 owed.1)
+taken_over (Check level) limits input text status both old new owed over = (owed.0, over.1 owed.1)
 taken_over Migrate limits input text status both old new owed over = (owed.0, owed.1, over.1 owed.2)
 taken_over (AsOf time) limits input text status both old new owed over = (
   record {
@@ -233,9 +234,9 @@ work_refused : (limits : Limits) (input : List ℕ) (fault : ScriptFault) → Ex
 work_refused limits input (faults.Bad line kind) is = is
 work_refused limits input faults.OutOfMemory is = tt
 
-check_refused : (limits : Limits) (input : List ℕ) (fault : ScriptFault) → ExplainsClaim limits input fault → IsRefusalFor Check limits input (fault_status fault)
-check_refused limits input (faults.Bad line kind) is = is
-check_refused limits input faults.OutOfMemory is = tt
+check_refused : (level : Level) (limits : Limits) (input : List ℕ) (fault : ScriptFault) → ExplainsClaim limits input fault → IsRefusalFor (Check level) limits input (fault_status fault)
+check_refused level limits input (faults.Bad line kind) is = is
+check_refused level limits input faults.OutOfMemory is = tt
 
 migrate_refused : (limits : Limits) (input : List ℕ) (fault : ScriptFault) → Explains limits input fault → IsRefusalFor Migrate limits input (fault_status fault)
 migrate_refused limits input (faults.Bad line kind) is = is
@@ -253,23 +254,23 @@ pub work_fault : (limits : Limits) (input bytes : List ℕ) (fault : ScriptFault
 work_fault limits input bytes fault status same same_input is =
     subst (IsRefusalFor Work limits input) (sym same) (work_refused limits input fault (subst (λ (text : List ℕ). Explains limits text fault) same_input is))
 
-pub check_fault : (limits : Limits) (input bytes : List ℕ) (fault : ScriptFault) (status : Status) → status ≡ fault_status fault → bytes ≡ input → ExplainsClaim limits bytes fault → IsRefusalFor Check limits input status
-check_fault limits input bytes fault status same same_input is =
-    subst (IsRefusalFor Check limits input) (sym same) (check_refused limits input fault (subst (λ (text : List ℕ). ExplainsClaim limits text fault) same_input is))
+pub check_fault : (level : Level) (limits : Limits) (input bytes : List ℕ) (fault : ScriptFault) (status : Status) → status ≡ fault_status fault → bytes ≡ input → ExplainsClaim limits bytes fault → IsRefusalFor (Check level) limits input status
+check_fault level limits input bytes fault status same same_input is =
+    subst (IsRefusalFor (Check level) limits input) (sym same) (check_refused level limits input fault (subst (λ (text : List ℕ). ExplainsClaim limits text fault) same_input is))
 
 -- ---- what is made
 
 -- the text of a whole run, with what it leaves, is the output of a run
-pub run_output : (limits : Limits) (input bytes : List ℕ) (script items : List Line) (text : List ℕ) (both : Store × Crew) (output : Output) → HasMade text both output
-    → bytes ≡ input → items ≡ script → IsScript limits bytes script → text ≡ run_text limits items → LeftBy limits items both → IsOutputFor Run limits input output
-run_output limits input bytes script items text both output made same_input same_script is_script is_text by = (
+pub run_output : (limits : Limits) (input bytes : List ℕ) (script : List Line) (text : List ℕ) (both : Store × Crew) (output : Output) → HasMade text both output
+    → bytes ≡ input → IsScript limits bytes script → text ≡ run_text limits script → LeftBy limits script both → IsOutputFor Run limits input output
+run_output limits input bytes script text both output made same_input is_script is_text by = (
   record {
     script = script;
     is_script = subst (λ (bytes : List ℕ). IsScript limits bytes script) same_input is_script;
-    is_text = made.said ∙ subst (λ (lines : List Line). text ≡ run_text limits lines) same_script is_text;
+    is_text = made.said ∙ is_text;
     both = both;
     is_left = made.left;
-    by = subst (λ (lines : List Line). LeftBy limits lines both) same_script by;
+    by = by;
   },
   made.ended,
 )
@@ -364,28 +365,26 @@ load_refusal numbers source (Err status) unread is = subst (λ (status : Status)
 -- ---- a check
 
 -- the verdict on the claim that an input is, is the output of a check
-pub check_output : (limits : Limits) (input bytes : List ℕ) (claim : Claim) (result : Result Output Status) → 0 < limits.columns → bytes ≡ input → IsClaim limits bytes claim → IfOk result (IsVerdictOn limits claim) → IfOk result (IsOutputFor Check limits input)
-check_output limits input bytes claim (Ok output) wide same is verdict = (
+pub check_output : (level : Level) (limits : Limits) (input bytes : List ℕ) (claim : Claim) (result : Result Output Status) → 0 < limits.columns → bytes ≡ input → IsClaim limits bytes claim → IfOk result (IsVerdictOn level limits claim) → IfOk result (IsOutputFor (Check level) limits input)
+check_output level limits input bytes claim (Ok output) wide same is verdict = (
   record { wide = wide; claim = claim; is_claim = subst (λ (text : List ℕ). IsClaim limits text claim) same is; verdict = verdict.verdict },
   verdict.alone,
 )
-check_output limits input bytes claim (Err status) wide same is verdict = tt
+check_output level limits input bytes claim (Err status) wide same is verdict = tt
 
-pub check_refusal : (limits : Limits) (input : List ℕ) (result : Result Output Status) → IfErr result (λ status. status ≡ OutOfMemory) → IfErr result (IsRefusalFor Check limits input)
-check_refusal limits input (Ok output) is = tt
-check_refusal limits input (Err status) is = subst (IsRefusalFor Check limits input) (sym is) tt
+pub check_refusal : (level : Level) (limits : Limits) (input : List ℕ) (result : Result Output Status) → IfErr result (λ status. status ≡ OutOfMemory) → IfErr result (IsRefusalFor (Check level) limits input)
+check_refusal level limits input (Ok output) is = tt
+check_refusal level limits input (Err status) is = subst (IsRefusalFor (Check level) limits input) (sym is) tt
 
-verdict_on : (limits : Limits) (claim : Claim) (b : Bool) (result : Result Output Status) → (b ≡ true → IsLegalReport limits claim.script claim.report) → (IsLegalReport limits claim.script claim.report → b ≡ true) → (b ≡ true → IfOk result (HasSaid (codes "legal\n") Done))
-    → (¬ (b ≡ true) → IfOk result (HasSaid (codes "illegal\n") Illegal)) → IfOk result (IsVerdictOn limits claim)
-verdict_on limits claim b (Err status) sound whole says denies = tt
-verdict_on limits claim true (Ok output) sound whole says denies = let said = says refl in record { verdict = inl (sound refl, said.said, said.ended); alone = said.alone }
-verdict_on limits claim false (Ok output) sound whole says denies =
+verdict_on : (level : Level) (limits : Limits) (claim : Claim) (b : Bool) (result : Result Output Status) → (b ≡ true → IsLegalAt level limits claim.script claim.report) → (IsLegalAt level limits claim.script claim.report → b ≡ true) → (b ≡ true → IfOk result (HasSaid (codes "legal\n") Done))
+    → (¬ (b ≡ true) → IfOk result (HasSaid (codes "illegal\n") Illegal)) → IfOk result (IsVerdictOn level limits claim)
+verdict_on level limits claim b (Err status) sound whole says denies = tt
+verdict_on level limits claim true (Ok output) sound whole says denies = let said = says refl in record { verdict = inl (sound refl, said.said, said.ended); alone = said.alone }
+verdict_on level limits claim false (Ok output) sound whole says denies =
     let said = denies (λ same. absurd (true≢false (sym same))) in
     record { verdict = inr ((λ legal. absurd (true≢false (sym (whole legal)))), said.said, said.ended); alone = said.alone }
 
 -- what the judge decides is the verdict
-pub judged : (limits : Limits) (claim : Claim) (items : List Line) (b : Bool) (result : Result Output Status) → items ≡ claim.script → IsTrue b ↔ IsLegalReport limits items claim.report → (IsTrue b → IfOk result (HasSaid (codes "legal\n") Done))
-    → ((¬ IsTrue b) → IfOk result (HasSaid (codes "illegal\n") Illegal)) → IfOk result (IsVerdictOn limits claim)
-judged limits claim items b result same decides says denies =
-    let own = subst (λ (script : List Line). IsTrue b ↔ IsLegalReport limits script claim.report) same decides in
-    verdict_on limits claim b result own.0 own.1 says denies
+pub judged : (level : Level) (limits : Limits) (claim : Claim) (b : Bool) (result : Result Output Status) → IsTrue b ↔ IsLegalAt level limits claim.script claim.report → (IsTrue b → IfOk result (HasSaid (codes "legal\n") Done))
+    → ((¬ IsTrue b) → IfOk result (HasSaid (codes "illegal\n") Illegal)) → IfOk result (IsVerdictOn level limits claim)
+judged level limits claim b result decides says denies = verdict_on level limits claim b result decides.0 decides.1 says denies

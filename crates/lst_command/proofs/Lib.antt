@@ -10,3 +10,4 @@ mod Processes
 mod Pasts
 mod Dumps
 mod Reported
+mod TablesAgain

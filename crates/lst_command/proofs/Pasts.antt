@@ -105,16 +105,16 @@ past_fault time limits input bytes fault status same same_input is =
     subst (IsRefusalFor (AsOf time) limits input) (sym same) (refused time limits input fault (subst (λ (text : List ℕ). Explains limits text fault) same_input is))
 
 -- the text of a past table, with what the run leaves, is the output
-pub past_output : (time : ℕ) (limits : Limits) (input bytes : List ℕ) (script items : List Line) (text : List ℕ) (both : Store × Crew) (output : Output) → HasMade text both output
-    → bytes ≡ input → items ≡ script → IsScript limits bytes script → text ≡ as_of_text limits items time → LeftBy limits items both → IsOutputFor (AsOf time) limits input output
-past_output time limits input bytes script items text both output made same_input same_script is_script is_text by = (
+pub past_output : (time : ℕ) (limits : Limits) (input bytes : List ℕ) (script : List Line) (text : List ℕ) (both : Store × Crew) (output : Output) → HasMade text both output
+    → bytes ≡ input → IsScript limits bytes script → text ≡ as_of_text limits script time → LeftBy limits script both → IsOutputFor (AsOf time) limits input output
+past_output time limits input bytes script text both output made same_input is_script is_text by = (
   record {
     script = script;
     is_script = subst (λ (bytes : List ℕ). IsScript limits bytes script) same_input is_script;
-    is_text = made.said ∙ subst (λ (lines : List Line). text ≡ as_of_text limits lines time) same_script is_text;
+    is_text = made.said ∙ is_text;
     both = both;
     is_left = made.left;
-    by = subst (λ (lines : List Line). LeftBy limits lines both) same_script by;
+    by = by;
   },
   made.ended,
 )

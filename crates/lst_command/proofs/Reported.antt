@@ -2,6 +2,7 @@
 use Rattle.std.proofs.Common.{◌≡◌, ℕ, ◌≤◌, List, length, inl, inr, codes, refl, sym, subst, arith}
 use Rattle.lst_layout.specs.Limits.{IsValid}
 use Rattle.lst_layout.specs.declared.limits.Limits.{Limits}
+use Rattle.lst_legal_runs.specs.declared.levels.Level.TheVariants.{Snapshot}
 use Rattle.lst_replies.specs.Legal.{IsLegalReport}
 use Rattle.lst_report.specs.declared.claims.Claim.{Claim}
 use Rattle.lst_report.specs.Claims.{IsClaim}
@@ -28,7 +29,7 @@ module _ (limits : Limits) (input text : List ℕ) (left : Left) (valid : IsVali
   unfolding is_legal
   is_claim = subst (λ (t : List ℕ). IsClaim limits (claim_text input t) claim) (sym owed.is_text) (legal_claimed limits input owed.report valid is_legal)
 
-  told_legal : (other : Claim) (told : List ℕ) (status : Status) → claim ≡ other → IsVerdict limits other told status → (told ≡ codes "legal\n") × (status ≡ Done)
+  told_legal : (other : Claim) (told : List ℕ) (status : Status) → claim ≡ other → IsVerdict Snapshot limits other told status → (told ≡ codes "legal\n") × (status ≡ Done)
   told_legal other told status same (inl is) = (is.1, is.2)
   told_legal other told status same (inr is) = absurd (is.0 (subst (λ (c : Claim). IsLegalReport limits c.script c.report) same legal))
 

@@ -3,7 +3,7 @@ use Rattle.std.specs.Prelude.{◌≡◌, ℕ, List, ◌∷◌, Option, Some, Non
 use Rattle.lst_layout.specs.declared.limits.Limits.{Limits}
 use Rattle.lst_layout.specs.Limits.{IsValid}
 use Rattle.lst_options.specs.declared.load.LoadNumbers.{LoadNumbers}
-use Rattle.lst_options.specs.Options.{IsLoadable, NamesAsOf, NamesLimits, NamesLoad, NamesTable}
+use Rattle.lst_options.specs.Options.{IsLoadable, NamesAsOf, NamesLevel, NamesLimits, NamesLoad, NamesTable}
 use Rattle.lst_command.specs.declared.command.Command.{Command}
 use Rattle.lst_command.specs.declared.command.Command.TheVariants.{Input, Load}
 use Rattle.lst_command.specs.declared.command.Task.{Task}
@@ -13,17 +13,17 @@ use Rattle.lst_command.specs.declared.command.Task.TheVariants.{Run, Work, Check
 abbrev pub task_word : Task → List ℕ
 task_word Run = codes "run"
 task_word Work = codes "work"
-task_word Check = codes "check"
+task_word (Check level) = codes "check"
 task_word Migrate = codes "migrate"
 task_word (AsOf time) = codes "asof"
 task_word Import = codes "import"
 task_word Dump = codes "dump"
 
--- the options behind it name these limits, and the time; of a table they name the columns alone
+-- the options behind it name these limits, and the time or the level; of a table they name the columns alone
 abbrev pub NamesOptions : List (List ℕ) → Task → Limits → Type 0
 NamesOptions options Run limits = NamesLimits options limits
 NamesOptions options Work limits = NamesLimits options limits
-NamesOptions options Check limits = NamesLimits options limits
+NamesOptions options (Check level) limits = NamesLevel options (record { limits = limits; level = level })
 NamesOptions options Migrate limits = NamesLimits options limits
 NamesOptions options (AsOf time) limits = NamesAsOf options (record { limits = limits; time = time })
 NamesOptions options Import limits = NamesTable options limits
@@ -31,6 +31,7 @@ NamesOptions options Dump limits = NamesLimits options limits
 
 -- the options of a store stand behind the word, and no others
 abbrev pub TakesLimits : Task → Type 0
+TakesLimits (Check level) = ⊥
 TakesLimits (AsOf time) = ⊥
 TakesLimits Import = ⊥
 TakesLimits task = Unit {0}

@@ -8,3 +8,4 @@ pub mod Outputs
 pub mod Programs
 pub mod Merges
 pub mod Reported
+pub mod TablesAgain

@@ -1,6 +1,7 @@
 -- What a command makes, a task of its input.
 use Rattle.std.specs.Prelude.{◌≡◌, ℕ, List, None, Some}
 use Rattle.lst_layout.specs.declared.limits.Limits.{Limits}
+use Rattle.lst_legal_runs.specs.declared.levels.Level.{Level}
 use Rattle.lst_rule.specs.declared.store.Store.{Store}
 use Rattle.lst_session.specs.declared.crew.Crew.{Crew}
 use Rattle.lst_options.specs.declared.load.LoadNumbers.{LoadNumbers}
@@ -30,9 +31,9 @@ pub record HasSaid (text : List ℕ) (status : Status) (output : Output) : Type 
   pub ended : output.status ≡ status
   pub alone : output.both ≡ None
 
--- the verdict on a claim, and no store
-pub record IsVerdictOn (limits : Limits) (claim : Claim) (output : Output) : Type 0 where
-  pub verdict : IsVerdict limits claim output.text output.status
+-- the verdict on a claim at a level, and no store
+pub record IsVerdictOn (level : Level) (limits : Limits) (claim : Claim) (output : Output) : Type 0 where
+  pub verdict : IsVerdict level limits claim output.text output.status
   pub alone : output.both ≡ None
 
 -- why there is none

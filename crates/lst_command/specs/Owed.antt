@@ -17,7 +17,8 @@ use Rattle.lst_machine.specs.Machine.{replies, state_after}
 use Rattle.lst_past.specs.Past.{number_line, past_text}
 use Rattle.lst_options.specs.declared.load.LoadNumbers.{LoadNumbers}
 use Rattle.lst_replies.specs.declared.reports.Report.{Report}
-use Rattle.lst_replies.specs.Legal.{IsLegalReport}
+use Rattle.lst_legal.specs.Judged.{IsLegalAt}
+use Rattle.lst_legal_runs.specs.declared.levels.Level.{Level}
 use Rattle.lst_replies.specs.ReportTexts.{report_text}
 use Rattle.lst_replies.specs.Texts.{script_text}
 use Rattle.lst_report.specs.Claims.{IsClaim, IsFaultAt}
@@ -72,17 +73,17 @@ pub record OwesReport (limits : Limits) (input text : List ℕ) (left : Left) : 
 
 -- ---- what a check owes
 
--- the report is legal for the script, and the verdict says so, or it isn't, and the verdict says that
-abbrev pub IsVerdict : Limits → Claim → List ℕ → Status → Type 0
-IsVerdict limits claim text status = (IsLegalReport limits claim.script claim.report × (text ≡ codes "legal\n") × (status ≡ Done))
-    ⊎ ((¬ IsLegalReport limits claim.script claim.report) × (text ≡ codes "illegal\n") × (status ≡ Illegal))
+-- the report is legal for the script at the level, and the verdict says so, or it isn't, and the verdict says that
+abbrev pub IsVerdict : Level → Limits → Claim → List ℕ → Status → Type 0
+IsVerdict level limits claim text status = (IsLegalAt level limits claim.script claim.report × (text ≡ codes "legal\n") × (status ≡ Done))
+    ⊎ ((¬ IsLegalAt level limits claim.script claim.report) × (text ≡ codes "illegal\n") × (status ≡ Illegal))
 
 -- the input is a script with a report, and this is the verdict on it; the table has columns, as under all limits that words name
-pub record OwesVerdict (limits : Limits) (input text : List ℕ) (status : Status) : Type 0 where
+pub record OwesVerdict (level : Level) (limits : Limits) (input text : List ℕ) (status : Status) : Type 0 where
   pub wide : 0 < limits.columns
   pub claim : Claim
   pub is_claim : IsClaim limits input claim
-  pub verdict : IsVerdict limits claim text status
+  pub verdict : IsVerdict level limits claim text status
 
 -- ---- what a migration owes
 
@@ -155,7 +156,7 @@ pub record OwesLoad (numbers : LoadNumbers) (text : List ℕ) (left : Left) : Ty
 abbrev pub OwesFor : Task → Limits → List ℕ → List ℕ → Status → Left → Left → Type 0
 OwesFor Run limits input text status old new = OwesAnswers limits input text new × (status ≡ Done)
 OwesFor Work limits input text status old new = OwesReport limits input text new × (status ≡ Done)
-OwesFor Check limits input text status old new = OwesVerdict limits input text status × (new ≡ old)
+OwesFor (Check level) limits input text status old new = OwesVerdict level limits input text status × (new ≡ old)
 OwesFor Migrate limits input text status old new = OwesMigration limits input text × (status ≡ Done) × (new ≡ old)
 OwesFor (AsOf time) limits input text status old new = OwesPast time limits input text new × (status ≡ Done)
 OwesFor Import limits input text status old new = OwesTable limits input text × (status ≡ Done) × (new ≡ old)
@@ -165,7 +166,7 @@ OwesFor Dump limits input text status old new = OwesDump limits input text new �
 abbrev pub IsFaultFor : Task → Limits → List ℕ → ℕ → FaultKind → Type 0
 IsFaultFor Run limits input line kind = text_fault limits input ≡ Some (line, kind)
 IsFaultFor Work limits input line kind = text_fault limits input ≡ Some (line, kind)
-IsFaultFor Check limits input line kind = IsFaultAt limits input line kind
+IsFaultFor (Check level) limits input line kind = IsFaultAt limits input line kind
 IsFaultFor Migrate limits input line kind = text_fault limits input ≡ Some (line, kind)
 IsFaultFor (AsOf time) limits input line kind = text_fault limits input ≡ Some (line, kind)
 IsFaultFor Import limits input line kind = ⊥
@@ -195,7 +196,7 @@ IsAnyScript limits input = (script : List Line) × IsScript limits input script
 abbrev pub IsOrderlyFor : Task → Limits → List ℕ → Status → Type 0
 IsOrderlyFor Run limits input status = IsAnyScript limits input × (status ≡ Done)
 IsOrderlyFor Work limits input status = IsAnyScript limits input × (status ≡ Done)
-IsOrderlyFor Check limits input status = (text : List ℕ) × OwesVerdict limits input text status
+IsOrderlyFor (Check level) limits input status = (text : List ℕ) × OwesVerdict level limits input text status
 IsOrderlyFor Migrate limits input status = IsAnyScript limits input × (status ≡ Done)
 IsOrderlyFor (AsOf time) limits input status = IsAnyScript limits input × (status ≡ Done)
 IsOrderlyFor Import limits input status = (table_fault limits.columns (records_of input) ≡ None) × (status ≡ Done)

@@ -4,19 +4,22 @@ ghost use Rattle.lst_command.specs.declared.command.Task.{Task as TaskNamed};
 ghost use Rattle.lst_command.specs.Commands.{IsRunnable, TakesLimits, TellsCommand, task_word};
 
 use lst_layout::Limits;
+use lst_legal::Level;
 use lst_model::{OutOfMemory, Time};
-use lst_options::{LoadNumbers, as_of_of_words, limits_of_words, load_of_words, table_of_words};
+use lst_options::{
+    LoadNumbers, as_of_of_words, level_of_words, limits_of_words, load_of_words, table_of_words,
+};
 use std::alloc::Global;
 
 /// What is done with an input.
-#[derive(Clone, Copy, Debug, PartialEq, Eq)]
+#[derive(Clone, Copy)]
 pub enum Task {
     /// The input is a script, which is run line by line: `run`.
     Run,
     /// The input is a script, on which all sessions work side by side: `work`.
     Work,
-    /// The input is a script with a report, which is judged: `check`.
-    Check,
+    /// The input is a script with a report, which is judged at a level of isolation: `check`.
+    Check { level: Level },
     /// The input is a script, which is written in version 2: `migrate`.
     Migrate,
     /// The input is a script, which is run line by line, and its table as of a time is told from the block of its history: `asof`.
@@ -28,7 +31,7 @@ pub enum Task {
 }
 
 /// What is to be done.
-#[derive(Clone, Copy, Debug, PartialEq, Eq)]
+#[derive(Clone, Copy)]
 pub enum Command {
     /// A task on an input, and the limits of the store for which it is done.
     Input { task: Task, limits: Limits },
@@ -41,6 +44,9 @@ pub(crate) fn command_of(alloc: Global, words: &[String]) -> Result<Option<Comma
     ensures told { IfOk result (TellsCommand (map string_bytes words.now)) }
     ensures valid { IfOk result (λ command. IfSome command IsRunnable) }
 {
+    if begins_with_check(words) {
+        return check_named(alloc, words);
+    }
     if begins_with_as_of(words) {
         return as_of_named(alloc, words);
     }
@@ -62,6 +68,23 @@ fn task_named(alloc: Global, task: Task, words: &[String]) -> Result<Option<Comm
 {
     match limits_of_words(alloc, words)? {
         Some(limits) => Ok(Some(Command::Input { task, limits })),
+        None => Ok(None),
+    }
+}
+
+/// The command that words name whose first is `check`.
+fn check_named(alloc: Global, words: &[String]) -> Result<Option<Command>, OutOfMemory>
+    requires { slice_get (map string_bytes words.now) 0 ≡ Some (codes "check") }
+    ensures told { IfOk result (TellsCommand (map string_bytes words.now)) }
+    ensures valid { IfOk result (λ command. IfSome command IsRunnable) }
+{
+    match level_of_words(alloc, words)? {
+        Some(options) => Ok(Some(Command::Input {
+            task: Task::Check {
+                level: options.level,
+            },
+            limits: options.limits,
+        })),
         None => Ok(None),
     }
 }
@@ -118,6 +141,13 @@ fn begins_with_load(words: &[String]) -> bool
     !words.is_empty() && is_word(&words[0], b"load")
 }
 
+/// Whether the first word is that of a check.
+fn begins_with_check(words: &[String]) -> bool
+    ensures { IsTrue result ↔ (slice_get (map string_bytes words.now) 0 ≡ Some (codes "check")) }
+{
+    !words.is_empty() && is_word(&words[0], b"check")
+}
+
 /// Whether the first word is that of a look at a past table.
 fn begins_with_as_of(words: &[String]) -> bool
     ensures { IsTrue result ↔ (slice_get (map string_bytes words.now) 0 ≡ Some (codes "asof")) }
@@ -134,6 +164,7 @@ fn begins_with_import(words: &[String]) -> bool
 
 /// The task that the first word names, where no other options than those of a store stand behind it.
 fn task_of(words: &[String]) -> Option<Task>
+    requires check { ¬ (slice_get (map string_bytes words.now) 0 ≡ Some (codes "check")) }
     requires past { ¬ (slice_get (map string_bytes words.now) 0 ≡ Some (codes "asof")) }
     requires table { ¬ (slice_get (map string_bytes words.now) 0 ≡ Some (codes "import")) }
     ensures plain { IfSome result TakesLimits }
@@ -148,9 +179,6 @@ fn task_of(words: &[String]) -> Option<Task>
     }
     if is_word(&words[0], b"work") {
         return Some(Task::Work);
-    }
-    if is_word(&words[0], b"check") {
-        return Some(Task::Check);
     }
     if is_word(&words[0], b"migrate") {
         return Some(Task::Migrate);

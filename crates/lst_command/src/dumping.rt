@@ -9,9 +9,9 @@ ghost use Rattle.lst_command.specs.Runs.{IsTaken, LeftBy};
 use crate::execution::{Ran, execute};
 use lst_csv::dump_history;
 use lst_layout::Limits;
-use lst_model::{Line, OutOfMemory, Text};
+use lst_model::{OutOfMemory, Text};
 use lst_rule::Store;
-use lst_script::Names;
+use lst_script::{Names, Script};
 use lst_session::Crew;
 use std::alloc::Global;
 
@@ -19,7 +19,7 @@ use std::alloc::Global;
 pub(crate) fn dump(
     alloc: Global,
     names: &Names,
-    script: &[Line],
+    script: &Script,
     limits: &Limits,
 ) -> Result<Ran, OutOfMemory>
     requires valid { IsValid limits.now }

@@ -13,6 +13,7 @@ use lst_model::{Line, OutOfMemory, Text};
 use lst_report::push_line;
 use lst_rule::Store;
 use lst_scan::crew_line;
+use lst_script::Script;
 use lst_session::{Crew, open_crew};
 use std::alloc::Global;
 
@@ -24,7 +25,7 @@ pub(crate) struct Ran {
 }
 
 /// Runs the lines of a script in order, on a store with these limits that is opened for them.
-pub(crate) fn execute(alloc: Global, script: &[Line], limits: &Limits) -> Result<Ran, OutOfMemory>
+pub(crate) fn execute(alloc: Global, script: &Script, limits: &Limits) -> Result<Ran, OutOfMemory>
     requires valid { IsValid limits.now }
     requires taken { All (IsTaken limits.now) script.now }
     ensures text { IfOk result (λ ran. ran.text ≡ run_text limits.now script.now) }
@@ -32,8 +33,8 @@ pub(crate) fn execute(alloc: Global, script: &[Line], limits: &Limits) -> Result
 {
     let (store, mut crew) = open_crew(alloc, &layout(limits))?;
     let mut text = Text::new(alloc);
-    for line in script {
-        answer(alloc, &store, &mut crew, &mut text, line)?;
+    for place in 0..script.len() {
+        answer(alloc, &store, &mut crew, &mut text, &script.line(place))?;
     }
     Ok(Ran {
         text,

@@ -21,7 +21,7 @@ pub use command::{Command, Task};
 pub use ending::{ended, program};
 pub use laws::{
     a_load_reads_nothing, a_migration_changes_no_reply, histories_of_runs_are_sound,
-    input_is_one_script, merges_change_no_other_text, work_is_judged_legal,
+    input_is_one_script, merges_change_no_other_text, tables_come_back, work_is_judged_legal,
 };
 pub use lst_options::LoadNumbers;
 pub use lst_work::{FreeGate, Gate};

@@ -8,16 +8,17 @@ ghost use Rattle.lst_command.specs.Runs.{IsTaken, LeftBy};
 
 use crate::execution::{Ran, execute};
 use lst_layout::Limits;
-use lst_model::{Line, OutOfMemory, Text, Time};
+use lst_model::{OutOfMemory, Text, Time};
 use lst_past::print_past;
 use lst_rule::Store;
+use lst_script::Script;
 use lst_session::Crew;
 use std::alloc::Global;
 
 /// Runs the lines of a script in order, as `execute` does, and tells the table as of a time from the block of the history that they leave.
 pub(crate) fn look_back(
     alloc: Global,
-    script: &[Line],
+    script: &Script,
     limits: &Limits,
     time: Time,
 ) -> Result<Ran, OutOfMemory>

@@ -1,5 +1,5 @@
 //! The top call: words and bytes in, bytes and a status out.
-ghost use Rattle.std.specs.Prelude.{◌≡◌, ℕ, List, IsTrue, codes, IfOk, IfErr, IfSome, None, Some, map, string_bytes};
+ghost use Rattle.std.specs.Prelude.{◌≡◌, ◌↔◌, ℕ, List, IsTrue, codes, IfOk, IfErr, IfSome, None, Some, map, string_bytes};
 ghost use Rattle.lst_layout.specs.Limits.{IsValid};
 ghost use Rattle.lst_command.specs.Answers.{Says, IsUsage, IsDue, IsComplete, Reports, Refuses, RefusesInput, change};
 ghost use Rattle.lst_command.specs.declared.command.Command.{Command as CommandOf};
@@ -10,6 +10,7 @@ ghost use Rattle.lst_command.specs.Outputs.{HasMade, HasSaid, IsLoadOutput, IsOu
 ghost use Rattle.lst_command.specs.Owed.{load_text};
 ghost use Rattle.lst_options.specs.Options.{IsLoadable};
 ghost use Rattle.lst_legal.specs.Judged.{AreSessionsBelow};
+ghost use Rattle.lst_legal.specs.Judged.{IsLegalAt};
 ghost use Rattle.lst_replies.specs.ReportTexts.{report_text};
 ghost use Rattle.lst_script.specs.Canonical.{named_text};
 
@@ -23,9 +24,10 @@ use crate::status::Status;
 use crate::tables::{dump_input, import_input};
 use lst_io::{Failed, ReadAllFault, Sink, Source, read_all, write_all};
 use lst_layout::Limits;
+use lst_legal::{Level, legal_at};
 use lst_model::{OutOfMemory, Text, Time};
 use lst_options::LoadNumbers;
-use lst_report::{Claim, Report, legal, print_report, read_claim};
+use lst_report::{Claim, Report, print_report, read_claim};
 use lst_rule::Store;
 use lst_script::{Named, parse, parse_named, print2};
 use lst_session::Crew;
@@ -40,12 +42,13 @@ const MOST_BYTES: u64 = 16_777_216;
 /// Runs the command that the words name: reads its input from `source` to the end, unless the command is `load`, writes its output to `sink` as a
 /// whole, and leaves a line on `errors` where it ends with another status than `Done` or `Illegal`.
 ///
-/// The command is `run`, `work`, `check`, `migrate` or `dump`, with the options of a store behind it, which name limits, `asof` with `--time` beside
-/// them, `import` with `--columns` alone, or `load`, with a seed and numbers of keys and sessions as its options. The input has at most 16,777,216 bytes.
+/// The command is `run`, `work`, `migrate` or `dump`, with the options of a store behind it, which name limits, `check` with `--level` beside them, `asof`
+/// with `--time` beside them, `import` with `--columns` alone, or `load`, with a seed and numbers of keys and sessions as its options. The input has at most 16,777,216 bytes.
 /// For `run` it is a script, and the output is what the machine of one thread answers to each line under the limits. For `work` it is a script
 /// too, on which all sessions of a store work side by side, and the output is a report of it: which one is up to their steps, but it is legal for
 /// the script. For `check` it is a script, the line `report` and a report: the output is `legal`, with `Done`, exactly where the report is legal for
-/// the script under the limits, and `illegal`, with `Illegal`, where it isn't.
+/// the script under the limits, and `illegal`, with `Illegal`, where it isn't: with `--level 2` legal at the serializable level, and with `--level 1`, as
+/// without the option, under snapshot isolation.
 /// For `migrate` it is a script, and the output is its text of version 2, which is read as the same script.
 /// For `asof` it is a script too, which is run as for `run`. The output has a line `bytes` with the length of the block of the history after
 /// the last line, and behind it `rows` with the table as of the time, by rising key, or `future` with the length of the history where the time is above it.
@@ -254,7 +257,7 @@ fn make<R: Threads + Wait + Sync, G: Gate + Sync>(
     match task {
         Task::Run => run_input(alloc, limits, input),
         Task::Work => work_input(rt, alloc, limits, input, gate),
-        Task::Check => check_input(alloc, limits, input),
+        Task::Check { level } => check_input(alloc, level, limits, input),
         Task::Migrate => migrate_input(alloc, limits, input),
         Task::AsOf { time } => as_of_input(alloc, limits, time, input),
         Task::Import => import_input(alloc, limits, input),
@@ -273,7 +276,7 @@ fn run_input(alloc: Global, limits: &Limits, input: &Text) -> Result<Output, Sta
         Ok(script) => script,
         Err(fault) => return Err(of_fault(fault)),
     };
-    match execute(alloc, script.items(), limits) {
+    match execute(alloc, &script, limits) {
         Ok(ran) => Ok(output_of(ran)),
         Err(OutOfMemory) => Err(Status::OutOfMemory),
     }
@@ -290,7 +293,7 @@ fn as_of_input(alloc: Global, limits: &Limits, time: Time, input: &Text) -> Resu
         Ok(script) => script,
         Err(fault) => return Err(of_fault(fault)),
     };
-    match look_back(alloc, script.items(), limits, time) {
+    match look_back(alloc, &script, limits, time) {
         Ok(ran) => Ok(output_of(ran)),
         Err(OutOfMemory) => Err(Status::OutOfMemory),
     }
@@ -334,15 +337,15 @@ fn report_output(alloc: Global, told: &Report, left: (Store, Crew)) -> Result<Ou
     }
 }
 
-/// The output of a check.
+/// The output of a check at a level.
 #[tactic(auto, using(crate::proofs::Leaving::check_fault, crate::proofs::Leaving::check_output, crate::proofs::Leaving::check_refusal))]
-fn check_input(alloc: Global, limits: &Limits, input: &Text) -> Result<Output, Status>
+fn check_input(alloc: Global, level: Level, limits: &Limits, input: &Text) -> Result<Output, Status>
     requires { IsValid limits.now }
-    ensures output { IfOk result (IsOutputFor TaskOf.Check limits.now input.now) }
-    ensures refusal { IfErr result (IsRefusalFor TaskOf.Check limits.now input.now) }
+    ensures output { IfOk result (IsOutputFor (TaskOf.Check level) limits.now input.now) }
+    ensures refusal { IfErr result (IsRefusalFor (TaskOf.Check level) limits.now input.now) }
 {
     match read_claim(alloc, input.as_bytes(), limits) {
-        Ok(claim) => judge(alloc, limits, &claim),
+        Ok(claim) => judge(alloc, level, limits, &claim),
         Err(fault) => Err(of_fault(fault)),
     }
 }
@@ -375,17 +378,30 @@ fn migrated(alloc: Global, named: &Named) -> Result<Output, Status>
     }
 }
 
-/// The verdict on the report of a claim.
-#[tactic(auto, using(crate::proofs::Leaving::judged))]
-fn judge(alloc: Global, limits: &Limits, claim: &Claim) -> Result<Output, Status>
+/// The verdict on the report of a claim at a level.
+fn judge(alloc: Global, level: Level, limits: &Limits, claim: &Claim) -> Result<Output, Status>
     requires { AreSessionsBelow limits.now.sessions claim.now.script }
-    ensures output { IfOk result (IsVerdictOn limits.now claim.now) }
+    ensures output { IfOk result (IsVerdictOn level limits.now claim.now) }
     ensures refusal { IfErr result (λ status. status ≡ StatusOf.OutOfMemory) }
 {
-    match legal(alloc, limits, claim.script.items(), &claim.report) {
+    match is_legal(alloc, level, limits, claim) {
         Ok(is_legal) => verdict(alloc, is_legal),
         Err(OutOfMemory) => Err(Status::OutOfMemory),
     }
+}
+
+/// Whether the report of a claim is legal at a level for its script, whose lines are unpacked for the judge.
+fn is_legal(
+    alloc: Global,
+    level: Level,
+    limits: &Limits,
+    claim: &Claim,
+) -> Result<bool, OutOfMemory>
+    requires { AreSessionsBelow limits.now.sessions claim.now.script }
+    ensures { IfOk result (λ b. IsTrue b ↔ IsLegalAt level limits.now claim.now.script claim.now.report) }
+{
+    let lines = claim.script.unpacked(alloc)?;
+    legal_at(alloc, level, limits, lines.as_slice(), &claim.report)
 }
 
 /// The output of a verdict.

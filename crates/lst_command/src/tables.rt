@@ -60,7 +60,7 @@ pub(crate) fn dump_input(alloc: Global, limits: &Limits, input: &Text) -> Result
         Ok(named) => named,
         Err(fault) => return Err(of_fault(fault)),
     };
-    match dump(alloc, &named.names, named.script.items(), limits) {
+    match dump(alloc, &named.names, &named.script, limits) {
         Ok(ran) => Ok(output_of(ran)),
         Err(OutOfMemory) => Err(Status::OutOfMemory),
     }

@@ -82,7 +82,16 @@ fn behind_line(bytes: &[u8]) -> &[u8] {
     }
 }
 
-/// A look tells the rows that a transaction as of the same time scans behind the script, where the time isn't above its commits.
+/// The bytes without this last line, where they end with it.
+fn without_last<'a>(bytes: &'a [u8], line: &[u8]) -> &'a [u8] {
+    match bytes.strip_suffix(line) {
+        Some(front) => front,
+        None => bytes,
+    }
+}
+
+/// A look tells the rows that a transaction as of the same time scans behind the script, or the time that the refusal of such a
+/// transaction names, behind which a scan finds none.
 fn is_scanned(
     rt: &(impl Abort + Threads + Wait + Sync),
     alloc: Global,
@@ -103,7 +112,8 @@ fn is_scanned(
     assert_eq!(rt; looked.status.code(), 0);
     assert_eq!(rt; ran.status.code(), 0);
     let told = behind_line(looked.sink.taken());
-    assert!(rt; told.starts_with(b"future ") || ran.sink.taken().ends_with(told));
+    let answers = without_last(ran.sink.taken(), b"3 refused idle\n");
+    assert!(rt; !told.is_empty() && answers.ends_with(told));
     Ok(())
 }
 
@@ -143,6 +153,7 @@ fn drawn_past_tables_are_those_that_are_scanned(rt: HostRuntime) -> Result<(), F
         for time in 0..10u64 {
             is_scanned(&rt, rt.alloc(), script.as_str(), time)?;
         }
+        is_scanned(&rt, rt.alloc(), script.as_str(), 25)?;
     }
     Ok(())
 }

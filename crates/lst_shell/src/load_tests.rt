@@ -100,7 +100,7 @@ fn the_gate_of_a_load_is_called_twice_for_each_line(rt: HostRuntime) -> Result<(
         &counter,
     )?;
     let mut twice = 0u64;
-    for line in generate(alloc, 1, 1000, 4)?.items() {
+    for line in generate(alloc, 1, 1000, 4)?.unpacked(alloc)?.iter() {
         if !matches!(line, Line::Phase) {
             twice = twice.wrapping_add(2);
         }

@@ -50,10 +50,11 @@ fn of_script(found: ScriptFault) -> Result<Status, Fail> {
 /// The status of a script and of a report that are read.
 fn of_report(alloc: Global, script: &Script, report: &Report) -> Result<Status, Fail> {
     let limits = Limits::default();
-    if !are_sessions_below(limits.sessions, script.items()) {
+    let lines = script.unpacked(alloc)?;
+    if !are_sessions_below(limits.sessions, lines.as_slice()) {
         return Err(Fail::from("each line is of a session that there is"));
     }
-    if legal(alloc, &limits, script.items(), report)? {
+    if legal(alloc, &limits, lines.as_slice(), report)? {
         Ok(Status::Done)
     } else {
         Ok(Status::Illegal)

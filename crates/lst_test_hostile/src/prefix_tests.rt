@@ -69,7 +69,7 @@ fn is_answered(
     let label = front.len() as u64;
     match parse(alloc, front, &Limits::default()) {
         Ok(script) => {
-            let text = answers_of_machine(alloc, script.items())?;
+            let text = answers_of_machine(alloc, script.unpacked(alloc)?.as_slice())?;
             let wanted = Wanted {
                 status: Status::Done,
                 output: text.as_bytes(),

@@ -36,7 +36,7 @@ fn session_at(place: usize) -> Option<u32> {
 
 /// Session 0 begins and gets a key that isn't there, again and again; session 1 asks for it without a transaction, and there are some merges between.
 fn script(alloc: Global) -> Result<Script, Fail> {
-    let mut lines = Vec::new(alloc);
+    let mut lines = Script::new(alloc);
     for place in 0..LINES {
         lines.push(match session_at(place) {
             None => Line::Merge {
@@ -53,7 +53,7 @@ fn script(alloc: Global) -> Result<Script, Fail> {
             },
         })?;
     }
-    Ok(Script::from_items(lines))
+    Ok(lines)
 }
 
 /// Whether this is the reply to the line at a place.
@@ -96,7 +96,7 @@ fn a_phase_of_two_blocks_is_answered_in_the_order_of_its_lines(
         mut merger,
     } = open_all(alloc, &PAIR)?;
     let script = script(alloc)?;
-    if !lines_fit(&PAIR, script.items()) {
+    if !lines_fit(&PAIR, &script) {
         return Err(Fail::from("each line fits the limits"));
     }
     let passes = Passes {

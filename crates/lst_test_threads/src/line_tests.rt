@@ -102,11 +102,12 @@ fn told(rt: &(impl AllocGlobal + Wait), on: &mut Pair, text: &str) -> Result<Tex
     let Ok(script) = parse(alloc, text.as_bytes(), &on.store.layout().limits) else {
         return Err(Fail::from("the text is a script"));
     };
-    let Some(line) = script.items().first() else {
+    if script.is_empty() {
         return Err(Fail::from("there is a line"));
-    };
-    let reply = reply_to(rt, on, line)?;
-    Ok(print_line(alloc, line, &reply)?)
+    }
+    let line = script.line(0);
+    let reply = reply_to(rt, on, &line)?;
+    Ok(print_line(alloc, &line, &reply)?)
 }
 
 /// A line, and what it is answered.

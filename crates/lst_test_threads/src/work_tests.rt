@@ -97,11 +97,11 @@ fn line_fits(limits: &Limits, line: &Line) -> bool
 }
 
 /// Whether it takes each line.
-pub(crate) fn lines_fit(limits: &Limits, lines: &[Line]) -> bool
+pub(crate) fn lines_fit(limits: &Limits, lines: &Script) -> bool
     ensures { IsTrue result → All (LineFits limits.now.sessions limits.now.ranges limits.now.columns) lines.now }
 {
     for i in 0..lines.len() {
-        if !line_fits(limits, &lines[i]) {
+        if !line_fits(limits, &lines.line(i)) {
             return false;
         }
     }
@@ -116,7 +116,7 @@ fn script_of(alloc: Global, limits: &Limits, text: &[u8]) -> Result<Script, Fail
     let Ok(script) = parse(alloc, text, limits) else {
         return Err(Fail::from("the text is a script"));
     };
-    if !lines_fit(limits, script.items()) {
+    if !lines_fit(limits, &script) {
         return Err(Fail::from("each line fits the limits"));
     }
     Ok(script)
@@ -126,7 +126,7 @@ fn script_of(alloc: Global, limits: &Limits, text: &[u8]) -> Result<Script, Fail
 fn told(alloc: Global, script: &Script, replies: &Replies) -> Result<Text, Fail> {
     let mut text = Text::new(alloc);
     let mut said = 0;
-    for line in script.items() {
+    for line in script.unpacked(alloc)?.iter() {
         if let Line::Phase = line {
             continue;
         }

@@ -45,12 +45,13 @@ pub fn work_on<R: Threads + Wait + Sync, G: Gate + Sync>(
     ensures run { IfOk result (λ done. HaveRunThrough store.now script.now sessions done.0 merger.old.seat.view merger.new.seat.view done.1) }
     ensures works { IfOk result (λ done. Works store.now script.now sessions done.0 merger.old.seat.view merger.new.seat.view done.1) }
 {
+    let lines = script.unpacked(alloc)?;
     let (passes, replies) = run_script(
         rt,
         alloc,
         store,
         gate,
-        script.items(),
+        lines.as_slice(),
         sessions.into_vec(),
         merger,
     )?;

@@ -6,10 +6,10 @@ use Rattle.lst_command.specs.Owed.{run_text}
 use Rattle.lst_command.specs.Runs.{HasRun}
 use Rattle.lst_command.proofs.execution.execute.Given as goal
 
-abbrev pub invariant-loop-line : goal.invariant-loop-line
-invariant-loop-line l = record {
+abbrev pub invariant-loop-place : goal.invariant-loop-place
+invariant-loop-place l = record {
   crew : IsCrewOf l.store l.crew;
   tells : TellsState l.crew.seat.view;
   limits : l.crew.seat.view.limits ≡ l.limits;
-  run : HasRun l.limits l.crew.seat.view l.text (drop l.line-index l.script) (run_text l.limits l.script) (state_after l.limits opening l.script);
+  run : HasRun l.limits l.crew.seat.view l.text (drop l.place l.script) (run_text l.limits l.script) (state_after l.limits opening l.script);
 }
