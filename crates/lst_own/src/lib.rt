@@ -3,8 +3,6 @@
 //! It touches values alone. Begin with `OwnWrites` in `writes.rt`; `joined` of `lst_model` says where a write stands among others.
 #![tactic(auto)]
 
-#[cfg(test)]
-mod tests;
 mod writes;
 
 pub use writes::OwnWrites;
