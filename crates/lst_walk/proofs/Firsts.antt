@@ -3,7 +3,7 @@ use Rattle.std.proofs.Common.{◌≡◌, ℕ, ◌+◌, ◌-◌, ◌*◌, ◌<◌
 use Rattle.std.proofs.Math.Nat.{add-mul}
 use Rattle.lst_layout.specs.declared.limits.Limits.{Limits}
 use Rattle.lst_layout.specs.declared.place.Place.TheVariants.{CellWord}
-use Rattle.lst_layout.specs.Addresses.{address, IsTailWord}
+use Rattle.lst_layout.specs.Addresses.{address}
 use Rattle.lst_layout.specs.Areas.{cell_words, words_of, tail_cells_start}
 use Rattle.lst_layout.proofs.Apart.{below}
 use Rattle.lst_layout.proofs.Lows.{tail_within}

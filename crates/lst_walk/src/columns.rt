@@ -57,6 +57,7 @@ pub fn column(store: &Store, seat: &mut Seat, s: u32, rec: RecordId, c: u32) -> 
 
 /// What `column` answers, along the chain alone: no page is looked at. This serves a record of which the column's page tells nothing. Where the
 /// record has no version, no word of a tail record is loaded.
+#[inline(always)]
 pub fn column_by_chain(store: &Store, seat: &mut Seat, s: u32, rec: RecordId, c: u32) -> Option<u64>
     requires reader { IsReader store.now seat.old s }
     requires rec { rec.number < record_count store.now.layout.limits }
@@ -82,6 +83,7 @@ pub fn column_by_chain(store: &Store, seat: &mut Seat, s: u32, rec: RecordId, c:
 
 /// What a version of a range, by the number of its tail record, tells of a column: its number, 0 for null, or with None in it that there is
 /// no row. None comes where the version isn't seen, or tells nothing of the column. The tail record's first word has the address `first`.
+#[inline(always)]
 fn held(
     store: &Store,
     seat: &mut Seat,
@@ -113,6 +115,7 @@ fn held(
 
 /// What a version that is seen tells of a column. A put has each column in its mask, and a delete none, so that its kind is asked for only where the
 /// mask leaves the column out.
+#[inline(always)]
 fn told(
     store: &Store,
     seat: &mut Seat,

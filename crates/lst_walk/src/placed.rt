@@ -1,5 +1,5 @@
 //! The words of versions by the address of the first of them, which is made up once a version.
-ghost use Rattle.std.specs.Prelude.{◌≡◌, ℕ, ◌+◌, ◌*◌, ◌<◌, ◌≤◌, slice_index, true};
+ghost use Rattle.std.specs.Prelude.{◌≡◌, ◌⊎◌, ℕ, ◌+◌, ◌*◌, ◌%◌, ◌<◌, ◌≤◌, slice_index, true, IfSome, None, nat_le};
 ghost use Rattle.lst_layout.specs.declared.place.Place.TheVariants.{CellWord};
 ghost use Rattle.lst_layout.specs.Addresses.{address};
 ghost use Rattle.lst_layout.specs.Areas.{cell_words};
@@ -56,6 +56,7 @@ fn later(most: u64, start: u64, passed: u64) -> u64
 }
 
 /// A word of a version, not its start word. The tail record's first word has the address `first`.
+#[inline(always)]
 pub(crate) fn word_from(
     store: &Store,
     seat: &mut Seat,
@@ -77,6 +78,7 @@ pub(crate) fn word_from(
 }
 
 /// What a version does, by its encoding word. The tail record's first word has the address `first`.
+#[inline(always)]
 pub(crate) fn encoding_from(
     store: &Store,
     seat: &mut Seat,
@@ -98,6 +100,7 @@ pub(crate) fn encoding_from(
 }
 
 /// The value word of a column of a version. The tail record's first word has the address `first`.
+#[inline(always)]
 pub(crate) fn value_from(
     store: &Store,
     seat: &mut Seat,
@@ -182,8 +185,75 @@ pub(crate) fn is_seen_from(
     ensures seen { (c : Version) → IsAt seat.old.view s (range * store.now.layout.limits.tails + tail) c → result ≡ sees (knows seat.old.view s) s c.writer }
     ensures resolved { Resolves seat.old.view seat.new.view s range tail }
 {
+    seat.consider();
+    match time_from(store, seat, s, range, tail, first) {
+        Some(time) => time <= seat.begin(s),
+        None => is_seen_untimed(store, seat, s, range, tail, first),
+    }
+}
+
+/// The same of a version whose start word was found without a time. The word is loaded anew. Apart, since most versions have their times.
+#[inline(never)]
+fn is_seen_untimed(
+    store: &Store,
+    seat: &mut Seat,
+    s: u32,
+    range: u32,
+    tail: u32,
+    first: u64,
+) -> bool
+    requires reader { IsReader store.now seat.old s }
+    requires range { range < store.now.layout.limits.ranges }
+    requires tail { (0 < tail) × (tail ≤ store.now.layout.limits.tails) }
+    requires version { HasVersion seat.old.view s (range * store.now.layout.limits.tails + tail) }
+    requires first { first ≡ address store.now.layout.limits (CellWord (range * store.now.layout.limits.tails + tail) 0) }
+    ensures reader { IsReader store.now seat.new s }
+    ensures watched { Watched seat.old.view seat.new.view s }
+    ensures loads { LoadsTail seat.old.view seat.new.view s (range * store.now.layout.limits.tails + tail) }
+    ensures seen { (c : Version) → IsAt seat.old.view s (range * store.now.layout.limits.tails + tail) c → result ≡ sees (knows seat.old.view s) s c.writer }
+    ensures resolved { Resolves seat.old.view seat.new.view s range tail }
+{
     let found = resolve_stamped_from(store, seat, s, range, tail, first);
     is_seen_at(found, seat.begin(s))
+}
+
+/// The commit time in the start word of a range's version, by the number of its tail record, or None where the word has none. The tail record's first word
+/// has the address `first`.
+#[inline(always)]
+fn time_from(
+    store: &Store,
+    seat: &mut Seat,
+    s: u32,
+    range: u32,
+    tail: u32,
+    first: u64,
+) -> Option<u64>
+    requires reader { IsReader store.now seat.old s }
+    requires range { range < store.now.layout.limits.ranges }
+    requires tail { (0 < tail) × (tail ≤ store.now.layout.limits.tails) }
+    requires first { first ≡ address store.now.layout.limits (CellWord (range * store.now.layout.limits.tails + tail) 0) }
+    ensures reader { IsReader store.now seat.new s }
+    ensures watched { Watched seat.old.view seat.new.view s }
+    ensures loads { LoadsTail seat.old.view seat.new.view s (range * store.now.layout.limits.tails + tail) }
+    ensures seen { (c : Version) → IsAt seat.old.view s (range * store.now.layout.limits.tails + tail) c → IfSome result (λ time. nat_le time (knows seat.new.view s).begin ≡ sees (knows seat.old.view s) s c.writer) }
+    ensures resolved { IfSome result (λ time. Resolves seat.old.view seat.new.view s range tail) }
+{
+    let start = load_cell_from(store, seat, s, tail_of(store, range, tail), first, 0);
+    seat.consider();
+    time_in(start)
+}
+
+/// The time that a start word has.
+#[inline(always)]
+fn time_in(start: u64) -> Option<u64>
+    ensures some { IfSome result (λ time. (0 < time) × (start ≡ 2 * time)) }
+    ensures none { result ≡ None → (start ≡ 0) ⊎ (start % 2 ≡ 1) }
+{
+    if start % 2 == 0 && start > 0 {
+        Some(start / 2)
+    } else {
+        None
+    }
 }
 
 /// How a version of a range stands to the open transaction. Where its transaction is found committed, and the start word has no time yet, the time is

@@ -13,6 +13,7 @@ use lst_bits::unpack_head;
 use lst_rule::{RecordId, Seat, Store, load_head};
 
 /// The number in its range of a record's newest version, or 0.
+#[inline(always)]
 pub(crate) fn head(store: &Store, seat: &mut Seat, s: u32, rec: RecordId) -> u32
     requires reader { IsReader store.now seat.old s }
     requires rec { rec.number < record_count store.now.layout.limits }
