@@ -79,13 +79,14 @@ pub trait Disk {
         ensures left { CountsCall (calls_left self.old) (calls_left self.new) result }
         ensures cause { HasCause (faults self.old) (faults self.new) result };
 
-    /// Makes room for the record of four writes and syncs whose pieces have at most so many bytes together. A crash
-    /// leaves nothing that it couldn't leave before.
+    /// Makes room for the record of four writes and syncs whose pieces have at most so many bytes together. It syncs nothing: a
+    /// crash may leave exactly what it could leave before.
     fn room(&mut self, bytes: u64) -> Result<(), OutOfMemory>
         ensures calls { OnOk result (4 ≤ room_calls self.new) }
         ensures bytes { OnOk result (bytes ≤ room_bytes self.new) }
         ensures content { content self.new ≡ content self.old }
         ensures crash { (c : List ℕ) → images self.new c → images self.old c }
+        ensures kept { (c : List ℕ) → images self.old c → images self.new c }
         ensures time { Elapses (clock self.old) (clock self.new) (images_since self.old) (images_since self.new) (images self.new) }
         ensures room_calls { room_calls self.old ≤ room_calls self.new }
         ensures room_bytes { room_bytes self.old ≤ room_bytes self.new }
@@ -97,6 +98,9 @@ pub trait Disk {
 
     /// This moment is one of those since an earlier one.
     ghost counts_now: { (disk : Self) (t : ℕ) (c : List ℕ) → t ≤ clock disk → images disk c → images_since disk t c };
+
+    /// What a crash since a moment may have left, it may have left since each earlier one.
+    ghost counts_earlier: { (disk : Self) (t u : ℕ) (c : List ℕ) → t ≤ u → u ≤ clock disk → images_since disk u c → images_since disk t c };
 
     /// Since this moment there is no other.
     ghost only_now: { (disk : Self) (c : List ℕ) → images_since disk (clock disk) c → images disk c };

@@ -101,7 +101,7 @@ impl Disk for MemDisk {
     ghost use Rattle.lst_model.specs.Faults.{HasCause};
     ghost use Rattle.lst_disk.specs.Disk.{overwritten, Torn, Follows, Only, Elapses, CountsCall};
     ghost use Rattle.lst_disk.specs.Memory.{disk_content, disk_synced, disk_pending, disk_torn, disk_images, disk_images_since, disk_clock, disk_left, disk_room_calls, disk_room_bytes, disk_faults, Stays};
-    ghost use Rattle.lst_disk.specs.MemoryLaws.{content_stays, is_now, is_only_now};
+    ghost use Rattle.lst_disk.specs.MemoryLaws.{content_stays, is_now, is_earlier, is_only_now};
 
     ghost content = { disk_content };
 
@@ -122,6 +122,8 @@ impl Disk for MemDisk {
     ghost content_counts = { content_stays };
 
     ghost counts_now = { is_now };
+
+    ghost counts_earlier = { is_earlier };
 
     ghost only_now = { is_only_now };
 
@@ -213,6 +215,7 @@ impl Disk for MemDisk {
         ensures torn { disk_torn self.new ≡ disk_torn self.old }
         ensures clock { disk_clock self.new ≡ disk_clock self.old }
         ensures crash { (c : List ℕ) → disk_images self.new c → disk_images self.old c }
+        ensures kept { (c : List ℕ) → disk_images self.old c → disk_images self.new c }
         ensures time { Elapses (disk_clock self.old) (disk_clock self.new) (disk_images_since self.old) (disk_images_since self.new) (disk_images self.new) }
         ensures room_calls { disk_room_calls self.old ≤ disk_room_calls self.new }
         ensures room_bytes { disk_room_bytes self.old ≤ disk_room_bytes self.new }

@@ -6,7 +6,7 @@ ghost use Rattle.lst_disk.specs.Disk.{Only, LeavesOnly};
 ghost use Rattle.lst_redo.specs.Format.{journal};
 ghost use Rattle.lst_snapshots.specs.Replays.{numbered_from};
 ghost use Rattle.lst_redo.specs.Journals.{StandsFor, IsDamagedAt};
-ghost use Rattle.lst_redo.specs.Stores.{LastsSince};
+ghost use Rattle.lst_redo.specs.Stores.{LastsSince, MakesNoCall, MakesOneSync};
 ghost use Rattle.lst_redo.specs.Logs.{Keeps};
 
 use crate::log::Log;
@@ -59,7 +59,7 @@ fn all_of<D: Disk>(alloc: Global, disk: &mut D) -> Result<Vec<u8>, OpenCause>
     ensures fault { result ≡ Err OpenCause.Disk → Rose (D.faults disk.old) (D.faults disk.new) }
     ensures told { IfSome (D.calls_left disk.old) (λ left. (result ≡ Err OpenCause.Disk → left ≡ 0) × (OnOk result (left ≢ 0))) }
     ensures one { ¬ (result ≡ Err OpenCause.OutOfMemory) → IfSome (D.calls_left disk.old) (λ left. D.calls_left disk.new ≡ Some (left - 1)) }
-    ensures unspent { result ≡ Err OpenCause.OutOfMemory → D.calls_left disk.new ≡ D.calls_left disk.old }
+    ensures wanting { result ≡ Err OpenCause.OutOfMemory → MakesNoCall D.images D.calls_left D.faults disk.old disk.new }
     ensures faults { D.faults disk.old ≤ D.faults disk.new }
     ensures never { (at : ℕ) → ¬ (result ≡ Err (OpenCause.Damaged at)) }
 {
@@ -120,7 +120,8 @@ fn scan(alloc: Global, columns: u32, image: &[u8]) -> Result<(Snapshots, usize),
 
 /// Opens a log over a disk, for a table of so many columns: syncs it, reads it, and answers the commits that its content stands for,
 /// each with its time as its number. `Damaged` names the place of the first record that isn't in the format, in bytes from the disk's
-/// front; `Disk` comes only where the disk's count of faults rose. A refusal hands the disk back.
+/// front; `Disk` comes only where the disk's count of faults rose. Memory is wanting before the sync, and then the disk has made no call, or behind it. A
+/// refusal hands the disk back.
 pub fn open<D: Disk>(
     alloc: Global,
     disk: D,
@@ -133,6 +134,7 @@ pub fn open<D: Disk>(
     ensures before_err { IfErr result (λ e. LeavesOnly D.clock D.images_since disk e.disk (D.images disk)) }
     ensures after { IfOk result (λ x. LastsSince D.content D.clock D.images_since disk x.0.disk) }
     ensures after_err { IfErr result (λ e. (at : ℕ) → e.cause ≡ OpenCause.Damaged at → LastsSince D.content D.clock D.images_since disk e.disk) }
+    ensures wanting { IfErr result (λ e. e.cause ≡ OpenCause.OutOfMemory → MakesNoCall D.images D.calls_left D.faults disk e.disk ⊎ MakesOneSync D.content D.clock D.images_since D.calls_left disk e.disk) }
     ensures content { IfErr result (λ e. D.content e.disk ≡ D.content disk) }
     ensures damaged { IfErr result (λ e. (at : ℕ) → e.cause ≡ OpenCause.Damaged at → IsDamagedAt columns (D.content disk) at) }
     ensures fault { IfErr result (λ e. e.cause ≡ OpenCause.Disk → Rose (D.faults disk) (D.faults e.disk)) }
