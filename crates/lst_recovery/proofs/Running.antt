@@ -4,7 +4,8 @@ use Rattle.std.proofs.Math.Seq.{split_at, take-suc}
 use Rattle.std.specs.List.{AllByRecursion}
 use Rattle.lst_layout.specs.declared.limits.Limits.{Limits}
 use Rattle.lst_model.specs.declared.commits.Commit.{Commit}
-use Rattle.lst_machine.specs.State.{Store, opening_store}
+use Rattle.lst_machine.specs.State.{Store, State, opening, opening_store}
+use Rattle.lst_machine.specs.Machine.{state_after}
 use Rattle.lst_snapshots.specs.Replays.{IsRecovered}
 use Rattle.lst_replay.specs.Again.{after_again, after_all_again}
 use Rattle.lst_replay.specs.Rests.{IsRested, MeetsLimit}
@@ -14,18 +15,21 @@ use Rattle.lst_replay.proofs.Lists.{all_at}
 use Rattle.lst_replay.proofs.Runs.{may_follow, after_more, runs_more}
 use Rattle.lst_rule.specs.declared.store.Store.{Store as Table}
 use Rattle.lst_session.specs.declared.crew.Crew.{Crew}
-use Rattle.lst_session.specs.Crews.{IsCrewOf, TellsState, store_told}
+use Rattle.lst_session.specs.Crews.{IsCrewOf, TellsState, store_told, state_told}
 use Rattle.lst_recovery.specs.Recoveries.{HasRunAgain, MayRun}
+use Rattle.lst_recovery.specs.Scripts.{lines_of}
+use Rattle.lst_recovery.proofs.Scripts.{again_told}
 
 -- on a new crew none was run
-pub none_ran : OpeningRests → (table : Table) (limits : Limits) (crew : Crew) → IsCrewOf table crew → crew.seat.view.limits ≡ limits → TellsState crew.seat.view → store_told crew.seat.view ≡ opening_store → HasRunAgain table limits [] crew
+pub none_ran : OpeningRests → (table : Table) (limits : Limits) (crew : Crew) → IsCrewOf table crew → crew.seat.view.limits ≡ limits → TellsState crew.seat.view → state_told crew.seat.view ≡ opening → HasRunAgain table limits [] crew
 none_ran law table limits crew of same tells told = record {
   crew_of = of;
   limits_are = same;
   tells = tells;
-  told = told;
+  told = ap (λ (st : State). st.store) told;
+  state = told;
   runs = tt;
-  rested = subst (IsRested limits []) (sym told) (law limits);
+  rested = subst (λ (st : State). IsRested limits [] st.store) (sym told) (law limits);
 }
 
 module _ (table : Table) (limits : Limits) (front rest commits : List Commit) (c : Commit) (crew : Crew) (split : commits ≡ front ++ c ∷ rest) (recovered : IsRecovered commits)
@@ -48,14 +52,15 @@ module _ (table : Table) (limits : Limits) (front rest commits : List Commit) (c
 
   -- where it meets no limit it has run
   pub ran_more : RestsAgain → (later : Crew) → IsCrewOf table later → later.seat.view.limits ≡ crew.seat.view.limits → TellsState later.seat.view
-      → store_told later.seat.view ≡ after_again crew.seat.view.limits (store_told crew.seat.view) c → ¬ MeetsLimit crew.seat.view.limits (store_told crew.seat.view) c → HasRunAgain table limits (front ++ c ∷ []) later
-  ran_more law later of same tells told free =
+      → store_told later.seat.view ≡ after_again crew.seat.view.limits (store_told crew.seat.view) c → state_told later.seat.view ≡ state_after crew.seat.view.limits (state_told crew.seat.view) (lines_of c) → ¬ MeetsLimit crew.seat.view.limits (store_told crew.seat.view) c → HasRunAgain table limits (front ++ c ∷ []) later
+  ran_more law later of same tells told state free =
       let is : store_told later.seat.view ≡ after_again limits (after_all_again limits opening_store front) c = told ∙ (λ i. after_again (ran.limits_are i) (ran.told i) c) in
       record {
         crew_of = of;
         limits_are = same ∙ ran.limits_are;
         tells = tells;
         told = is ∙ sym (after_more limits opening_store front c);
+        state = again_told crew.seat.view later.seat.view limits opening front c ran.limits_are ran.state state;
         runs = runs_more limits opening_store front c ran.runs (free_here free);
         rested = subst (IsRested limits (front ++ c ∷ [])) (sym is)
             (law limits front c (after_all_again limits opening_store front) (subst (IsRested limits front) ran.told ran.rested) (may_follow front c rest commits split recovered) has.order has.some (free_here free));

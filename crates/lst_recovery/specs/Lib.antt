@@ -1,1 +1,2 @@
 pub mod Recoveries
+pub mod Scripts

@@ -3,8 +3,9 @@ use Rattle.std.specs.Prelude.{◌≡◌, ℕ, List, ◌∷◌, ◌++◌}
 use Rattle.lst_layout.specs.declared.limits.Limits.{Limits}
 use Rattle.lst_model.specs.declared.acts.Write.{Write}
 use Rattle.lst_model.specs.declared.commits.Commit.{Commit}
-use Rattle.lst_machine.specs.State.{Store, opening_store}
+use Rattle.lst_machine.specs.State.{Store, opening, opening_store}
 use Rattle.lst_machine.specs.Calls.{call_reply}
+use Rattle.lst_machine.specs.Machine.{state_after}
 use Rattle.lst_snapshots.specs.Replays.{MayFollow}
 use Rattle.lst_replay.specs.Again.{call_of, after_writes, after_all_again}
 use Rattle.lst_replay.specs.Rests.{IsRested, IsUnderWay, IsFull}
@@ -12,14 +13,17 @@ use Rattle.lst_replay.specs.Runs.{HasWrites, RunsAgain}
 use Rattle.lst_rule.specs.declared.view.View.{View}
 use Rattle.lst_rule.specs.declared.store.Store.{Store as Table}
 use Rattle.lst_session.specs.declared.crew.Crew.{Crew}
-use Rattle.lst_session.specs.Crews.{IsCrewOf, TellsState, store_told}
+use Rattle.lst_recovery.specs.Scripts.{lines_again}
+use Rattle.lst_session.specs.Crews.{IsCrewOf, TellsState, store_told, state_told}
 
--- these commits were run again on a new crew, and nothing else: none met a limit, and the crew tells the store behind them
+-- these commits were run again on a new crew, and nothing else: none met a limit, and the crew tells the state of the machine behind their lines, with
+-- the store that their calls leave
 pub record HasRunAgain (table : Table) (limits : Limits) (commits : List Commit) (crew : Crew) : Type 0 where
   pub crew_of : IsCrewOf table crew
   pub limits_are : crew.seat.view.limits ≡ limits
   pub tells : TellsState crew.seat.view
   pub told : store_told crew.seat.view ≡ after_all_again limits opening_store commits
+  pub state : state_told crew.seat.view ≡ state_after limits opening (lines_again commits)
   pub runs : RunsAgain limits opening_store commits
   pub rested : IsRested limits commits (store_told crew.seat.view)
 

@@ -1,12 +1,14 @@
 //! A commit, run again by its own session.
 ghost use Rattle.std.specs.Prelude.{◌≡◌, ◌<◌, ◌∷◌, ◌++◌, [], OnOk, OnErr};
 ghost use Rattle.lst_model.specs.Lines.{CallFits};
+ghost use Rattle.lst_machine.specs.Machine.{state_after};
 ghost use Rattle.lst_replay.specs.Again.{call_of, after_again};
 ghost use Rattle.lst_replay.specs.Rests.{MeetsLimit};
 ghost use Rattle.lst_replay.specs.Runs.{HasWrites};
-ghost use Rattle.lst_session.specs.Crews.{IsCrewOf, TellsState, Answers, store_told};
+ghost use Rattle.lst_session.specs.Crews.{IsCrewOf, TellsState, Answers, store_told, state_told};
 ghost use Rattle.lst_session.specs.Replies.{write_reply};
 ghost use Rattle.lst_recovery.specs.Recoveries.{MayRun, IsMaking, WritesFindFull};
+ghost use Rattle.lst_recovery.specs.Scripts.{lines_of_writes, lines_of};
 
 use lst_model::{Act, Commit, Write};
 use lst_replay::commits_run_again;
@@ -25,6 +27,7 @@ pub(crate) fn run_again(store: &Store, crew: &mut Crew, commit: &Commit) -> Resu
     ensures tells { OnOk result (TellsState crew.new.seat.view) }
     ensures limits { OnOk result (crew.new.seat.view.limits ≡ crew.old.seat.view.limits) }
     ensures again { OnOk result (store_told crew.new.seat.view ≡ after_again crew.old.seat.view.limits (store_told crew.old.seat.view) commit.now) }
+    ensures state { OnOk result (state_told crew.new.seat.view ≡ state_after crew.old.seat.view.limits (state_told crew.old.seat.view) (lines_of commit.now)) }
     ensures free { OnOk result (¬ MeetsLimit crew.old.seat.view.limits (store_told crew.old.seat.view) commit.now) }
     ensures full { OnErr result (MeetsLimit crew.old.seat.view.limits (store_told crew.old.seat.view) commit.now) }
 {
@@ -50,6 +53,7 @@ fn make_all(store: &Store, crew: &mut Crew, commit: &Commit) -> Result<(), Full>
     ensures crew { OnOk result (IsCrewOf store.now crew.new) }
     ensures made { OnOk result (IsMaking crew.new.seat.view (store_told crew.old.seat.view) commit.now commit.now.writes) }
     ensures limits { OnOk result (crew.new.seat.view.limits ≡ crew.old.seat.view.limits) }
+    ensures state { OnOk result (state_told crew.new.seat.view ≡ state_after crew.old.seat.view.limits (state_told crew.old.seat.view) (lines_of_writes commit.now.session commit.now.writes)) }
     ensures full { OnErr result (WritesFindFull crew.old.seat.view.limits (store_told crew.old.seat.view) commit.now.session commit.now.writes) }
 {
     commits_run_again();

@@ -23,7 +23,8 @@ pub enum RecoveryFault {
 }
 
 /// Opens a store, with the crew that hosts its sessions, and runs commits again on it, each by its own session. At Ok the store has the same
-/// sessions and writes at the same times: the crew tells the machine's store behind these calls, which rests. `Full` comes exactly where a
+/// sessions and writes at the same times: the crew tells the machine's state behind the lines of these calls, and its store rests. So what any later
+/// line is answered follows from the machine. `Full` comes exactly where a
 /// commit meets a limit when those before it were run again: a session's number, the number of a session's transactions, a full table or a full
 /// range. It names the first such commit by its time, and never comes where the limits have room for all commits.
 pub fn recover(

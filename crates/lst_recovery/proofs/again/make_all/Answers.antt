@@ -3,11 +3,14 @@ use Rattle.std.specs.Prelude.{Result}
 use Rattle.lst_layout.specs.declared.limits.Limits.{Limits}
 use Rattle.lst_model.specs.declared.acts.Write.{Write}
 use Rattle.lst_session.specs.declared.kinds.WriteRefusal.{WriteRefusal}
-use Rattle.lst_session.specs.Crews.{Answers, store_told}
+use Rattle.lst_machine.specs.Machine.{state_after}
+use Rattle.lst_session.specs.Crews.{Answers, store_told, state_told}
 use Rattle.lst_session.specs.Replies.{write_reply, write_cause}
 use Rattle.lst_replay.specs.Again.{call_of}
 use Rattle.lst_recovery.specs.Recoveries.{IsMaking, WritesFindFull}
 use Rattle.lst_recovery.proofs.Making.{found_full, made_more, taken_more, write_at}
+use Rattle.lst_recovery.specs.Scripts.{lines_of_writes}
+use Rattle.lst_recovery.proofs.Scripts.{write_told}
 use Rattle.lst_recovery.proofs.again.make_all.Goals as goal
 
 pub returns-in_default-clause-full : goal.returns-in_default-clause-full
@@ -43,4 +46,6 @@ loop-write-preserved c =
       told.1.limits ∙ c.loop-write.invariant.1,
       subst (IsMaking w (store_told c.args.crew.now.seat.view) commit) (taken_more ws i x low is)
           (made_more c.commits_run_again.ensures.writes v w (store_told c.args.crew.now.seat.view) commit c.args.crew.now.seat.view.limits.columns (take i ws) x (drop (suc i) ws) making c.requires.writes (write_at ws i x low is) told.0 answers),
+      write_told c.args.crew.now.seat.view v w commit.session (take i ws) x (write_reply c.make.result) c.loop-write.invariant.1 c.loop-write.invariant.3 told.1
+      ∙ ap (λ (front : List Write). state_after c.args.crew.now.seat.view.limits (state_told c.args.crew.now.seat.view) (lines_of_writes commit.session front)) (taken_more ws i x low is),
     )

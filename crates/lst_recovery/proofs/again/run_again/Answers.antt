@@ -10,6 +10,7 @@ use Rattle.lst_session.specs.declared.kinds.Outcome.{Outcome}
 use Rattle.lst_session.specs.Crews.{Answers}
 use Rattle.lst_session.specs.Replies.{begin_reply, commit_reply}
 use Rattle.lst_recovery.proofs.Making.{began, is_committed, ran_again, met_none, full_meets, on_err}
+use Rattle.lst_recovery.proofs.Scripts.{commit_told}
 use Rattle.lst_recovery.proofs.again.run_again.Goals as goal
 
 pub make_all-requires-clause-begun : goal.make_all-requires-clause-begun
@@ -42,6 +43,12 @@ returns-clause-again c =
     let made = c.in_ok-make_all.ensures.made in
     ran_again c.args.crew.now.seat.view c.begin.new.self.seat.view c.make_all.new.crew.seat.view c.commit.new.self.seat.view c.args.commit.now (begin_reply c.begin.result) (commit_reply c.commit.result)
     (c.begin.ensures.machine c.requires.may.tells).1 made c.in_ok-make_all.ensures.limits (c.commit.ensures.machine made.tells).1
+
+pub returns-clause-state : goal.returns-clause-state
+returns-clause-state c =
+    let made = c.in_ok-make_all.ensures.made in
+    commit_told c.args.crew.now.seat.view c.begin.new.self.seat.view c.make_all.new.crew.seat.view c.commit.new.self.seat.view c.args.commit.now (begin_reply c.begin.result) (commit_reply c.commit.result)
+    (c.begin.ensures.machine c.requires.may.tells).1 c.in_ok-make_all.ensures.limits c.in_ok-make_all.ensures.state (c.commit.ensures.machine made.tells).1
 
 pub returns-clause-free : goal.returns-clause-free
 returns-clause-free c =

@@ -1,6 +1,5 @@
 use Rattle.std.proofs.Common.{◌∙◌, ap, sym}
 use Rattle.lst_layout.specs.declared.layout.Layout.{Layout}
-use Rattle.lst_machine.specs.State.{State}
 use Rattle.lst_replay.proofs.Steps.{opening_rests}
 use Rattle.lst_recovery.proofs.Running.{none_ran}
 use Rattle.lst_recovery.proofs.recovery.recover.Goals as goal
@@ -8,4 +7,4 @@ use Rattle.lst_recovery.proofs.recovery.recover.Goals as goal
 pub run_all-requires-clause-new : goal.run_all-requires-clause-new
 run_all-requires-clause-new c =
     none_ran opening_rests c.in-Ok.store c.in-Ok.store.layout.limits c.in-Ok.crew c.in-Ok.ensures.crew (c.in-Ok.ensures.limits ∙ ap (λ (l : Layout). l.limits) (sym c.in-Ok.ensures.store)) c.in-Ok.ensures.tells
-    (ap (λ (s : State). s.store) c.in-Ok.ensures.opening)
+    c.in-Ok.ensures.opening

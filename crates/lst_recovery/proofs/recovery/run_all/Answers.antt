@@ -27,5 +27,5 @@ loop-commit-preserved c =
     let i : ℕ = c.loop-commit.commit-index in
     let x : Commit = c.commit-item.result in
     let ran = ran_more c.args.store.now c.args.store.now.layout.limits (take i cs) (drop (suc i) cs) cs x c.loop-commit.crew (commit_at cs i x c.loop-commit-test.true c.commit-item.is) c.requires.recovered c.requires.writes c.loop-commit.invariant.0
-    c.commits_run_again.ensures.rests c.run_again.new.crew c.in-Ok.ensures.crew c.in-Ok.ensures.limits c.in-Ok.ensures.tells c.in-Ok.ensures.again c.in-Ok.ensures.free in
+    c.commits_run_again.ensures.rests c.run_again.new.crew c.in-Ok.ensures.crew c.in-Ok.ensures.limits c.in-Ok.ensures.tells c.in-Ok.ensures.again c.in-Ok.ensures.state c.in-Ok.ensures.free in
     (subst (λ (front : List Commit). HasRunAgain c.args.store.now c.args.store.now.layout.limits front c.run_again.new.crew) (run_more cs i x c.loop-commit-test.true c.commit-item.is) ran, ap (λ (n : ℕ). n + 1) c.loop-commit.invariant.1)
