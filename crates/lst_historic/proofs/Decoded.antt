@@ -342,6 +342,14 @@ cells_done olds cells mask nulls changed emptied column bytes behind some on non
     let is = front_some on.front (cells_behind 0 emptied (drop column olds) behind) (subst (λ r. IsSome r) (sym read) some) in
     ap (λ (cs : List Cell). Some (cs, behind)) on.items ∙ ap (with_front on.front) (sym (no_change emptied (drop column olds) behind is)) ∙ read
 
+-- where the second column alone differs, it is next
+pub second_next : (olds : List Cell) (bytes : List ℕ) → IsSome (cells_behind 2 0 olds bytes) → CellsOn olds olds 2 0 1 0 1 bytes bytes
+second_next olds bytes some =
+    let on = cells_first olds 2 0 bytes in
+    let low : 0 < length olds = cells_within olds olds 2 0 2 0 0 bytes bytes some on (omega arith) in
+    cells_next olds olds olds 2 0 2 0 0 bytes bytes bytes some on (omega arith)
+    (step_unchanged olds 0 false bytes low (λ old here. cell_some olds olds 2 0 2 0 0 bytes bytes old some on (omega arith) here))
+
 -- ---- a row
 
 pub tag_some : (base : List Cell) (bytes : List ℕ) → IsSome (row_behind base bytes) → IsSome (word_at bytes)

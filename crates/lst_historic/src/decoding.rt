@@ -121,6 +121,24 @@ fn cells_in(cells: &mut Cells, mask: u64, nulls: u64, bytes: &[u8], place: usize
     at
 }
 
+/// Makes cells those of the row behind them, of which the first column alone differs, and answers the place behind it. It takes no loop.
+#[inline(always)]
+fn first_in(cells: &mut Cells, bytes: &[u8], place: usize) -> usize
+    requires { IsSome (cells_behind 1 0 cells.old.items (drop place bytes.now)) }
+    ensures { Some (cells.new.items, drop result bytes.now) ≡ cells_behind 1 0 cells.old.items (drop place bytes.now) }
+{
+    step(cells, 0, true, false, bytes, place)
+}
+
+/// The same of the second column.
+#[inline(always)]
+fn second_in(cells: &mut Cells, bytes: &[u8], place: usize) -> usize
+    requires { IsSome (cells_behind 2 0 cells.old.items (drop place bytes.now)) }
+    ensures { Some (cells.new.items, drop result bytes.now) ≡ cells_behind 2 0 cells.old.items (drop place bytes.now) }
+{
+    step(cells, 1, true, false, bytes, place)
+}
+
 /// Makes cells those of so many numbers 0.
 #[inline(always)]
 pub(crate) fn clear(cells: &mut Cells, columns: u32)
@@ -133,7 +151,8 @@ pub(crate) fn clear(cells: &mut Cells, columns: u32)
     }
 }
 
-/// Makes cells those with which the next version is compared, and answers whether the key has a row, and the place behind it.
+/// Makes cells those with which the next version is compared, and answers whether the key has a row, and the place behind it. Versions in
+/// which one of the first two columns alone differs are told first.
 fn row_behind_in(columns: u32, cells: &mut Cells, bytes: &[u8], place: usize) -> (bool, usize)
     requires few { columns ≤ 8 }
     requires read { IsSome (row_behind cells.old.items (drop place bytes.now)) }
@@ -141,6 +160,14 @@ fn row_behind_in(columns: u32, cells: &mut Cells, bytes: &[u8], place: usize) ->
     ensures base { base_of columns (shown result.0 cells.new.items) ≡ cells.new.items }
 {
     let (tag, behind) = number_in(bytes, place);
+    if tag == 2 {
+        let end = first_in(cells, bytes, behind);
+        return (true, end);
+    }
+    if tag == 3 {
+        let end = second_in(cells, bytes, behind);
+        return (true, end);
+    }
     if tag == 0 {
         clear(cells, columns);
         return (false, behind);
