@@ -8,6 +8,8 @@ use Rattle.lst_core_state.specs.Writes.{commit}
 use Rattle.lst_model.specs.declared.acts.Write.{Write}
 use Rattle.lst_model.specs.declared.commits.Commit.{Commit}
 use Rattle.lst_model.specs.declared.lines.Call.TheVariants.{Commit as CommitCall}
+use Rattle.lst_model.specs.declared.lines.Line.{Line}
+use Rattle.lst_model.specs.declared.lines.Line.TheVariants.{Call}
 use Rattle.lst_model.specs.declared.replies.Reply.TheVariants as reply
 use Rattle.lst_model.specs.Soundness.{Follows}
 use Rattle.lst_machine.specs.State.{Store, State}
@@ -21,7 +23,9 @@ use Rattle.lst_replay.specs.Counts.{IsCounted, SameCommits}
 use Rattle.lst_replay.specs.Rests.{HasRoomFor, with_tails}
 use Rattle.lst_replay.proofs.Counted.{calls_are_counted, counted_has_room}
 use Rattle.lst_replay.proofs.Runs.{same_have_writes, same_grows}
+use Rattle.lst_disk.specs.Disk.{LeavesOnly}
 use Rattle.lst_redo.specs.Format.{HasRecord}
+use Rattle.lst_redo.specs.Journals.{StandsForOrOneMore}
 use Rattle.lst_redo.specs.Logs.{Keeps}
 use Rattle.lst_redo.specs.declared.log.Log.{Log}
 use Rattle.lst_rule.specs.declared.view.View.{View}
@@ -34,6 +38,8 @@ use Rattle.lst_session.proofs.Crewed.{IsCrewView, crew_view, core_of, known_is, 
 use Rattle.lst_journal.specs.declared.journal.Redo.{Redo}
 use Rattle.lst_journal.specs.Journals.{view_of, IsJournalOf}
 use Rattle.lst_journal.specs.Owns.{FitRecord, AreOwn, commit_of}
+use Rattle.lst_journal.specs.Answers.{MayLeave, HasRoomAfter}
+use Rattle.lst_journal.proofs.Answering.{leaves}
 use Rattle.lst_journal.proofs.Lists.{own_kept}
 use Rattle.lst_journal.proofs.Owning.{over}
 use Rattle.lst_journal.proofs.Telling.{committed_history}
@@ -73,8 +79,11 @@ module _ {D : Type 0} (content : D → List ℕ) (images : D → List ℕ → Ty
   counted_after = calls_are_counted (view_of before).limits (store_told (view_of before)) s CommitCall low journal.counted
 
   -- the limits have room for it
-  pub room_for_more : HasRoomFor (with_tails (view_of before).limits (writes_in (commits ++ commit_of (view_of before) s ∷ []))) (commits ++ commit_of (view_of before) s ∷ [])
+  room_for_more : HasRoomFor (with_tails (view_of before).limits (writes_in (commits ++ commit_of (view_of before) s ∷ []))) (commits ++ commit_of (view_of before) s ∷ [])
   room_for_more = counted_has_room (view_of before).limits (after) (commits ++ commit_of (view_of before) s ∷ []) counted_after same_after
+
+  pub line_has_room : (line : Line) → line ≡ Call s CommitCall → HasRoomAfter (view_of before) commits line
+  line_has_room line is = subst (λ (l : Line). HasRoomAfter (view_of before) commits l) (sym is) room_for_more
 
   kept_is : get_or before.own s [] ≡ (knows (view_of before) s).own
   kept_is = journal.own.are s low is_open
@@ -82,6 +91,14 @@ module _ {D : Type 0} (content : D → List ℕ) (images : D → List ℕ → Ty
   -- it is made of what the crew and the kept writes tell
   pub commit_is : (n b : ℕ) (ws : List Write) → n ≡ (knows (view_of before) s).number → b ≡ (knows (view_of before) s).begin → ws ≡ get_or before.own s [] → commit s n b ws ≡ commit_of (view_of before) s
   commit_is n b ws number begin writes = λ i. commit s (number i) (begin i) ((writes ∙ kept_is) i)
+
+  -- what a crash may leave while it is appended
+  pub append_leaves : FollowsOver → (line : Line) → line ≡ Call s CommitCall → (n b : ℕ) (ws : List Write) → n ≡ (knows (view_of before) s).number → b ≡ (knows (view_of before) s).begin → ws ≡ get_or before.own s []
+      → (clock : D → ℕ) (images_since : D → ℕ → List ℕ → Type 0) (old new : D) → (MayFollow commits (commit s n b ws) → LeavesOnly clock images_since old new (StandsForOrOneMore before.log.columns commits (commit s n b ws)))
+      → LeavesOnly clock images_since old new (MayLeave before.log.columns (view_of before) commits line)
+  append_leaves law line is n b ws number begin writes clock images_since old new run =
+      let same = commit_is n b ws number begin writes in
+      leaves (view_of before) s line is is_open some clock images_since old new before.log.columns commits (commit s n b ws) same (run (subst (MayFollow commits) (sym same) (may law)))
 
   columns_are : (view_of before).limits.columns ≡ before.log.columns
   columns_are = ap (λ (l : Limits). l.columns) journal.crew_of.seat_of.limits ∙ sym journal.columns

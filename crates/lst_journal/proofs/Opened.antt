@@ -1,5 +1,5 @@
 -- A journal that was opened: the commits of its records are run again.
-use Rattle.std.proofs.Common.{◌≡◌, ℕ, suc, ◌<◌, ◌≤◌, Bool, true, false, cond, Option, Some, None, List, [], ◌∷◌, length, replicate, refl, sym, ap, ◌∙◌, subst, arith}
+use Rattle.std.proofs.Common.{◌≡◌, ℕ, suc, ◌<◌, ◌≤◌, Bool, true, false, cond, Option, Some, None, List, [], ◌∷◌, ◌++◌, length, replicate, refl, sym, ap, ◌∙◌, subst, arith}
 use Rattle.std.specs.List.{AllByRecursion}
 use Rattle.lst_layout.specs.declared.limits.Limits.{Limits}
 use Rattle.lst_model.specs.declared.acts.Act.{Act}
@@ -10,7 +10,9 @@ use Rattle.lst_model.specs.Lines.{CallFits}
 use Rattle.lst_snapshots.specs.Replays.{numbered_at, numbered_from, IsRecovered}
 use Rattle.lst_replay.specs.Again.{call_of}
 use Rattle.lst_core_state.specs.declared.known.Known.{Known}
-use Rattle.lst_machine.specs.State.{Opened}
+use Rattle.lst_model.specs.declared.lines.Line.{Line}
+use Rattle.lst_machine.specs.State.{Opened, opening}
+use Rattle.lst_machine.specs.Machine.{state_after}
 use Rattle.lst_refinement.specs.Telling.{opened_of}
 use Rattle.lst_replay.specs.Counts.{IsCounted, SameCommits}
 use Rattle.lst_replay.specs.Rests.{HasRoomFor}
@@ -21,6 +23,7 @@ use Rattle.lst_redo.specs.Journals.{StandsFor, HasOneList}
 use Rattle.lst_redo.specs.Logs.{Keeps}
 use Rattle.lst_redo.specs.declared.log.Log.{Log}
 use Rattle.lst_recovery.specs.Recoveries.{HasRunAgain}
+use Rattle.lst_recovery.specs.Scripts.{lines_of, lines_again}
 use Rattle.lst_rule.specs.declared.store.Store.{Store as Table}
 use Rattle.lst_rule.specs.declared.view.View.{View}
 use Rattle.lst_rule.specs.Rule.{knows}
@@ -52,6 +55,11 @@ have_writes columns time (c ∷ cs) all = (record { order = all.0.order; some = 
 numbered_again : (time : ℕ) (cs : List Commit) → numbered_from time (numbered_from time cs) ≡ numbered_from time cs
 numbered_again time [] = refl
 numbered_again time (c ∷ cs) = ap (λ (ds : List Commit). numbered_at time c ∷ ds) (numbered_again (suc time) cs)
+
+-- and it changes no line
+lines_numbered : (time : ℕ) (cs : List Commit) → lines_again (numbered_from time cs) ≡ lines_again cs
+lines_numbered time [] = refl
+lines_numbered time (c ∷ cs) = ap (λ (ls : List Line). lines_of c ++ ls) (lines_numbered (suc time) cs)
 
 recovered_again : (cs : List Commit) → IsRecovered cs → IsRecovered (numbered_from 1 cs)
 recovered_again cs recovered front c rest split = recovered front c rest (sym (numbered_again 1 cs) ∙ split)
@@ -96,6 +104,7 @@ module _ {D : Type 0} (content : D → List ℕ) (images : D → List ℕ → Ty
             own = own_opened v own (none ∙ ap (λ (l : Limits). replicate l.sessions []) (sym ran_now.limits_are)) (λ t below. shut (knows v t) (sym (opened_is v t below) ∙ ran_now.rested.opened t));
           };
           ran = ran_now;
+          state = ran_now.state ∙ ap (state_after limits opening) (lines_numbered 1 found.0);
         },
       )
 

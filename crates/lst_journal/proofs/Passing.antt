@@ -22,7 +22,7 @@ use Rattle.lst_redo.specs.Format.{IsWrite, IsOfTable}
 use Rattle.lst_replay.specs.Counts.{IsCounted, SameCommits}
 use Rattle.lst_replies.specs.Runs.{write_of}
 use Rattle.lst_rule.specs.declared.view.View.{View}
-use Rattle.lst_scan.specs.Lines.{EachCallLeaves, EachLineLeaves, LineLooks, KeepsState}
+use Rattle.lst_scan.specs.Lines.{EachCallLeaves, EachLineLeaves, CallLooks, LineLooks, KeepsState}
 use Rattle.lst_session.specs.declared.crew.Crew.{Crew}
 use Rattle.lst_session.specs.Crews.{IsCrewOf, TellsState, AnswersLine, store_told, state_told}
 use Rattle.lst_session.specs.Lines.{WriteLeaves}
@@ -68,6 +68,7 @@ module _ {D : Type 0} (content : D → List ℕ) (images : D → List ℕ → Ty
           own = keeps_own journal.own;
         };
     memory = tt;
+    looks = tt;
   }
 
   -- memory is wanting
@@ -92,6 +93,7 @@ module _ {D : Type 0} (content : D → List ℕ) (images : D → List ℕ → Ty
           own = subst (AreOwn crew.seat.view) (sym same) (line_looked (view_of before) crew.seat.view before.own limits_stay journal.own line looks);
         };
     memory = keeps;
+    looks = looks;
   }
 
   -- one that makes no write
@@ -115,6 +117,16 @@ write_stays v w s key most act made r ws x never = absurd x
 
 none_not : (write : Write) → ◌≡◌ {A = Option Write} None (Some write) → ⊥
 none_not write e = cc
+
+-- one that isn't made leaves all as it was
+pub unmade_looks : (v : View) (line : Line) (s : ℕ) (c : CallValue) (write : Write) → line ≡ Call s c → write_of c ≡ Some write → LineLooks v v line
+unmade_looks v line s c write is made = subst (λ (l : Line). LineLooks v v l) (sym is) (at c made)
+  where
+    at : (c : CallValue) → write_of c ≡ Some write → CallLooks v v s c
+    at (call.Insert key row) e = refl
+    at (call.Update key patch) e = refl
+    at (call.Delete key) e = refl
+    at c e = absurd (none_not write e)
 
 pub refused_stays : (v w : View) (s : ℕ) (c : CallValue) (write : Write) (r : Reply) (ws : List Write) → write_of c ≡ Some write → EachCallLeaves v w s c r → ¬ (r ≡ reply.Done) → own_after (Some write) r ws ≡ ws
 refused_stays v w s (call.Insert key row) write r ws made x never = write_stays v w s key 1 _ (Some write) r ws x never

@@ -11,7 +11,7 @@ use Rattle.lst_replay.specs.Again.{writes_in}
 use Rattle.lst_replay.specs.Rests.{HasRoomFor, with_tails}
 use Rattle.lst_rule.specs.declared.view.View.{View}
 use Rattle.lst_rule.specs.Rule.{knows}
-use Rattle.lst_scan.specs.Lines.{KeepsState}
+use Rattle.lst_scan.specs.Lines.{KeepsState, LineLooks}
 use Rattle.lst_session.specs.Crews.{IsCrewOf, AnswersLine}
 use Rattle.lst_redo.specs.Format.{body, record_of}
 use Rattle.lst_redo.specs.Stores.{opened}
@@ -81,3 +81,4 @@ pub record CrewAnswers {D : Type 0} (content : D → List ℕ) (images : D → L
   pub none : IfOk result (λ kept. (commits : List Commit) → commits_after (view_of old) commits line kept ≡ commits)
   pub journal : (commits : List Commit) → IsJournalOf content images commits old → IsJournalOf content images commits new
   pub memory : OnErr result (KeepsState (view_of old) (view_of new))
+  pub looks : OnErr result (LineLooks (view_of old) (view_of new) line)

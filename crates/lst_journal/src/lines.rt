@@ -10,7 +10,7 @@ ghost use Rattle.lst_disk.specs.Disk.{LeavesOnly};
 ghost use Rattle.lst_redo.specs.Format.{IsWrite};
 ghost use Rattle.lst_replies.specs.Runs as runs;
 ghost use Rattle.lst_rule.specs.Rule.{knows};
-ghost use Rattle.lst_scan.specs.Lines.{KeepsState};
+ghost use Rattle.lst_scan.specs.Lines.{KeepsState, LineLooks};
 ghost use Rattle.lst_session.specs.Crews.{IsCrewOf};
 ghost use Rattle.lst_journal.specs.Journals.{view_of, IsJournalOf, IsOpenJournal};
 ghost use Rattle.lst_journal.specs.Owns.{MakesNone};
@@ -28,7 +28,8 @@ use std::alloc::Global;
 
 impl<D: Disk> Redo<D> {
     /// Answers a line. A commit with writes is written to the disk and synced before the crew makes it; every other line is answered by the crew
-    /// alone, with the machine's reply, and makes no call of the disk. All memory is taken before anything changes.
+    /// alone, with the machine's reply, and makes no call of the disk. All memory is taken before anything changes: where it is wanting, the crew tells the same
+    /// state. A list and a find in an indexed column have then only looked, other lines have left all as it was, and a sum or a count never wants any.
     ///
     /// From the call's begin until the next call a crash leaves an image that stands for the commits of the journal, and where the line commits
     /// writes for these or for these and its commit. Once that is answered `Committed`, the journal stands for it too.
@@ -52,6 +53,7 @@ impl<D: Disk> Redo<D> {
         ensures room { (commits : List CommitValue) → IsJournalOf D.content D.images commits self.old → CommitsWrites (view_of self.old) line.now → HasRoomAfter (view_of self.old) commits line.now }
         ensures size { IfOk result (λ kept. ¬ (kept ≡ Kept.DiskFault) → length (D.content self.new.log.disk) ≡ length (D.content self.old.log.disk)) }
         ensures memory { OnErr result (KeepsState (view_of self.old) (view_of self.new)) }
+        ensures looks { OnErr result (LineLooks (view_of self.old) (view_of self.new) line.now) }
         ensures memory_journal { OnErr result ((commits : List CommitValue) → IsJournalOf D.content D.images commits self.old → IsJournalOf D.content D.images commits self.new) }
         ensures failed { (self.new.failed ≡ true) ↔ (result ≡ Ok Kept.DiskFault) }
         ensures fault { result ≡ Ok Kept.DiskFault → Rose (D.faults self.old.log.disk) (D.faults self.new.log.disk) }
@@ -107,6 +109,7 @@ impl<D: Disk> Redo<D> {
         ensures room { (commits : List CommitValue) → IsJournalOf D.content D.images commits self.old → CommitsWrites (view_of self.old) line.now → HasRoomAfter (view_of self.old) commits line.now }
         ensures size { IfOk result (λ kept. ¬ (kept ≡ Kept.DiskFault) → length (D.content self.new.log.disk) ≡ length (D.content self.old.log.disk)) }
         ensures memory { OnErr result (KeepsState (view_of self.old) (view_of self.new)) }
+        ensures looks { OnErr result (LineLooks (view_of self.old) (view_of self.new) line.now) }
         ensures memory_journal { OnErr result ((commits : List CommitValue) → IsJournalOf D.content D.images commits self.old → IsJournalOf D.content D.images commits self.new) }
         ensures failed { (self.new.failed ≡ true) ↔ (result ≡ Ok Kept.DiskFault) }
         ensures fault { result ≡ Ok Kept.DiskFault → Rose (D.faults self.old.log.disk) (D.faults self.new.log.disk) }

@@ -5,7 +5,7 @@ ghost use Rattle.lst_model.specs.declared.commits.Commit.{Commit as CommitValue}
 ghost use Rattle.lst_model.specs.Faults.{Rose};
 ghost use Rattle.lst_disk.specs.Disk.{LeavesOnly};
 ghost use Rattle.lst_redo.specs.Journals.{StandsFor, IsDamagedAt};
-ghost use Rattle.lst_redo.specs.Stores.{LastsSince};
+ghost use Rattle.lst_redo.specs.Stores.{LastsSince, MakesNoCall, MakesOneSync};
 ghost use Rattle.lst_replay.specs.Rests.{HasRoomFor};
 ghost use Rattle.lst_replay.specs.Runs.{HasWrites, IsFullAt};
 ghost use Rattle.lst_recovery.specs.Recoveries.{HasRunAgain};
@@ -46,7 +46,9 @@ pub struct OpenRefusal<D: Disk> {
 /// session, with the same writes at the same time. Until the sync has succeeded a crash leaves what it could have left before, and from then on the
 /// content alone. `Damaged` comes exactly where the content isn't in the format, and is asked before `Full`, which comes exactly where a commit meets a
 /// limit of the layout: a session's number, the number of a session's transactions, a full table or a full range. `Disk` comes only where the disk's count
-/// of faults rose. A refusal hands the disk back.
+/// of faults rose. Memory is wanting before the sync, and then the disk has made no call, or behind it. A refusal hands the disk back.
+///
+/// The crew tells the machine's state behind the lines that run the commits again: that of an opening, where there are none.
 pub fn open_redo<D: Disk>(
     alloc: Global,
     layout: &Layout,
@@ -59,6 +61,7 @@ pub fn open_redo<D: Disk>(
     ensures before_err { IfErr result (λ e. LeavesOnly D.clock D.images_since disk e.disk (D.images disk)) }
     ensures after { IfOk result (λ redo. LastsSince D.content D.clock D.images_since disk redo.log.disk) }
     ensures after_err { IfErr result (λ e. (at : ℕ) → (e.cause ≡ OpenCause.Damaged at) ⊎ (e.cause ≡ OpenCause.Full at) → LastsSince D.content D.clock D.images_since disk e.disk) }
+    ensures wanting { IfErr result (λ e. e.cause ≡ OpenCause.OutOfMemory → MakesNoCall D.images D.calls_left D.faults disk e.disk ⊎ MakesOneSync D.content D.clock D.images_since D.calls_left disk e.disk) }
     ensures content { IfErr result (λ e. D.content e.disk ≡ D.content disk) }
     ensures damaged { IfErr result (λ e. (at : ℕ) → e.cause ≡ OpenCause.Damaged at → IsDamagedAt layout.now.limits.columns (D.content disk) at) }
     ensures full { IfErr result (λ e. (time : ℕ) → e.cause ≡ OpenCause.Full time → IsTooFull layout.now.limits (D.content disk) time) }

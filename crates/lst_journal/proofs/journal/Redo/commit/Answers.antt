@@ -9,6 +9,7 @@ use Rattle.lst_redo.specs.Logs.{Keeps}
 use Rattle.lst_redo.specs.Stores.{opened}
 use Rattle.lst_redo.specs.declared.log.Log.{Log}
 use Rattle.lst_redo.specs.declared.log.AppendFault.TheVariants as fault
+use Rattle.lst_scan.specs.Lines.{LineLooks}
 use Rattle.lst_session.specs.declared.kinds.Outcome.{Outcome}
 use Rattle.lst_session.specs.Crews.{Answers}
 use Rattle.lst_session.specs.Replies.{commit_reply}
@@ -16,9 +17,9 @@ use Rattle.lst_snapshots.specs.Replays.{MayFollow}
 use Rattle.lst_journal.specs.declared.journal.Kept.TheVariants.{Reply as Replied, JournalFull, DiskFault}
 use Rattle.lst_journal.specs.Journals.{view_of, IsJournalOf}
 use Rattle.lst_journal.specs.Owns.{commit_of}
-use Rattle.lst_journal.specs.Answers.{commits_after, HasRoomAfter, IsWritten}
-use Rattle.lst_journal.proofs.Answering.{own_put, leaves, size_stays, commits_writes}
-use Rattle.lst_journal.proofs.Committing.{may, commit_is, committed, room_for_more, with_log}
+use Rattle.lst_journal.specs.Answers.{commits_after, IsWritten}
+use Rattle.lst_journal.proofs.Answering.{own_put, size_stays, commits_writes}
+use Rattle.lst_journal.proofs.Committing.{may, commit_is, append_leaves, line_has_room, committed, with_log}
 use Rattle.lst_journal.proofs.journal.Redo.commit.Goals as goal
 
 pub returns-in-Ok-Committed-clause-journal : goal.returns-in-Ok-Committed-clause-journal
@@ -69,67 +70,43 @@ returns-in-OutOfMemory-clause-memory_journal g c = λ commits journal.
 
 pub returns-in-Ok-Committed-clause-any_moment : goal.returns-in-Ok-Committed-clause-any_moment
 returns-in-Ok-Committed-clause-any_moment g c = λ commits journal.
-    let content = g.D.Disk.content in
-    let images = g.D.Disk.images in
-    let before = c.args.self.now in
-    let s : ℕ = c.args.session in
-    let same = commit_is content images before c.consider.ensures s c.requires.session c.requires.is_open c.requires.writes commits journal c.number.result c.begin.result c.take.result c.number.ensures.is c.begin.ensures c.take.ensures.taken in
-    let follows = subst (MayFollow commits) (sym same) (may content images before c.consider.ensures s c.requires.session c.requires.is_open c.requires.writes commits journal c.same_writes_may_be_followed.ensures) in
-    leaves (view_of before) s c.args.line.now c.requires.line c.requires.is_open c.requires.writes g.D.Disk.clock g.D.Disk.images_since before.log.disk c.append.new.self.disk before.log.columns commits
-    (commit s c.number.result c.begin.result c.take.result) same (c.append.ensures.any_moment commits journal.keeps follows)
+    append_leaves g.D.Disk.content g.D.Disk.images c.args.self.now c.consider.ensures c.args.session c.requires.session c.requires.is_open c.requires.writes commits journal c.same_writes_may_be_followed.ensures
+    c.args.line.now c.requires.line c.number.result c.begin.result c.take.result c.number.ensures.is c.begin.ensures c.take.ensures.taken g.D.Disk.clock g.D.Disk.images_since c.args.self.now.log.disk c.append.new.self.disk
+    (c.append.ensures.any_moment commits journal.keeps)
 
 pub returns-in-Ok-Committed-clause-room : goal.returns-in-Ok-Committed-clause-room
 returns-in-Ok-Committed-clause-room g c = λ commits journal commits_writes.
-    subst (λ (l : Line). HasRoomAfter (view_of c.args.self.now) commits l) (sym c.requires.line)
-    (room_for_more g.D.Disk.content g.D.Disk.images c.args.self.now c.consider.ensures c.args.session c.requires.session c.requires.is_open c.requires.writes commits journal)
+    line_has_room g.D.Disk.content g.D.Disk.images c.args.self.now c.consider.ensures c.args.session c.requires.session c.requires.is_open c.requires.writes commits journal c.args.line.now c.requires.line
 
 pub returns-in-JournalFull-clause-any_moment : goal.returns-in-JournalFull-clause-any_moment
 returns-in-JournalFull-clause-any_moment g c = λ commits journal.
-    let content = g.D.Disk.content in
-    let images = g.D.Disk.images in
-    let before = c.args.self.now in
-    let s : ℕ = c.args.session in
-    let same = commit_is content images before c.consider.ensures s c.requires.session c.requires.is_open c.requires.writes commits journal c.number.result c.begin.result c.take.result c.number.ensures.is c.begin.ensures c.take.ensures.taken in
-    let follows = subst (MayFollow commits) (sym same) (may content images before c.consider.ensures s c.requires.session c.requires.is_open c.requires.writes commits journal c.same_writes_may_be_followed.ensures) in
-    leaves (view_of before) s c.args.line.now c.requires.line c.requires.is_open c.requires.writes g.D.Disk.clock g.D.Disk.images_since before.log.disk c.append.new.self.disk before.log.columns commits
-    (commit s c.number.result c.begin.result c.take.result) same (c.append.ensures.any_moment commits journal.keeps follows)
+    append_leaves g.D.Disk.content g.D.Disk.images c.args.self.now c.consider.ensures c.args.session c.requires.session c.requires.is_open c.requires.writes commits journal c.same_writes_may_be_followed.ensures
+    c.args.line.now c.requires.line c.number.result c.begin.result c.take.result c.number.ensures.is c.begin.ensures c.take.ensures.taken g.D.Disk.clock g.D.Disk.images_since c.args.self.now.log.disk c.append.new.self.disk
+    (c.append.ensures.any_moment commits journal.keeps)
 
 pub returns-in-JournalFull-clause-room : goal.returns-in-JournalFull-clause-room
 returns-in-JournalFull-clause-room g c = λ commits journal commits_writes.
-    subst (λ (l : Line). HasRoomAfter (view_of c.args.self.now) commits l) (sym c.requires.line)
-    (room_for_more g.D.Disk.content g.D.Disk.images c.args.self.now c.consider.ensures c.args.session c.requires.session c.requires.is_open c.requires.writes commits journal)
+    line_has_room g.D.Disk.content g.D.Disk.images c.args.self.now c.consider.ensures c.args.session c.requires.session c.requires.is_open c.requires.writes commits journal c.args.line.now c.requires.line
 
 pub returns-in-Disk-clause-any_moment : goal.returns-in-Disk-clause-any_moment
 returns-in-Disk-clause-any_moment g c = λ commits journal.
-    let content = g.D.Disk.content in
-    let images = g.D.Disk.images in
-    let before = c.args.self.now in
-    let s : ℕ = c.args.session in
-    let same = commit_is content images before c.consider.ensures s c.requires.session c.requires.is_open c.requires.writes commits journal c.number.result c.begin.result c.take.result c.number.ensures.is c.begin.ensures c.take.ensures.taken in
-    let follows = subst (MayFollow commits) (sym same) (may content images before c.consider.ensures s c.requires.session c.requires.is_open c.requires.writes commits journal c.same_writes_may_be_followed.ensures) in
-    leaves (view_of before) s c.args.line.now c.requires.line c.requires.is_open c.requires.writes g.D.Disk.clock g.D.Disk.images_since before.log.disk c.append.new.self.disk before.log.columns commits
-    (commit s c.number.result c.begin.result c.take.result) same (c.append.ensures.any_moment commits journal.keeps follows)
+    append_leaves g.D.Disk.content g.D.Disk.images c.args.self.now c.consider.ensures c.args.session c.requires.session c.requires.is_open c.requires.writes commits journal c.same_writes_may_be_followed.ensures
+    c.args.line.now c.requires.line c.number.result c.begin.result c.take.result c.number.ensures.is c.begin.ensures c.take.ensures.taken g.D.Disk.clock g.D.Disk.images_since c.args.self.now.log.disk c.append.new.self.disk
+    (c.append.ensures.any_moment commits journal.keeps)
 
 pub returns-in-Disk-clause-room : goal.returns-in-Disk-clause-room
 returns-in-Disk-clause-room g c = λ commits journal commits_writes.
-    subst (λ (l : Line). HasRoomAfter (view_of c.args.self.now) commits l) (sym c.requires.line)
-    (room_for_more g.D.Disk.content g.D.Disk.images c.args.self.now c.consider.ensures c.args.session c.requires.session c.requires.is_open c.requires.writes commits journal)
+    line_has_room g.D.Disk.content g.D.Disk.images c.args.self.now c.consider.ensures c.args.session c.requires.session c.requires.is_open c.requires.writes commits journal c.args.line.now c.requires.line
 
 pub returns-in-OutOfMemory-clause-any_moment : goal.returns-in-OutOfMemory-clause-any_moment
 returns-in-OutOfMemory-clause-any_moment g c = λ commits journal.
-    let content = g.D.Disk.content in
-    let images = g.D.Disk.images in
-    let before = c.args.self.now in
-    let s : ℕ = c.args.session in
-    let same = commit_is content images before c.consider.ensures s c.requires.session c.requires.is_open c.requires.writes commits journal c.number.result c.begin.result c.take.result c.number.ensures.is c.begin.ensures c.take.ensures.taken in
-    let follows = subst (MayFollow commits) (sym same) (may content images before c.consider.ensures s c.requires.session c.requires.is_open c.requires.writes commits journal c.same_writes_may_be_followed.ensures) in
-    leaves (view_of before) s c.args.line.now c.requires.line c.requires.is_open c.requires.writes g.D.Disk.clock g.D.Disk.images_since before.log.disk c.append.new.self.disk before.log.columns commits
-    (commit s c.number.result c.begin.result c.take.result) same (c.append.ensures.any_moment commits journal.keeps follows)
+    append_leaves g.D.Disk.content g.D.Disk.images c.args.self.now c.consider.ensures c.args.session c.requires.session c.requires.is_open c.requires.writes commits journal c.same_writes_may_be_followed.ensures
+    c.args.line.now c.requires.line c.number.result c.begin.result c.take.result c.number.ensures.is c.begin.ensures c.take.ensures.taken g.D.Disk.clock g.D.Disk.images_since c.args.self.now.log.disk c.append.new.self.disk
+    (c.append.ensures.any_moment commits journal.keeps)
 
 pub returns-in-OutOfMemory-clause-room : goal.returns-in-OutOfMemory-clause-room
 returns-in-OutOfMemory-clause-room g c = λ commits journal commits_writes.
-    subst (λ (l : Line). HasRoomAfter (view_of c.args.self.now) commits l) (sym c.requires.line)
-    (room_for_more g.D.Disk.content g.D.Disk.images c.args.self.now c.consider.ensures c.args.session c.requires.session c.requires.is_open c.requires.writes commits journal)
+    line_has_room g.D.Disk.content g.D.Disk.images c.args.self.now c.consider.ensures c.args.session c.requires.session c.requires.is_open c.requires.writes commits journal c.args.line.now c.requires.line
 
 pub returns-in-Ok-Committed-clause-written : goal.returns-in-Ok-Committed-clause-written
 returns-in-Ok-Committed-clause-written g c =
@@ -164,3 +141,6 @@ returns-in-Disk-clause-still g c = λ none. absurd (none (commits_writes (view_o
 
 pub returns-in-OutOfMemory-clause-still : goal.returns-in-OutOfMemory-clause-still
 returns-in-OutOfMemory-clause-still g c = λ none. absurd (none (commits_writes (view_of c.args.self.now) c.args.session c.args.line.now c.requires.line c.requires.is_open c.requires.writes))
+
+pub returns-in-OutOfMemory-clause-looks : goal.returns-in-OutOfMemory-clause-looks
+returns-in-OutOfMemory-clause-looks g c = subst (λ (l : Line). LineLooks (view_of c.args.self.now) (view_of c.args.self.now) l) (sym c.requires.line) refl

@@ -18,6 +18,7 @@ returns-in-None g c =
       room = λ commits journal commits_writes. absurd (none commits_writes);
       size = size_stays content images before after line none content r x;
       memory = x.memory;
+      looks = x.looks;
       memory_journal = stands_still content images before after line none r x;
       failed = failed_is content images before after line none r x c.requires.sound;
       fault = λ e. absurd (never_faults content images before after line none r x e);
