@@ -31,6 +31,12 @@ spelled-high (suc n) high =
     ap (λ b. cond b (suc n ∷ []) ((suc n % 128 + 128) ∷ spelled_within n (suc n / 128))) (le-ltb (suc n) 128 high)
     ∙ ap (λ rest. (suc n % 128 + 128) ∷ rest) (enough n (suc n / 128) (suc n / 128) (omega arith) (omega arith))
 
+pub spelled-two : (n : ℕ) → 128 ≤ n → n / 128 < 128 → spelled n ≡ (n % 128 + 128) ∷ (n / 128) ∷ []
+spelled-two n high low = spelled-high n high ∙ ap (λ text. (n % 128 + 128) ∷ text) (spelled-low (n / 128) low)
+
+pub spelled-three : (n : ℕ) → 128 ≤ n → 128 ≤ n / 128 → n / 128 < 16384 → spelled n ≡ (n % 128 + 128) ∷ (n / 128 % 128 + 128) ∷ (n / 128 / 128) ∷ []
+spelled-three n high more low = spelled-high n high ∙ ap (λ text. (n % 128 + 128) ∷ text) (spelled-two (n / 128) more (omega (arith, low)))
+
 -- ---- reading
 
 pub number_at-low : (b : ℕ) (bytes : List ℕ) → b < 128 → number_at (b ∷ bytes) ≡ Some (b, bytes)

@@ -1,5 +1,5 @@
 //! Rows and versions written at the end of bytes, each as what differs from the row before it.
-ghost use Rattle.std.specs.Prelude.{◌≡◌, ◌++◌, ◌<◌, ◌≤◌, ◌+◌, ◌-◌, ◌*◌, [], cond, is_none, min, length, OnOk};
+ghost use Rattle.std.specs.Prelude.{◌≡◌, ◌++◌, ◌<◌, ◌≤◌, ◌+◌, ◌-◌, ◌*◌, [], cond, is_none, min, length, OnOk, IfSome, IfNone};
 ghost use Rattle.lst_historic.specs.Blocks.{are_same, tag_of, difference, code_of, differences, cell_text, row_text, chain_text};
 ghost use Rattle.std.specs.Prelude.{drop, None};
 ghost use Rattle.lst_historic.specs.Numbers.{spelled};
@@ -90,16 +90,37 @@ fn tag_of(old: &Cells, new: &Cells) -> u64
     1 + row_bits(old, new)
 }
 
+/// The code of the difference of a cell that differs and is not null, or None where nothing is written of it.
+fn code_between(old: Option<u64>, new: Option<u64>) -> Option<u64>
+    ensures number { CellFits new }
+    ensures some { IfSome result (λ code. cond (are_same old new) [] (cell_text old new) ≡ spelled code) }
+    ensures none { IfNone result (cond (are_same old new) [] (cell_text old new) ≡ []) }
+{
+    match old {
+        None => match new {
+            None => None,
+            Some(number) => Some(code_of(0, number)),
+        },
+        Some(before) => match new {
+            None => None,
+            Some(number) => {
+                if before == number {
+                    None
+                } else {
+                    Some(code_of(before, number))
+                }
+            }
+        },
+    }
+}
+
 /// Writes the difference of a cell that differs and is not null.
 fn push_cell(out: &mut Vec<u8>, old: Option<u64>, new: Option<u64>) -> Result<(), OutOfMemory>
     ensures number { CellFits new }
     ensures text { OnOk result (out.new.items ≡ out.old.items ++ cond (are_same old new) [] (cell_text old new)) }
 {
-    if are_same(old, new) {
-        return Ok(());
-    }
-    match new {
-        Some(number) => push_number(out, code_of(old.unwrap_or(0), number)),
+    match code_between(old, new) {
+        Some(code) => push_number(out, code),
         None => Ok(()),
     }
 }
