@@ -8,3 +8,4 @@ pub mod TableAgain
 pub mod Faultless
 pub mod ScriptAgain
 pub mod Lists
+pub mod Inserted

@@ -1,19 +1,17 @@
 //! A table read from its records.
 ghost use Rattle.std.specs.Prelude.{◌≡◌, ℕ, ◌≤◌, List, [], None, IfOk, IfErr};
-ghost use Rattle.lst_model.specs.declared.lines.Line.{Line as LineOf};
-ghost use Rattle.lst_script.specs.Canonical.{named_text};
-ghost use Rattle.lst_csv.specs.Importing.{import_of, transaction_of};
+ghost use Rattle.lst_csv.specs.Importing.{import_of};
 ghost use Rattle.lst_csv.specs.Records.{records_of};
 ghost use Rattle.lst_csv.specs.Reading.{IsReading, HasHeader, HasRows};
 ghost use Rattle.lst_csv.specs.Tables.{Explains, ExplainsRest, IsTable, table_fault};
 
 use crate::faults::{TableFault, TableRefusal};
 use crate::fields::{is_header, names_behind, read_row};
+use crate::inserting::print_rows;
 use crate::reading::{next, reader_over};
 use csv::{ByteRecord, Reader};
-use lst_model::{Call, Key, Line, OutOfMemory, Row, RowList, Text};
+use lst_model::{OutOfMemory, RowList, Text};
 use lst_names::Names;
-use lst_script::{Named, Script, print2};
 use std::alloc::Global;
 use std::collections::BTreeSet;
 
@@ -42,38 +40,6 @@ pub fn import_text(alloc: Global, bytes: &[u8], columns: u32) -> Result<Text, Ta
         Ok(text) => Ok(text),
         Err(OutOfMemory) => Err(TableRefusal::OutOfMemory),
     }
-}
-
-/// The text of version 2 of the transaction that inserts rows, under these names of their columns.
-fn print_rows(alloc: Global, names: Names, rows: &[(Key, Row)]) -> Result<Text, OutOfMemory>
-    ensures { IfOk result (λ text. text ≡ named_text names (transaction_of rows.now)) }
-{
-    let script = transaction(alloc, rows)?;
-    print2(alloc, &Named { names, script })
-}
-
-/// The lines of the transaction that inserts rows.
-fn transaction(alloc: Global, rows: &[(Key, Row)]) -> Result<Script, OutOfMemory>
-    ensures { IfOk result (λ lines. lines ≡ transaction_of rows.now) }
-{
-    let mut lines = Script::new(alloc);
-    lines.push(of_session(Call::Begin))?;
-    for (key, row) in rows {
-        let insert = Call::Insert {
-            key: *key,
-            row: row.copied(),
-        };
-        lines.push(of_session(insert))?;
-    }
-    lines.push(of_session(Call::Commit))?;
-    Ok(lines)
-}
-
-/// A line of session 0.
-fn of_session(call: Call) -> Line
-    ensures { result ≡ LineOf.Call 0 call }
-{
-    Line::Call { session: 0, call }
 }
 
 /// Reads bytes as a table of this many columns: the record of the word `key` and the names of the columns, and then a record for each row, with

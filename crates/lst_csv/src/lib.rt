@@ -12,6 +12,7 @@ mod faults;
 mod fields;
 mod folding;
 mod importing;
+mod inserting;
 mod laws;
 mod reading;
 #[cfg(test)]
