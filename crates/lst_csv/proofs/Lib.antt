@@ -9,3 +9,4 @@ pub mod Faultless
 pub mod ScriptAgain
 pub mod Lists
 pub mod Inserted
+pub mod Noted

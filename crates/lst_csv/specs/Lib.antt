@@ -1,4 +1,5 @@
 pub mod Records
+pub mod Keys
 pub mod Tables
 pub mod Reading
 pub mod Importing

@@ -8,15 +8,18 @@ ghost use Rattle.lst_csv.specs.Tables.{Explains, ExplainsRest, IsTable, table_fa
 use crate::faults::{TableFault, TableRefusal};
 use crate::fields::{is_header, names_behind, read_row};
 use crate::inserting::print_rows;
+use crate::keys::Keys;
 use crate::reading::{next, reader_over};
 use csv::{ByteRecord, Reader};
 use lst_model::{OutOfMemory, RowList, Text};
 use lst_names::Names;
 use std::alloc::Global;
-use std::collections::BTreeSet;
 
 /// The place of the record that makes too many rows.
 const TOO_FAR: u64 = 16_386;
+
+/// How many keys have a flag each, by which they are found again.
+const FLAGS: usize = 65_536;
 
 /// A table with named columns: its rows in the order of their records.
 #[derive(Drop)]
@@ -103,7 +106,7 @@ fn read_rows(
     ensures bad { IfErr result (λ refusal. (records : List (List (List ℕ))) → IsReading reader.old records → ExplainsRest columns 2 [] records refusal) }
 {
     let mut rows = RowList::new(alloc);
-    let mut keys = BTreeSet::new(alloc);
+    let mut keys = Keys::new(alloc, FLAGS)?;
     for place in 2..TOO_FAR {
         if !next(reader, fields)? {
             return Ok(rows);

@@ -13,6 +13,7 @@ mod fields;
 mod folding;
 mod importing;
 mod inserting;
+mod keys;
 mod laws;
 mod reading;
 #[cfg(test)]
