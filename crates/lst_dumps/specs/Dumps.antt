@@ -21,7 +21,7 @@ store_behind limits script = (state_after limits opening script).store
 abbrev pub last_table : Limits → List Line → Rows
 last_table limits script = table_at (store_behind limits script).history (length (store_behind limits script).history)
 
--- the columns have names, each row is a key and a cell for each of them, and a range has 256 rows at most
+-- the columns have names, each row is a key and a cell for each of them, and there are 256 rows at most for each range
 pub record IsDumped (limits : Limits) (names : List (List ℕ)) (table : Rows) : Type 0 where
   pub named : are_names limits.columns names ≡ true
   pub few : count_of table ≤ 256 * limits.ranges
