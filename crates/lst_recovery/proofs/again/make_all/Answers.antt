@@ -47,5 +47,5 @@ loop-write-preserved c =
       subst (IsMaking w (store_told c.args.crew.now.seat.view) commit) (taken_more ws i x low is)
           (made_more c.commits_run_again.ensures.writes v w (store_told c.args.crew.now.seat.view) commit c.args.crew.now.seat.view.limits.columns (take i ws) x (drop (suc i) ws) making c.requires.writes (write_at ws i x low is) told.0 answers),
       write_told c.args.crew.now.seat.view v w commit.session (take i ws) x (write_reply c.make.result) c.loop-write.invariant.1 c.loop-write.invariant.3 told.1
-      ∙ ap (λ (front : List Write). state_after c.args.crew.now.seat.view.limits (state_told c.args.crew.now.seat.view) (lines_of_writes commit.session front)) (taken_more ws i x low is),
+          ∙ ap (λ (front : List Write). state_after c.args.crew.now.seat.view.limits (state_told c.args.crew.now.seat.view) (lines_of_writes commit.session front)) (taken_more ws i x low is),
     )
