@@ -14,6 +14,7 @@ use Rattle.lst_model.specs.declared.lines.Call.TheVariants as call
 use Rattle.lst_line_list.specs.declared.kinds.Kind.{Kind}
 use Rattle.lst_line_list.specs.declared.kinds.Kind.TheVariants.{Insert, Update}
 use Rattle.lst_line_list.specs.declared.kinds.Kept.{Kept}
+use Rattle.lst_line_list.proofs.Packing.{row_made, row_numbers}
 use Rattle.lst_line_list.specs.Kinds.{width, told, AreOf, own, line_of, IsKept, Keeps, KeepsCall}
 
 -- ---- behind others
@@ -108,3 +109,32 @@ update_kept session key patch cells set nulls numbers between longer wide few se
   tells = (λ j. line.Call session (call.Update key (patched (sets j) 0 (cells_of (null j) 0 (map changed_number patch)))))
       ∙ ap (λ (p : List (Option Cell)). line.Call session (call.Update key p)) (patch_is_patched patch);
 }
+
+-- ---- a call with a key and a number for each column
+
+pub columns_kept : (session start key : ℕ) (kind : Kind) (columns numbers between first longer : List ℕ) → start ≡ length numbers → between ≡ numbers → first ≡ between ++ key ∷ [] → longer ≡ first ++ columns
+    → width kind ≡ suc (length columns) → AreOf kind (key ∷ columns) → Keeps (record { start = start; session = session; kind = kind }) (told session kind (key ∷ columns)) numbers longer
+columns_kept session start key kind columns numbers between first longer begins same one rest wide are = record {
+  added = key ∷ columns;
+  adds = rest ∙ (ap (λ (ns : List ℕ). ns ++ columns) (one ∙ ap (λ (ns : List ℕ). ns ++ key ∷ []) same) ∙ append_assoc numbers (key ∷ []) columns);
+  begins = begins;
+  wide = sym wide;
+  are = are;
+  tells = refl;
+}
+
+pub update_told : (session key cells set nulls : ℕ) (columns : List ℕ) (patch : List (Option Cell)) → set ≡ bits_set patch → nulls ≡ bits_to_null patch → columns ≡ map changed_number patch
+    → told session (Update cells set nulls) (key ∷ columns) ≡ line.Call session (call.Update key patch)
+update_told session key cells set nulls columns patch sets null are =
+    (λ j. line.Call session (call.Update key (patched (sets j) 0 (cells_of (null j) 0 (are j)))))
+    ∙ ap (λ (p : List (Option Cell)). line.Call session (call.Update key p)) (patch_is_patched patch)
+
+module _ (nulls : ℕ) (columns : List ℕ) (patch : List (Option Cell)) (null : nulls ≡ null_bits (row_made patch)) (are : columns ≡ map changed_number patch) where
+  pub insert_told : (session key cells : ℕ) → told session (Insert cells nulls) (key ∷ columns) ≡ line.Call session (call.Insert key (row_made patch))
+  insert_told session key cells =
+      (λ j. line.Call session (call.Insert key (cells_of (null j) 0 ((are ∙ sym (row_numbers patch)) j))))
+      ∙ ap (λ (r : List Cell). line.Call session (call.Insert key r)) (row_is_own (row_made patch))
+
+  pub insert_nulls : AreNull 0 nulls columns
+  insert_nulls = subst (λ (ns : List ℕ). AreNull 0 nulls ns) (sym (are ∙ sym (row_numbers patch)))
+      (subst (λ (n : ℕ). AreNull 0 n (map number_of (row_made patch))) (sym null) (null_bits_are_null (row_made patch)))

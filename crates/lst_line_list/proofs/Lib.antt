@@ -1,3 +1,4 @@
 pub mod Behind
+pub mod Packing
 pub mod Slicing
 pub mod Values

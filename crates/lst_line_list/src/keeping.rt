@@ -1,10 +1,10 @@
 //! How a line is kept.
-ghost use Rattle.std.specs.Prelude.{◌≡◌, ◌+◌, ◌≤◌, [], ◌∷◌, ◌++◌, map, length, unwrap_or, vec_len, vec_capacity, IfOk, OnErr};
+ghost use Rattle.std.specs.Prelude.{◌≡◌, suc, ◌+◌, ◌≤◌, [], ◌∷◌, ◌++◌, map, length, unwrap_or, vec_len, vec_capacity, IfOk, OnErr};
 ghost use Rattle.std.specs.List.{flat_map};
 ghost use Rattle.lst_model.specs.Cells.{bits_set, changed_number};
 ghost use Rattle.lst_model.specs.declared.lines.Line.TheVariants as line;
 ghost use Rattle.lst_model.specs.declared.lines.Call.TheVariants as call;
-ghost use Rattle.lst_line_list.specs.Kinds.{Keeps, KeepsCall};
+ghost use Rattle.lst_line_list.specs.Kinds.{width, told, AreOf, Keeps, KeepsCall};
 
 use crate::kinds::{Kept, Kind};
 use lst_model::{Call, Key, Line, OutOfMemory, Patch, Row};
@@ -30,6 +30,46 @@ pub(crate) fn keep(line: Line, numbers: &mut Vec<u64>) -> Result<Kept, OutOfMemo
         session,
         kind,
     })
+}
+
+/// Keeps a call of a session that has a key and a number for each column. As `keep`, it leaves the numbers as they are where it can't.
+#[tactic(auto, using(crate::proofs::Behind::columns_kept))]
+#[inline(always)]
+pub(crate) fn keep_columns(
+    session: u32,
+    kind: Kind,
+    key: Key,
+    columns: &[u64],
+    numbers: &mut Vec<u64>,
+) -> Result<Kept, OutOfMemory>
+    requires wide { width kind ≡ suc (length columns.now) }
+    requires few { length columns.now ≤ 8 }
+    requires are { AreOf kind (key ∷ columns.now) }
+    ensures ok { IfOk result (λ kept. Keeps kept (told session kind (key ∷ columns.now)) numbers.old.items numbers.new.items) }
+    ensures err { OnErr result (numbers.new.items ≡ numbers.old.items) }
+{
+    let Ok(start) = u32::try_from(numbers.len()) else {
+        return Err(OutOfMemory);
+    };
+    numbers.reserve(MOST_NUMBERS)?;
+    numbers.push_reserved(key);
+    push_columns(columns, numbers);
+    Ok(Kept {
+        start,
+        session,
+        kind,
+    })
+}
+
+/// Puts these numbers behind the others.
+#[inline(always)]
+fn push_columns(columns: &[u64], numbers: &mut Vec<u64>)
+    requires { vec_len numbers.old + length columns.now ≤ vec_capacity numbers.old }
+    ensures { numbers.new.items ≡ numbers.old.items ++ columns.now }
+{
+    for column in columns {
+        numbers.push_reserved(*column);
+    }
 }
 
 /// The session and the kind of a line, whose numbers are put behind these.

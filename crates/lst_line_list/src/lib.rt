@@ -8,9 +8,11 @@
 mod keeping;
 mod kinds;
 mod list;
+mod packed;
 mod parts;
 #[cfg(test)]
 mod tests;
 
 pub use list::LineList;
+pub use packed::PackedPatch;
 pub use parts::LineSlice;

@@ -1,10 +1,14 @@
 //! A list of lines.
-ghost use Rattle.std.specs.Prelude.{◌≡◌, ◌==◌, ◌<◌, ◌≤◌, [], ◌∷◌, ◌++◌, Some, length, slice_get, IfOk, OnOk, OnErr};
+ghost use Rattle.std.specs.Prelude.{◌≡◌, ◌==◌, ◌<◌, ◌≤◌, suc, [], ◌∷◌, ◌++◌, Some, None, length, map, unwrap_or, slice_get, IfOk, OnOk, OnErr};
+ghost use Rattle.lst_model.specs.declared.lines.Line.TheVariants as line;
+ghost use Rattle.lst_model.specs.declared.lines.Call.TheVariants as call;
+ghost use Rattle.lst_line_list.specs.Kinds.{width, told, AreOf};
 
-use crate::keeping::keep;
-use crate::kinds::{Kept, line_of};
+use crate::keeping::{keep, keep_columns};
+use crate::kinds::{Kept, Kind, line_of};
+use crate::packed::PackedPatch;
 use crate::parts::LineSlice;
-use lst_model::{Line, OutOfMemory};
+use lst_model::{Key, Line, OutOfMemory};
 use std::alloc::Global;
 use std::marker::Model;
 
@@ -72,6 +76,68 @@ impl LineList {
     {
         self.kept.reserve(1)?;
         let one = keep(line, &mut self.numbers)?;
+        self.kept.push_reserved(one);
+        Ok(())
+    }
+
+    /// Adds an insert of a key by a session at the end, of the row of these columns: one that isn't set is null. The error is that of `push`.
+    #[inline(always)]
+    pub fn push_insert(
+        &mut self,
+        session: u32,
+        key: Key,
+        row: &PackedPatch,
+    ) -> Result<(), OutOfMemory>
+        ensures ok { OnOk result (self.new ≡ self.old ++ line.Call session (call.Insert key (map (λ change. unwrap_or change None) row.now)) ∷ []) }
+        ensures err { OnErr result (self.new ≡ self.old) }
+    {
+        let columns = row.numbers();
+        let kind = Kind::Insert {
+            cells: columns.len() as u8,
+            nulls: row.row_null_bits(),
+        };
+        self.push_columns(session, kind, key, columns)?;
+        Ok(())
+    }
+
+    /// Adds an update of a key by a session at the end. The error is that of `push`.
+    #[inline(always)]
+    pub fn push_update(
+        &mut self,
+        session: u32,
+        key: Key,
+        patch: &PackedPatch,
+    ) -> Result<(), OutOfMemory>
+        ensures ok { OnOk result (self.new ≡ self.old ++ line.Call session (call.Update key patch.now) ∷ []) }
+        ensures err { OnErr result (self.new ≡ self.old) }
+    {
+        let columns = patch.numbers();
+        let kind = Kind::Update {
+            cells: columns.len() as u8,
+            set: patch.set_bits(),
+            nulls: patch.null_bits(),
+        };
+        self.push_columns(session, kind, key, columns)?;
+        Ok(())
+    }
+
+    /// Adds the line of a session and a kind whose numbers are a key and these.
+    #[inline(always)]
+    fn push_columns(
+        &mut self,
+        session: u32,
+        kind: Kind,
+        key: Key,
+        columns: &[u64],
+    ) -> Result<(), OutOfMemory>
+        requires wide { width kind ≡ suc (length columns.now) }
+        requires few { length columns.now ≤ 8 }
+        requires are { AreOf kind (key ∷ columns.now) }
+        ensures ok { OnOk result (self.new ≡ self.old ++ told session kind (key ∷ columns.now) ∷ []) }
+        ensures err { OnErr result (self.new ≡ self.old) }
+    {
+        self.kept.reserve(1)?;
+        let one = keep_columns(session, kind, key, columns, &mut self.numbers)?;
         self.kept.push_reserved(one);
         Ok(())
     }

@@ -1,6 +1,6 @@
 //! What is put into a list comes out of it, and a part of the list has the lines of its places.
 
-use crate::LineList;
+use crate::{LineList, PackedPatch};
 use arrayvec::ArrayVec;
 use lst_model::{Call, Line, Patch, Row};
 use std::test::Fail;
@@ -90,6 +90,39 @@ fn each_kind_of_line_comes_back_at_its_place(rt: HostRuntime) -> Result<(), Fail
                 assert_eq!(rt; list.line(place), line(number));
             }
         }
+    }
+    Ok(())
+}
+
+/// With `rt try --test --fail-alloc N` memory is refused the Nth time; a line that isn't put in then leaves the others at their places.
+#[test]
+fn what_a_packed_patch_sets_comes_back(rt: HostRuntime) -> Result<(), Fail> {
+    let mut set = PackedPatch::new();
+    set.push(None);
+    set.push(Some(None));
+    set.push(None);
+    set.set(2, Some(u64::MAX));
+    assert!(rt; set.sets_some());
+    assert!(rt; !set.is_set(0));
+    let mut list = LineList::new(rt.alloc());
+    let update = list.push_update(3, 6, &set).is_ok();
+    let insert = list.push_insert(3, 7, &set).is_ok();
+    let mut place = 0;
+    if update && place < list.len() {
+        let call = Call::Update {
+            key: 6,
+            patch: patch(3),
+        };
+        assert_eq!(rt; list.line(place), Line::Call { session: 3, call });
+        place += 1;
+    }
+    if insert && place < list.len() {
+        let mut row = Row::of_numbers(ArrayVec::new());
+        row.push(None);
+        row.push(None);
+        row.push(Some(u64::MAX));
+        let call = Call::Insert { key: 7, row };
+        assert_eq!(rt; list.line(place), Line::Call { session: 3, call });
     }
     Ok(())
 }

@@ -1,18 +1,18 @@
 -- Words that a text begins with, one after the other.
-use Rattle.std.proofs.Common.{◌≡◌, ℕ, ◌+◌, ◌-◌, ◌^◌, ◌<◌, ◌≤◌, Bool, true, false, ◌&&◌, leb, List, [], ◌∷◌, ◌++◌, length, take, drop, map, Option, Some, None, option_map, is_some, Bor, Result, Ok, Err, bytes_eq, refl, sym, ap, ◌∙◌, append_assoc, arith}
-use Rattle.std.specs.Prelude.{MatchOption, IfSome, IfOk}
+use Rattle.std.proofs.Common.{◌≡◌, ℕ, ◌+◌, ◌-◌, ◌^◌, ◌<◌, ◌≤◌, Bool, true, false, ◌&&◌, leb, List, [], ◌∷◌, ◌++◌, length, take, drop, map, Option, Some, None, option_map, is_some, Bor, Result, Ok, Err, bytes_eq, refl, sym, subst, ap, ◌∙◌, append_assoc, arith}
+use Rattle.std.specs.Prelude.{unwrap_or, IfOk}
 use Rattle.std.specs.List.{list_all, list_any}
 use Rattle.std.specs.Char.{is_ascii_digit}
 use Rattle.std.specs.Str.Parse.{digits_value}
 use Rattle.std.proofs.lemmas.Bool.{and_from, and_parts, le-leb, leb-true, lt-ltb, ne_eqb}
 use Rattle.std.proofs.lemmas.List.{append-nil, length-take-le, take-append-drop, take_rest, length_push, map-append}
-use Rattle.std.proofs.lemmas.Slice.Eq.{bytes_eq-Decides}
 use Rattle.std.proofs.lemmas.Str.Parse.{IsDigitsTest, numerals_by_value, digits_value_short}
 use Rattle.lst_layout.specs.declared.limits.Limits.{Limits}
 use Rattle.lst_model.specs.Cells.{Cell}
 use Rattle.lst_model.specs.declared.lines.Line.TheVariants as lines
 use Rattle.lst_script.specs.Numbers.{number_of, keeps_column, cell_of, change_of}
 use Rattle.lst_script.specs.Columns.{Columns, numbered, column_read}
+use Rattle.lst_script.specs.Pairs.{filled}
 use Rattle.lst_script.specs.Table.{session_forms, form_named}
 use Rattle.lst_model.specs.declared.lines.Call.{Call}
 use Rattle.lst_model.specs.declared.lines.Call.TheVariants.{Insert, Update, Sum, Find}
@@ -150,6 +150,28 @@ changes_ended count text rest after patch so_far ended sets = record {
   parts = so_far.parts ∙ ap (λ (bytes : List ℕ). behind_spaces so_far.words ++ bytes) ended;
 }
 
+-- ---- the same of cells and changes that are collected as a patch
+
+pub no_cells : (text : List ℕ) (row : List (Option Cell)) → row ≡ [] → HasCells 0 text text (filled row) × (length row ≡ 0)
+no_cells text row none = (subst (λ (r : List (Option Cell)). HasCells 0 text text (filled r)) (sym none) (read_none cell_of text), ap length none)
+
+pub cell_set : (count : ℕ) (text rest after : List ℕ) (row more : List (Option Cell)) (number : ℕ) → HasCells count text rest (filled row) × (length row ≡ count) → GoesOnWithNumber rest number after → more ≡ row ++ Some (Some number) ∷ []
+    → HasCells (count + 1) text after (filled more) × (length more ≡ count + 1)
+cell_set count text rest after row more number so_far next is =
+    let cells : filled more ≡ filled row ++ Some number ∷ [] = ap filled is ∙ map-append (λ change. unwrap_or change None) row (Some (Some number) ∷ []) in (
+      subst (λ (cs : List Cell). HasCells (count + 1) text after cs) (sym cells) (cell_more count text rest after (filled row) number so_far.0 next),
+      ap length is ∙ (length_push row (Some (Some number)) ∙ ap (λ n. n + 1) so_far.1),
+    )
+
+pub all_cells : (count read : ℕ) (text rest after : List ℕ) (row : List (Option Cell)) → HasCells read text rest (filled row) → read ≡ count → rest ≡ 10 ∷ after → GoesOnWithCells (numbered count) text (filled row) after
+all_cells count read text rest after row so_far all ended = cells_ended count text rest after (filled row) (subst (λ n. HasCells n text rest (filled row)) all so_far) ended
+
+pub no_changes : (text : List ℕ) (patch : List (Option Cell)) → patch ≡ [] → HasChanges 0 text text patch
+no_changes text patch none = subst (λ (p : List (Option Cell)). HasChanges 0 text text p) (sym none) (read_none change_of text)
+
+pub all_changes : (count read : ℕ) (text rest after : List ℕ) (patch : List (Option Cell)) → HasChanges read text rest patch → read ≡ count → rest ≡ 10 ∷ after → list_any is_some patch ≡ true → GoesOnWithChanges (numbered count) text patch after
+all_changes count read text rest after patch so_far all ended sets = changes_ended count text rest after patch (subst (λ n. HasChanges n text rest patch) all so_far) ended sets
+
 -- ---- the line
 
 pub line_begins : (limits : Limits) (columns : Columns) (text word call_text rest : List ℕ) (session : ℕ) (call : Call) → number_of word ≡ Some session → session < limits.sessions → text ≡ word ++ 32 ∷ call_text → BeginsWith (λ words. IsCall columns words call) call_text rest
@@ -168,12 +190,6 @@ line_begins limits columns text word call_text rest session call is within parts
     joined (name ∷ words) are = sym (append_assoc word (behind_spaces (name ∷ words)) (10 ∷ rest))
 
 -- ---- words and arguments put together
-
-pub stripped : (text word : List ℕ) (r : Option (Bor (List ℕ))) → MatchOption r (bytes_eq (take (length word) text) word ≡ false) (λ x. (bytes_eq (take (length word) text) word ≡ true) × (x.now ≡ drop (length word) text) × (length x.now + length word ≡ length text)) → IfSome r (λ rest. text ≡ word ++ rest.now)
-stripped text word None h = tt
-stripped text word (Some rest) h =
-    sym (take-append-drop (length word) text)
-    ∙ (ap (λ (front : List ℕ). front ++ drop (length word) text) ((bytes_eq-Decides (take (length word) text) word).0 h.0) ∙ ap (λ (bytes : List ℕ). word ++ bytes) (sym h.1))
 
 pub one_behind_name : (text name after rest arguments : List ℕ) (number : ℕ) → text ≡ name ++ arguments → GoesOnWithNumber arguments number after → after ≡ 10 ∷ rest → (behind : List ℕ) × (text ≡ name ++ behind) × GoesOnWithOne behind number rest
 one_behind_name text name after rest arguments number parts first ended = (arguments, parts, number_alone arguments after rest number first ended)

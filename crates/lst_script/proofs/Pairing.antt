@@ -1,7 +1,7 @@
 -- Pairs one after the other: what they set, and their checks.
 use Rattle.std.proofs.Common.{◌≡◌, ℕ, zero, suc, ◌+◌, ◌<◌, ◌≤◌, Bool, true, false, not, ◌&&◌, cond, nat_le, List, [], ◌∷◌, ◌++◌, length, map, take, drop, replicate, is_none, Option, Some, None, unwrap_or, position, refl, sym, ap, subst, ◌∙◌, append_assoc, add-one, drop-cons, get_or, Bor, arith}
 use Rattle.std.proofs.lemmas.Bool.{and_parts, and_from, le-leb}
-use Rattle.std.proofs.lemmas.List.{length-replicate, length-set, append-nil, drop_all, take_all}
+use Rattle.std.proofs.lemmas.List.{length-replicate, length-set}
 use Rattle.std.proofs.lemmas.Option.{none-some, cond_some}
 use Rattle.lst_model.specs.Cells.{Cell}
 use Rattle.lst_script.specs.declared.faults.FaultKind.{FaultKind}
@@ -190,10 +190,6 @@ module _ (names : List (List ℕ)) (before : List (Option Cell)) (word : List �
 
   pub is_pair : (end column : ℕ) (cell : Cell) → position is_equals word ≡ Some end → column_named names (take end word) ≡ Some column → cell_of_value (drop (end + 1) word) ≡ Some cell → pair_of names word ≡ Some (column, cell)
   is_pair end column cell e is value = rw (e, (split_at word end e).0, (split_at word end e).1, is, value) refl
-
--- what is written over all the places is there
-pub refilled : {X : Type 0} (xs ys : List X) → length ys ≡ length xs → take (length xs) (ys ++ drop (length ys) xs) ≡ ys
-refilled xs ys e = ap (λ rest. take (length xs) (ys ++ rest)) (drop_all (length ys) xs (omega arith)) ∙ (ap (take (length xs)) (append-nil ys) ∙ take_all (length xs) ys (omega arith))
 
 -- ---- the pair at a place
 

@@ -1,18 +1,19 @@
 //! Lines of sessions in their plainest form, read as their bytes are met: one space between each two words, and a newline at once behind
 //! the last. A line in any other form, or with a fault, is left to the reader of words.
 ghost use Rattle.std.specs.Prelude.{◌≡◌, ◌≤◌, ◌<◌, [], ◌∷◌, ◌++◌, ℕ, List, Some, IfOk, IfSome, length};
+ghost use Rattle.lst_model.specs.declared.lines.Call.TheVariants as calls;
 ghost use Rattle.lst_script.specs.Columns.{Columns, numbered, count_of, AreProper};
 ghost use Rattle.lst_script.specs.Heads.{columns_of};
+ghost use Rattle.lst_script.specs.Pairs.{filled};
 ghost use Rattle.lst_script.specs.Table.{session_forms, form_named};
 ghost use Rattle.lst_script.specs.Grammar.{IsNumber, form_of_call, AreArguments};
 ghost use Rattle.lst_script.specs.Fronts.{BeginsWithNumber, GoesOnWithNumber, GoesOnWithOne, changed, GoesOnWithChange, GoesOnWithCells, GoesOnWithChanges, BeginsWithColumn, BeginsWithCall, AddsCall, AddsLine};
 
 use crate::columns::Heads;
 use crate::pair_fronts::{named_cells_in_front, named_changes_in_front, named_column_in_front};
-use arrayvec::ArrayVec;
 use lst_layout::Limits;
-use lst_line_list::LineList;
-use lst_model::{Call, Line, OutOfMemory, Patch, Row};
+use lst_line_list::{LineList, PackedPatch};
+use lst_model::{Call, Line, OutOfMemory};
 
 /// The most digits of a number that is read here: each such number fits 64 bits.
 const FEW_DIGITS: usize = 19;
@@ -54,12 +55,16 @@ pub fn number_behind_space(text: &[u8]) -> Option<(u64, &[u8])>
     number_in_front(behind_byte(text, b' ')?)
 }
 
-/// What follows a word that a text begins with.
+/// What follows a word that a text begins with. Where the word is a constant, the compiler makes a comparison of each of its bytes.
 #[inline(always)]
 pub fn behind_word<'a>(text: &'a [u8], word: &[u8]) -> Option<&'a [u8]>
     ensures { IfSome result (λ rest. text.now ≡ word.now ++ rest.now) }
 {
-    text.strip_prefix(word)
+    let mut rest = text;
+    for byte in word {
+        rest = behind_byte(rest, *byte)?;
+    }
+    Some(rest)
 }
 
 /// A number as one below this limit.
@@ -109,20 +114,21 @@ fn column_in_front<'a>(text: &'a [u8], heads: Heads<'_>, end: u8) -> Option<(u32
     }
 }
 
-/// The cells of a row of so many columns.
+/// Puts the cells of a row of so many columns into one of none.
 #[inline(always)]
-fn cells_in_front(text: &[u8], count: u32) -> Option<(Row, &[u8])>
-    requires { count ≤ 8 }
-    ensures { IfSome result (λ found. GoesOnWithCells (numbered count) text.now found.0 found.1.now) }
+fn cells_in_front<'a>(text: &'a [u8], count: u32, row: &mut PackedPatch) -> Option<&'a [u8]>
+    requires few { count ≤ 8 }
+    requires none { row.old ≡ [] }
+    ensures { IfSome result (λ rest. GoesOnWithCells (numbered count) text.now (filled row.new) rest.now) }
 {
-    let mut row = Row::of_numbers(ArrayVec::new());
     let mut rest = text;
     for _column in 0..count {
         let (number, after) = number_behind_space(rest)?;
-        row.push(Some(number));
+        row.push(Some(Some(number)));
         rest = after;
     }
-    Some((row, behind_byte(rest, b'\n')?))
+    let behind = behind_byte(rest, b'\n')?;
+    Some(behind)
 }
 
 /// What becomes of a column, behind a space: None where it stays as it is.
@@ -149,50 +155,52 @@ fn as_set(change: Option<u64>) -> Option<Option<u64>>
     }
 }
 
-/// The changes of a patch of so many columns, which sets one of them.
+/// Puts the changes of a patch of so many columns, which sets one of them, into one of none.
 #[inline(always)]
-fn changes_in_front(text: &[u8], count: u32) -> Option<(Patch, &[u8])>
-    requires { count ≤ 8 }
-    ensures { IfSome result (λ found. GoesOnWithChanges (numbered count) text.now found.0 found.1.now) }
+fn changes_in_front<'a>(text: &'a [u8], count: u32, patch: &mut PackedPatch) -> Option<&'a [u8]>
+    requires few { count ≤ 8 }
+    requires none { patch.old ≡ [] }
+    ensures { IfSome result (λ rest. GoesOnWithChanges (numbered count) text.now patch.new rest.now) }
 {
-    let mut patch = Patch::of_numbers(ArrayVec::new());
     let mut rest = text;
     for _column in 0..count {
         let (change, after) = change_behind_space(rest)?;
         patch.push(as_set(change));
         rest = after;
     }
-    let rest = behind_byte(rest, b'\n')?;
+    let behind = behind_byte(rest, b'\n')?;
     if patch.sets_some() {
-        Some((patch, rest))
+        Some(behind)
     } else {
         None
     }
 }
 
-/// The cells of a row.
+/// Puts the cells of a row into one of no column.
 #[inline(always)]
-fn row_in_front<'a>(text: &'a [u8], heads: Heads<'_>) -> Option<(Row, &'a [u8])>
+fn row_in_front<'a>(text: &'a [u8], heads: Heads<'_>, row: &mut PackedPatch) -> Option<&'a [u8]>
     requires narrow { count_of (columns_of heads) ≤ 8 }
     requires proper { AreProper (columns_of heads) }
-    ensures { IfSome result (λ found. GoesOnWithCells (columns_of heads.entry) text.now found.0 found.1.now) }
+    requires none { row.old ≡ [] }
+    ensures { IfSome result (λ rest. GoesOnWithCells (columns_of heads.entry) text.now (filled row.new) rest.now) }
 {
     match heads {
-        Heads::Numbered(count) => cells_in_front(text, count),
-        Heads::Named(names) => named_cells_in_front(text, names),
+        Heads::Numbered(count) => cells_in_front(text, count, row),
+        Heads::Named(names) => named_cells_in_front(text, names, row),
     }
 }
 
-/// The changes of a patch, which sets a column.
+/// Puts the changes of a patch, which sets a column, into one of no column.
 #[inline(always)]
-fn patch_in_front<'a>(text: &'a [u8], heads: Heads<'_>) -> Option<(Patch, &'a [u8])>
+fn patch_in_front<'a>(text: &'a [u8], heads: Heads<'_>, patch: &mut PackedPatch) -> Option<&'a [u8]>
     requires narrow { count_of (columns_of heads) ≤ 8 }
     requires proper { AreProper (columns_of heads) }
-    ensures { IfSome result (λ found. GoesOnWithChanges (columns_of heads.entry) text.now found.0 found.1.now) }
+    requires none { patch.old ≡ [] }
+    ensures { IfSome result (λ rest. GoesOnWithChanges (columns_of heads.entry) text.now patch.new rest.now) }
 {
     match heads {
-        Heads::Numbered(count) => changes_in_front(text, count),
-        Heads::Named(names) => named_changes_in_front(text, names),
+        Heads::Numbered(count) => changes_in_front(text, count, patch),
+        Heads::Named(names) => named_changes_in_front(text, names, patch),
     }
 }
 
@@ -261,30 +269,80 @@ fn find_in_front<'a>(text: &'a [u8], heads: Heads<'_>) -> Option<(Call, &'a [u8]
     Some((Call::Find { column, value }, rest))
 }
 
-/// An `insert`.
+/// The key of an `insert`, whose columns are put into a row of none.
 #[inline(always)]
-fn insert_in_front<'a>(text: &'a [u8], heads: Heads<'_>) -> Option<(Call, &'a [u8])>
+fn insert_in_front<'a>(
+    text: &'a [u8],
+    heads: Heads<'_>,
+    row: &mut PackedPatch,
+) -> Option<(u64, &'a [u8])>
     requires narrow { count_of (columns_of heads) ≤ 8 }
     requires proper { AreProper (columns_of heads) }
-    ensures { IfSome result (λ found. BeginsWithCall (columns_of heads.entry) text.now found.0 found.1.now) }
+    requires none { row.old ≡ [] }
+    ensures { IfSome result (λ found. BeginsWithCall (columns_of heads.entry) text.now (calls.Insert found.0 (filled row.new)) found.1.now) }
 {
     let arguments = behind_word(text, b"insert")?;
     let (key, middle) = number_behind_space(arguments)?;
-    let (row, rest) = row_in_front(middle, heads)?;
-    Some((Call::Insert { key, row }, rest))
+    let rest = row_in_front(middle, heads, row)?;
+    Some((key, rest))
 }
 
-/// An `update`.
-#[inline(always)]
-fn update_in_front<'a>(text: &'a [u8], heads: Heads<'_>) -> Option<(Call, &'a [u8])>
+/// Adds the `insert` that a text begins with. It is a function of its own, so that lines of other kinds needn't clear what it keeps.
+#[inline(never)]
+fn push_insert<'a>(
+    text: &'a [u8],
+    heads: Heads<'_>,
+    session: u32,
+    lines: &mut LineList,
+) -> Result<Option<&'a [u8]>, OutOfMemory>
     requires narrow { count_of (columns_of heads) ≤ 8 }
     requires proper { AreProper (columns_of heads) }
-    ensures { IfSome result (λ found. BeginsWithCall (columns_of heads.entry) text.now found.0 found.1.now) }
+    ensures { IfOk result (AddsCall (columns_of heads.entry) session text.now lines.old lines.new) }
+{
+    let mut row = PackedPatch::new();
+    let Some((key, rest)) = insert_in_front(text, heads, &mut row) else {
+        return Ok(None);
+    };
+    lines.push_insert(session, key, &row)?;
+    Ok(Some(rest))
+}
+
+/// The key of an `update`, whose columns are put into a patch of none.
+#[inline(always)]
+fn update_in_front<'a>(
+    text: &'a [u8],
+    heads: Heads<'_>,
+    patch: &mut PackedPatch,
+) -> Option<(u64, &'a [u8])>
+    requires narrow { count_of (columns_of heads) ≤ 8 }
+    requires proper { AreProper (columns_of heads) }
+    requires none { patch.old ≡ [] }
+    ensures { IfSome result (λ found. BeginsWithCall (columns_of heads.entry) text.now (calls.Update found.0 patch.new) found.1.now) }
 {
     let arguments = behind_word(text, b"update")?;
     let (key, middle) = number_behind_space(arguments)?;
-    let (patch, rest) = patch_in_front(middle, heads)?;
-    Some((Call::Update { key, patch }, rest))
+    let rest = patch_in_front(middle, heads, patch)?;
+    Some((key, rest))
+}
+
+/// Adds the `update` that a text begins with. It is a function of its own, so that lines of other kinds needn't clear what it keeps.
+#[inline(never)]
+fn push_update<'a>(
+    text: &'a [u8],
+    heads: Heads<'_>,
+    session: u32,
+    lines: &mut LineList,
+) -> Result<Option<&'a [u8]>, OutOfMemory>
+    requires narrow { count_of (columns_of heads) ≤ 8 }
+    requires proper { AreProper (columns_of heads) }
+    ensures { IfOk result (AddsCall (columns_of heads.entry) session text.now lines.old lines.new) }
+{
+    let mut patch = PackedPatch::new();
+    let Some((key, rest)) = update_in_front(text, heads, &mut patch) else {
+        return Ok(None);
+    };
+    lines.push_update(session, key, &patch)?;
+    Ok(Some(rest))
 }
 
 /// Adds a call that was found in front of a text, if one was.
@@ -317,7 +375,7 @@ fn push_call<'a>(
 {
     match text {
         [b'g', ..] => push_found(get_in_front(text), session, lines),
-        [b'u', ..] => push_found(update_in_front(text, heads), session, lines),
+        [b'u', ..] => push_update(text, heads, session, lines),
         [b'b', ..] => push_found(plain_in_front(text, b"begin", Call::Begin), session, lines),
         [b'c', b'o', b'm', ..] => {
             push_found(
@@ -327,7 +385,7 @@ fn push_call<'a>(
             )
         }
         [b'c', ..] => push_found(plain_in_front(text, b"count", Call::Count), session, lines),
-        [b'i', ..] => push_found(insert_in_front(text, heads), session, lines),
+        [b'i', ..] => push_insert(text, heads, session, lines),
         [b's', b'u', ..] => push_found(sum_in_front(text, heads), session, lines),
         [b's', ..] => push_found(plain_in_front(text, b"scan", Call::Scan), session, lines),
         [b'f', ..] => push_found(find_in_front(text, heads), session, lines),

@@ -1,12 +1,13 @@
 //! Columns by their names, and pairs, in the plainest form of a line.
-ghost use Rattle.std.specs.Prelude.{◌≡◌, ◌≤◌, ◌<◌, ◌++◌, ◌∷◌, true, length, IfSome};
+ghost use Rattle.std.specs.Prelude.{◌≡◌, ◌≤◌, ◌<◌, [], ◌++◌, ◌∷◌, true, length, IfSome};
 ghost use Rattle.lst_names.specs.Names.{are_names};
 ghost use Rattle.lst_script.specs.Columns.{named};
+ghost use Rattle.lst_script.specs.Pairs.{filled, nothing_set};
 ghost use Rattle.lst_script.specs.Fronts.{BeginsWithColumn, BeginsWithValue, GoesOnWithPair, SetsNextPair, GoesOnWithPairs, GoesOnWithCells, GoesOnWithChanges};
 
 use crate::fronts::{behind_byte, behind_word, number_in_front};
-use crate::pairs::{Changes, patch_from, row_from, unset};
-use lst_model::{Patch, Row, Text};
+use lst_line_list::PackedPatch;
+use lst_model::Text;
 
 /// What follows a name and this byte, with which a text begins.
 #[inline(always)]
@@ -64,63 +65,80 @@ fn pair_behind_space<'a>(text: &'a [u8], names: &[Text]) -> Option<(u32, Option<
 
 /// Sets the column of the pair behind a space, where no pair before it did.
 #[inline(always)]
-fn set_next_pair<'a>(text: &'a [u8], names: &[Text], changes: &mut Changes) -> Option<&'a [u8]>
+fn set_next_pair<'a>(text: &'a [u8], names: &[Text], changes: &mut PackedPatch) -> Option<&'a [u8]>
     requires narrow { length names.now ≤ 8 }
     requires proper { are_names (length names.now) names.now ≡ true }
-    requires wide { length changes.old.items ≡ length names.now }
-    ensures { SetsNextPair names.now text.now changes.old.items changes.new.items result }
+    requires wide { length changes.old ≡ length names.now }
+    ensures { SetsNextPair names.now text.now changes.old changes.new result }
 {
     let (column, cell, rest) = pair_behind_space(text, names)?;
-    let slots = changes.as_mut_slice();
-    if slots[column as usize].is_some() {
+    if changes.is_set(column) {
         return None;
     }
-    slots[column as usize] = Some(cell);
+    changes.set(column, cell);
     Some(rest)
 }
 
-/// What pairs make of the columns with these names.
+/// Makes a patch of no column one of so many, none of which is set.
 #[inline(always)]
-fn pairs_in_front<'a>(text: &'a [u8], names: &[Text]) -> Option<(Changes, &'a [u8])>
+fn leave_all(count: usize, changes: &mut PackedPatch)
+    requires few { count ≤ 8 }
+    requires none { changes.old ≡ [] }
+    ensures { changes.new ≡ nothing_set count }
+{
+    for _column in 0..count {
+        changes.push(None);
+    }
+}
+
+/// Puts what pairs make of the columns with these names into a patch of no column.
+#[inline(always)]
+fn pairs_in_front<'a>(text: &'a [u8], names: &[Text], changes: &mut PackedPatch) -> Option<&'a [u8]>
     requires narrow { length names.now ≤ 8 }
     requires proper { are_names (length names.now) names.now ≡ true }
-    ensures { IfSome result (λ found. GoesOnWithPairs names.now text.now found.0.items found.1.now) }
+    requires none { changes.old ≡ [] }
+    ensures { IfSome result (λ rest. GoesOnWithPairs names.now text.now changes.new rest.now) }
 {
-    let mut changes = unset(names.len());
+    leave_all(names.len(), changes);
     let mut rest = text;
     for _pair in 0..names.len() {
         if let Some(behind) = behind_byte(rest, b'\n') {
-            return Some((changes, behind));
+            return Some(behind);
         }
-        rest = set_next_pair(rest, names, &mut changes)?;
+        rest = set_next_pair(rest, names, changes)?;
     }
     let behind = behind_byte(rest, b'\n')?;
-    Some((changes, behind))
+    Some(behind)
 }
 
-/// The cells of a row, each by the name of its column.
+/// Puts the cells of a row, each by the name of its column, into one of no column.
 #[inline(always)]
-pub fn named_cells_in_front<'a>(text: &'a [u8], names: &[Text]) -> Option<(Row, &'a [u8])>
+pub fn named_cells_in_front<'a>(
+    text: &'a [u8],
+    names: &[Text],
+    row: &mut PackedPatch,
+) -> Option<&'a [u8]>
     requires narrow { length names.now ≤ 8 }
     requires proper { are_names (length names.now) names.now ≡ true }
-    ensures { IfSome result (λ found. GoesOnWithCells (named names.now) text.now found.0 found.1.now) }
+    requires none { row.old ≡ [] }
+    ensures { IfSome result (λ rest. GoesOnWithCells (named names.now) text.now (filled row.new) rest.now) }
 {
-    let (changes, rest) = pairs_in_front(text, names)?;
-    Some((row_from(changes.as_slice()), rest))
+    let rest = pairs_in_front(text, names, row)?;
+    Some(rest)
 }
 
-/// The changes of a patch, which sets a column, each by the name of its column.
+/// Puts the changes of a patch, which sets a column, each by the name of its column, into one of no column.
 #[inline(always)]
-pub fn named_changes_in_front<'a>(text: &'a [u8], names: &[Text]) -> Option<(Patch, &'a [u8])>
+pub fn named_changes_in_front<'a>(
+    text: &'a [u8],
+    names: &[Text],
+    patch: &mut PackedPatch,
+) -> Option<&'a [u8]>
     requires narrow { length names.now ≤ 8 }
     requires proper { are_names (length names.now) names.now ≡ true }
-    ensures { IfSome result (λ found. GoesOnWithChanges (named names.now) text.now found.0 found.1.now) }
+    requires none { patch.old ≡ [] }
+    ensures { IfSome result (λ rest. GoesOnWithChanges (named names.now) text.now patch.new rest.now) }
 {
-    let (changes, rest) = pairs_in_front(text, names)?;
-    let patch = patch_from(changes.as_slice());
-    if patch.sets_some() {
-        Some((patch, rest))
-    } else {
-        None
-    }
+    let rest = pairs_in_front(text, names, patch)?;
+    if patch.sets_some() { Some(rest) } else { None }
 }

@@ -6,11 +6,6 @@ returns-in-103 c =
     let columns = columns_of c.args.heads in
     c.push_found-in-103.ensures columns c.args.text.now (c.get_in_front.ensures columns)
 
-pub returns-in-117 : goal.returns-in-117
-returns-in-117 c =
-    let columns = columns_of c.args.heads in
-    c.push_found-in-117.ensures columns c.args.text.now c.update_in_front.ensures
-
 pub returns-in-98 : goal.returns-in-98
 returns-in-98 c =
     let columns = columns_of c.args.heads in
@@ -25,11 +20,6 @@ pub returns-in-99-2 : goal.returns-in-99-2
 returns-in-99-2 c =
     let columns = columns_of c.args.heads in
     c.push_found-in-99-2.ensures columns c.args.text.now (c.plain_in_front-in-99-2.ensures columns)
-
-pub returns-in-105 : goal.returns-in-105
-returns-in-105 c =
-    let columns = columns_of c.args.heads in
-    c.push_found-in-105.ensures columns c.args.text.now c.insert_in_front.ensures
 
 pub returns-in-115 : goal.returns-in-115
 returns-in-115 c =

@@ -7,5 +7,5 @@ use Rattle.lst_script.proofs.fronts.update_in_front.Goals as goal
 pub returns : goal.returns
 returns c =
     let columns = columns_of c.args.heads in
-    behind_name columns c.args.text.now (codes "update") c.in_ok-arguments.arguments.now c.in_ok-patch.rest.now (Update c.in_ok-key.key c.in_ok-patch.patch) refl c.in_ok-arguments.ensures
-    (update_behind columns c.in_ok-arguments.arguments.now c.in_ok-key.middle.now c.in_ok-patch.rest.now c.in_ok-key.key c.in_ok-patch.patch c.in_ok-key.ensures c.in_ok-patch.ensures)
+    behind_name columns c.args.text.now (codes "update") c.in_ok-arguments.arguments.now c.in_ok-rest.rest.now (Update c.in_ok-key.key c.patch_in_front.new.patch) refl c.in_ok-arguments.ensures
+    (update_behind columns c.in_ok-arguments.arguments.now c.in_ok-key.middle.now c.in_ok-rest.rest.now c.in_ok-key.key c.patch_in_front.new.patch c.in_ok-key.ensures c.in_ok-rest.ensures)

@@ -1,7 +1,8 @@
 use Rattle.std.proofs.Common.{◌≡◌, ◌+◌, drop, position, Some, set, false, sym, ap, ◌∙◌}
 use Rattle.std.proofs.lemmas.List.{take_rest, length-set}
 use Rattle.lst_script.specs.Pairs.{is_equals, cell_of_value, is_set}
-use Rattle.lst_script.proofs.Pairing.{is_pair, refilled}
+use Rattle.lst_line_list.proofs.Packing.{refilled}
+use Rattle.lst_script.proofs.Pairing.{is_pair}
 use Rattle.lst_script.proofs.pairs.set_pair.Goals as goal
 
 pub returns : goal.returns
