@@ -55,21 +55,22 @@ first_letter a b same = ap (λ (word : List ℕ). slice_index_or word 0 0) same
 -- the word of a task with its options names one task with its limits
 same_named : (options : List (List ℕ)) (a b : Task) (limits other : Limits) → task_word a ≡ task_word b → NamesOptions options a limits → NamesOptions options b other → Input a limits ≡ Input b other
 same_named options Run Run limits other word first second = ap (λ (l : Limits). Input Run l) (names_one options limits other first second)
-same_named options Run Work limits other word first second = let letter : 114 ≡ 119 = first_letter Run Work word in absurd (omega (arith, letter))
+same_named options Run (Work level) limits other word first second = let letter : 114 ≡ 119 = first_letter Run (Work level) word in absurd (omega (arith, letter))
 same_named options Run (Check level) limits other word first second = let letter : 114 ≡ 99 = first_letter Run (Check level) word in absurd (omega (arith, letter))
 same_named options Run Migrate limits other word first second = let letter : 114 ≡ 109 = first_letter Run Migrate word in absurd (omega (arith, letter))
 same_named options Run (AsOf late) limits other word first second = let letter : 114 ≡ 97 = first_letter Run (AsOf late) word in absurd (omega (arith, letter))
 same_named options Run Import limits other word first second = let letter : 114 ≡ 105 = first_letter Run Import word in absurd (omega (arith, letter))
 same_named options Run Dump limits other word first second = let letter : 114 ≡ 100 = first_letter Run Dump word in absurd (omega (arith, letter))
-same_named options Work Run limits other word first second = let letter : 119 ≡ 114 = first_letter Work Run word in absurd (omega (arith, letter))
-same_named options Work Work limits other word first second = ap (λ (l : Limits). Input Work l) (names_one options limits other first second)
-same_named options Work (Check level) limits other word first second = let letter : 119 ≡ 99 = first_letter Work (Check level) word in absurd (omega (arith, letter))
-same_named options Work Migrate limits other word first second = let letter : 119 ≡ 109 = first_letter Work Migrate word in absurd (omega (arith, letter))
-same_named options Work (AsOf late) limits other word first second = let letter : 119 ≡ 97 = first_letter Work (AsOf late) word in absurd (omega (arith, letter))
-same_named options Work Import limits other word first second = let letter : 119 ≡ 105 = first_letter Work Import word in absurd (omega (arith, letter))
-same_named options Work Dump limits other word first second = let letter : 119 ≡ 100 = first_letter Work Dump word in absurd (omega (arith, letter))
+same_named options (Work level) Run limits other word first second = let letter : 119 ≡ 114 = first_letter (Work level) Run word in absurd (omega (arith, letter))
+same_named options (Work level) (Work at) limits other word first second =
+    ap (λ (o : LevelOptions). Input (Work o.level) o.limits) (names_one_level options (record { limits = limits; level = level }) (record { limits = other; level = at }) first second)
+same_named options (Work level) (Check at) limits other word first second = let letter : 119 ≡ 99 = first_letter (Work level) (Check at) word in absurd (omega (arith, letter))
+same_named options (Work level) Migrate limits other word first second = let letter : 119 ≡ 109 = first_letter (Work level) Migrate word in absurd (omega (arith, letter))
+same_named options (Work level) (AsOf late) limits other word first second = let letter : 119 ≡ 97 = first_letter (Work level) (AsOf late) word in absurd (omega (arith, letter))
+same_named options (Work level) Import limits other word first second = let letter : 119 ≡ 105 = first_letter (Work level) Import word in absurd (omega (arith, letter))
+same_named options (Work level) Dump limits other word first second = let letter : 119 ≡ 100 = first_letter (Work level) Dump word in absurd (omega (arith, letter))
 same_named options (Check level) Run limits other word first second = let letter : 99 ≡ 114 = first_letter (Check level) Run word in absurd (omega (arith, letter))
-same_named options (Check level) Work limits other word first second = let letter : 99 ≡ 119 = first_letter (Check level) Work word in absurd (omega (arith, letter))
+same_named options (Check level) (Work at) limits other word first second = let letter : 99 ≡ 119 = first_letter (Check level) (Work at) word in absurd (omega (arith, letter))
 same_named options (Check level) (Check at) limits other word first second =
     ap (λ (o : LevelOptions). Input (Check o.level) o.limits) (names_one_level options (record { limits = limits; level = level }) (record { limits = other; level = at }) first second)
 same_named options (Check level) Migrate limits other word first second = let letter : 99 ≡ 109 = first_letter (Check level) Migrate word in absurd (omega (arith, letter))
@@ -77,14 +78,14 @@ same_named options (Check level) (AsOf late) limits other word first second = le
 same_named options (Check level) Import limits other word first second = let letter : 99 ≡ 105 = first_letter (Check level) Import word in absurd (omega (arith, letter))
 same_named options (Check level) Dump limits other word first second = let letter : 99 ≡ 100 = first_letter (Check level) Dump word in absurd (omega (arith, letter))
 same_named options Migrate Run limits other word first second = let letter : 109 ≡ 114 = first_letter Migrate Run word in absurd (omega (arith, letter))
-same_named options Migrate Work limits other word first second = let letter : 109 ≡ 119 = first_letter Migrate Work word in absurd (omega (arith, letter))
+same_named options Migrate (Work level) limits other word first second = let letter : 109 ≡ 119 = first_letter Migrate (Work level) word in absurd (omega (arith, letter))
 same_named options Migrate (Check level) limits other word first second = let letter : 109 ≡ 99 = first_letter Migrate (Check level) word in absurd (omega (arith, letter))
 same_named options Migrate Migrate limits other word first second = ap (λ (l : Limits). Input Migrate l) (names_one options limits other first second)
 same_named options Migrate (AsOf late) limits other word first second = let letter : 109 ≡ 97 = first_letter Migrate (AsOf late) word in absurd (omega (arith, letter))
 same_named options Migrate Import limits other word first second = let letter : 109 ≡ 105 = first_letter Migrate Import word in absurd (omega (arith, letter))
 same_named options Migrate Dump limits other word first second = let letter : 109 ≡ 100 = first_letter Migrate Dump word in absurd (omega (arith, letter))
 same_named options (AsOf time) Run limits other word first second = let letter : 97 ≡ 114 = first_letter (AsOf time) Run word in absurd (omega (arith, letter))
-same_named options (AsOf time) Work limits other word first second = let letter : 97 ≡ 119 = first_letter (AsOf time) Work word in absurd (omega (arith, letter))
+same_named options (AsOf time) (Work level) limits other word first second = let letter : 97 ≡ 119 = first_letter (AsOf time) (Work level) word in absurd (omega (arith, letter))
 same_named options (AsOf time) (Check level) limits other word first second = let letter : 97 ≡ 99 = first_letter (AsOf time) (Check level) word in absurd (omega (arith, letter))
 same_named options (AsOf time) Migrate limits other word first second = let letter : 97 ≡ 109 = first_letter (AsOf time) Migrate word in absurd (omega (arith, letter))
 same_named options (AsOf time) (AsOf late) limits other word first second =
@@ -92,14 +93,14 @@ same_named options (AsOf time) (AsOf late) limits other word first second =
 same_named options (AsOf time) Import limits other word first second = let letter : 97 ≡ 105 = first_letter (AsOf time) Import word in absurd (omega (arith, letter))
 same_named options (AsOf time) Dump limits other word first second = let letter : 97 ≡ 100 = first_letter (AsOf time) Dump word in absurd (omega (arith, letter))
 same_named options Import Run limits other word first second = let letter : 105 ≡ 114 = first_letter Import Run word in absurd (omega (arith, letter))
-same_named options Import Work limits other word first second = let letter : 105 ≡ 119 = first_letter Import Work word in absurd (omega (arith, letter))
+same_named options Import (Work level) limits other word first second = let letter : 105 ≡ 119 = first_letter Import (Work level) word in absurd (omega (arith, letter))
 same_named options Import (Check level) limits other word first second = let letter : 105 ≡ 99 = first_letter Import (Check level) word in absurd (omega (arith, letter))
 same_named options Import Migrate limits other word first second = let letter : 105 ≡ 109 = first_letter Import Migrate word in absurd (omega (arith, letter))
 same_named options Import (AsOf late) limits other word first second = let letter : 105 ≡ 97 = first_letter Import (AsOf late) word in absurd (omega (arith, letter))
 same_named options Import Import limits other word first second = ap (λ (l : Limits). Input Import l) (names_one_table options limits other first second)
 same_named options Import Dump limits other word first second = let letter : 105 ≡ 100 = first_letter Import Dump word in absurd (omega (arith, letter))
 same_named options Dump Run limits other word first second = let letter : 100 ≡ 114 = first_letter Dump Run word in absurd (omega (arith, letter))
-same_named options Dump Work limits other word first second = let letter : 100 ≡ 119 = first_letter Dump Work word in absurd (omega (arith, letter))
+same_named options Dump (Work level) limits other word first second = let letter : 100 ≡ 119 = first_letter Dump (Work level) word in absurd (omega (arith, letter))
 same_named options Dump (Check level) limits other word first second = let letter : 100 ≡ 99 = first_letter Dump (Check level) word in absurd (omega (arith, letter))
 same_named options Dump Migrate limits other word first second = let letter : 100 ≡ 109 = first_letter Dump Migrate word in absurd (omega (arith, letter))
 same_named options Dump (AsOf late) limits other word first second = let letter : 100 ≡ 97 = first_letter Dump (AsOf late) word in absurd (omega (arith, letter))
@@ -141,7 +142,7 @@ not_both : (task : Task) (limits : Limits) (input : List ℕ) (status : Status) 
 not_both Run limits input status line kind orderly faulty =
     let none = text_fault_none limits input orderly.0.0 orderly.0.1 in
     cc
-not_both Work limits input status line kind orderly faulty =
+not_both (Work level) limits input status line kind orderly faulty =
     let none = text_fault_none limits input orderly.0.0 orderly.0.1 in
     cc
 not_both Migrate limits input status line kind orderly faulty =
@@ -158,7 +159,7 @@ not_both (Check level) limits input status line kind orderly faulty = read_if_cl
 
 not_both_table : (task : Task) (limits : Limits) (input : List ℕ) (status : Status) (place : ℕ) (kind : TableFault) → IsOrderlyFor task limits input status → IsTableFaultFor task limits input place kind → ⊥
 not_both_table Run limits input status place kind orderly faulty = faulty
-not_both_table Work limits input status place kind orderly faulty = faulty
+not_both_table (Work level) limits input status place kind orderly faulty = faulty
 not_both_table (Check level) limits input status place kind orderly faulty = faulty
 not_both_table Migrate limits input status place kind orderly faulty = faulty
 not_both_table (AsOf time) limits input status place kind orderly faulty = faulty
@@ -194,7 +195,7 @@ one_verdict level limits claim first second a b verdict other = elim verdict [
 -- an input has one status at most
 one_status : (task : Task) (limits : Limits) (input : List ℕ) (a b : Status) → IsOrderlyFor task limits input a → IsOrderlyFor task limits input b → a ≡ b
 one_status Run limits input a b orderly other = orderly.1 ∙ sym other.1
-one_status Work limits input a b orderly other = orderly.1 ∙ sym other.1
+one_status (Work level) limits input a b orderly other = orderly.1 ∙ sym other.1
 one_status Migrate limits input a b orderly other = orderly.1 ∙ sym other.1
 one_status (AsOf time) limits input a b orderly other = orderly.1 ∙ sym other.1
 one_status Import limits input a b orderly other = orderly.1 ∙ sym other.1
@@ -206,7 +207,7 @@ one_status (Check level) limits input a b orderly other =
 -- an input for which something is owed is in order
 owed_orderly : (task : Task) (limits : Limits) (input text : List ℕ) (status : Status) (old new : Left) → OwesFor task limits input text status old new → IsOrderlyFor task limits input status
 owed_orderly Run limits input text status old new owed = ((owed.0.script, owed.0.is_script), owed.1)
-owed_orderly Work limits input text status old new owed = ((owed.0.script, owed.0.is_script), owed.1)
+owed_orderly (Work level) limits input text status old new owed = ((owed.0.script, owed.0.is_script), owed.1)
 owed_orderly (Check level) limits input text status old new owed = (text, owed.0)
 owed_orderly Migrate limits input text status old new owed = ((owed.0.named.script, (owed.0.named.names, owed.0.is_named)), owed.1)
 owed_orderly (AsOf time) limits input text status old new owed = ((owed.0.script, owed.0.is_script), owed.1)

@@ -4,7 +4,7 @@ use Rattle.std.specs.Prelude.{take, ◌<◌, ◌↔◌, Bool, true, false, IsTru
 use Rattle.std.specs.Io.KnownBytes.{Appends}
 use Rattle.lst_layout.specs.declared.layout.Layout.{Layout}
 use Rattle.lst_layout.specs.declared.limits.Limits.{Limits}
-use Rattle.lst_work_laws.specs.Worked.{IsWorked}
+use Rattle.lst_work_laws.specs.Worked.{IsWorkedAt}
 use Rattle.lst_rule.specs.declared.store.Store.{Store}
 use Rattle.lst_session.specs.declared.crew.Crew.{Crew}
 use Rattle.lst_work.specs.declared.loading.Loaded.{Loaded}
@@ -44,7 +44,7 @@ IsFinal status = ⊥
 
 final : (task : Task) (limits : Limits) (input text : List ℕ) (status : Status) (old new : Left) → OwesFor task limits input text status old new → IsFinal status
 final Run limits input text status old new owed = subst IsFinal (sym owed.1) tt
-final Work limits input text status old new owed = subst IsFinal (sym owed.1) tt
+final (Work level) limits input text status old new owed = subst IsFinal (sym owed.1) tt
 final Migrate limits input text status old new owed = subst IsFinal (sym owed.1) tt
 final (AsOf time) limits input text status old new owed = subst IsFinal (sym owed.1) tt
 final Import limits input text status old new owed = subst IsFinal (sym owed.1) tt
@@ -74,7 +74,7 @@ taken_over Run limits input text status both old new owed over = (
   },
   owed.1,
 )
-taken_over Work limits input text status both old new owed over = (
+taken_over (Work level) limits input text status both old new owed over = (
   record {
     script = owed.0.script;
     is_script = owed.0.is_script;
@@ -230,9 +230,9 @@ run_refused : (limits : Limits) (input : List ℕ) (fault : ScriptFault) → Exp
 run_refused limits input (faults.Bad line kind) is = is
 run_refused limits input faults.OutOfMemory is = tt
 
-work_refused : (limits : Limits) (input : List ℕ) (fault : ScriptFault) → Explains limits input fault → IsRefusalFor Work limits input (fault_status fault)
-work_refused limits input (faults.Bad line kind) is = is
-work_refused limits input faults.OutOfMemory is = tt
+work_refused : (level : Level) (limits : Limits) (input : List ℕ) (fault : ScriptFault) → Explains limits input fault → IsRefusalFor (Work level) limits input (fault_status fault)
+work_refused level limits input (faults.Bad line kind) is = is
+work_refused level limits input faults.OutOfMemory is = tt
 
 check_refused : (level : Level) (limits : Limits) (input : List ℕ) (fault : ScriptFault) → ExplainsClaim limits input fault → IsRefusalFor (Check level) limits input (fault_status fault)
 check_refused level limits input (faults.Bad line kind) is = is
@@ -250,9 +250,9 @@ pub run_fault : (limits : Limits) (input bytes : List ℕ) (fault : ScriptFault)
 run_fault limits input bytes fault status same same_input is =
     subst (IsRefusalFor Run limits input) (sym same) (run_refused limits input fault (subst (λ (text : List ℕ). Explains limits text fault) same_input is))
 
-pub work_fault : (limits : Limits) (input bytes : List ℕ) (fault : ScriptFault) (status : Status) → status ≡ fault_status fault → bytes ≡ input → Explains limits bytes fault → IsRefusalFor Work limits input status
-work_fault limits input bytes fault status same same_input is =
-    subst (IsRefusalFor Work limits input) (sym same) (work_refused limits input fault (subst (λ (text : List ℕ). Explains limits text fault) same_input is))
+pub work_fault : (level : Level) (limits : Limits) (input bytes : List ℕ) (fault : ScriptFault) (status : Status) → status ≡ fault_status fault → bytes ≡ input → Explains limits bytes fault → IsRefusalFor (Work level) limits input status
+work_fault level limits input bytes fault status same same_input is =
+    subst (IsRefusalFor (Work level) limits input) (sym same) (work_refused level limits input fault (subst (λ (text : List ℕ). Explains limits text fault) same_input is))
 
 pub check_fault : (level : Level) (limits : Limits) (input bytes : List ℕ) (fault : ScriptFault) (status : Status) → status ≡ fault_status fault → bytes ≡ input → ExplainsClaim limits bytes fault → IsRefusalFor (Check level) limits input status
 check_fault level limits input bytes fault status same same_input is =
@@ -276,9 +276,9 @@ run_output limits input bytes script text both output made same_input is_script 
 )
 
 -- the text of the report of sessions at work, with what they leave, is their output
-pub work_output : (limits : Limits) (input bytes : List ℕ) (script : List Line) (layout : Layout) (report : Report) (both : Store × Crew) (result : Result Output Status) → bytes ≡ input → IsScript limits bytes script → layout.limits ≡ limits
-    → IsWorked layout script report both.0 both.1 → IfOk result (HasMade (report_text report) both) → IfOk result (IsOutputFor Work limits input)
-work_output limits input bytes script layout report both (Ok output) same_input is_script limited by made = (
+pub work_output : (level : Level) (limits : Limits) (input bytes : List ℕ) (script : List Line) (layout : Layout) (report : Report) (both : Store × Crew) (result : Result Output Status) → bytes ≡ input → IsScript limits bytes script → layout.limits ≡ limits
+    → IsWorkedAt level layout script report both.0 both.1 → IfOk result (HasMade (report_text report) both) → IfOk result (IsOutputFor (Work level) limits input)
+work_output level limits input bytes script layout report both (Ok output) same_input is_script limited by made = (
   record {
     script = script;
     is_script = subst (λ (bytes : List ℕ). IsScript limits bytes script) same_input is_script;
@@ -292,11 +292,11 @@ work_output limits input bytes script layout report both (Ok output) same_input 
   },
   made.ended,
 )
-work_output limits input bytes script layout report both (Err status) same_input is_script limited by made = tt
+work_output level limits input bytes script layout report both (Err status) same_input is_script limited by made = tt
 
-pub work_refusal : (limits : Limits) (input : List ℕ) (result : Result Output Status) → IfErr result (λ status. status ≡ OutOfMemory) → IfErr result (IsRefusalFor Work limits input)
-work_refusal limits input (Ok output) is = tt
-work_refusal limits input (Err status) is = subst (IsRefusalFor Work limits input) (sym is) tt
+pub work_refusal : (level : Level) (limits : Limits) (input : List ℕ) (result : Result Output Status) → IfErr result (λ status. status ≡ OutOfMemory) → IfErr result (IsRefusalFor (Work level) limits input)
+work_refusal level limits input (Ok output) is = tt
+work_refusal level limits input (Err status) is = subst (IsRefusalFor (Work level) limits input) (sym is) tt
 
 -- the text of version 2 alone is the output of a migration
 pub migrate_output : (limits : Limits) (input bytes : List ℕ) (named : Named) (result : Result Output Status) → bytes ≡ input → IsNamed limits bytes named

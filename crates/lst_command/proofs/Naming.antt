@@ -17,7 +17,7 @@ first_letter a b same = ap (λ (word : List ℕ). slice_index_or word 0 0) same
 -- the word of a task is no load's
 pub no_load_word : (task : Task) → task_word task ≡ codes "load" → ⊥
 no_load_word Run same = let first : 114 ≡ 108 = first_letter (codes "run") (codes "load") same in omega (arith, first)
-no_load_word Work same = let first : 119 ≡ 108 = first_letter (codes "work") (codes "load") same in omega (arith, first)
+no_load_word (Work level) same = let first : 119 ≡ 108 = first_letter (codes "work") (codes "load") same in omega (arith, first)
 no_load_word (Check level) same = let first : 99 ≡ 108 = first_letter (codes "check") (codes "load") same in omega (arith, first)
 no_load_word Migrate same = let first : 109 ≡ 108 = first_letter (codes "migrate") (codes "load") same in omega (arith, first)
 no_load_word (AsOf time) same = let first : 97 ≡ 108 = first_letter (codes "asof") (codes "load") same in omega (arith, first)
@@ -27,7 +27,7 @@ no_load_word Dump same = let first : 100 ≡ 108 = first_letter (codes "dump") (
 -- nor is that of a task with the options of a store alone `asof`
 no_as_of_word : (task : Task) → TakesLimits task → task_word task ≡ codes "asof" → ⊥
 no_as_of_word Run plain same = let first : 114 ≡ 97 = first_letter (codes "run") (codes "asof") same in omega (arith, first)
-no_as_of_word Work plain same = let first : 119 ≡ 97 = first_letter (codes "work") (codes "asof") same in omega (arith, first)
+no_as_of_word (Work level) plain same = plain
 no_as_of_word (Check level) plain same = plain
 no_as_of_word Migrate plain same = let first : 109 ≡ 97 = first_letter (codes "migrate") (codes "asof") same in omega (arith, first)
 no_as_of_word (AsOf time) plain same = plain
@@ -37,7 +37,7 @@ no_as_of_word Dump plain same = let first : 100 ≡ 97 = first_letter (codes "du
 -- nor `import`
 no_import_word : (task : Task) → TakesLimits task → task_word task ≡ codes "import" → ⊥
 no_import_word Run plain same = let first : 114 ≡ 105 = first_letter (codes "run") (codes "import") same in omega (arith, first)
-no_import_word Work plain same = let first : 119 ≡ 105 = first_letter (codes "work") (codes "import") same in omega (arith, first)
+no_import_word (Work level) plain same = plain
 no_import_word (Check level) plain same = plain
 no_import_word Migrate plain same = let first : 109 ≡ 105 = first_letter (codes "migrate") (codes "import") same in omega (arith, first)
 no_import_word (AsOf time) plain same = plain
@@ -47,17 +47,27 @@ no_import_word Dump plain same = let first : 100 ≡ 105 = first_letter (codes "
 -- nor `check`
 no_check_word : (task : Task) → TakesLimits task → task_word task ≡ codes "check" → ⊥
 no_check_word Run plain same = let first : 114 ≡ 99 = first_letter (codes "run") (codes "check") same in omega (arith, first)
-no_check_word Work plain same = let first : 119 ≡ 99 = first_letter (codes "work") (codes "check") same in omega (arith, first)
+no_check_word (Work level) plain same = plain
 no_check_word (Check level) plain same = plain
 no_check_word Migrate plain same = let first : 109 ≡ 99 = first_letter (codes "migrate") (codes "check") same in omega (arith, first)
 no_check_word (AsOf time) plain same = plain
 no_check_word Import plain same = plain
 no_check_word Dump plain same = let first : 100 ≡ 99 = first_letter (codes "dump") (codes "check") same in omega (arith, first)
 
+-- nor `work`
+no_work_word : (task : Task) → TakesLimits task → task_word task ≡ codes "work" → ⊥
+no_work_word Run plain same = let first : 114 ≡ 119 = first_letter (codes "run") (codes "work") same in omega (arith, first)
+no_work_word (Work level) plain same = plain
+no_work_word (Check level) plain same = plain
+no_work_word Migrate plain same = let first : 109 ≡ 119 = first_letter (codes "migrate") (codes "work") same in omega (arith, first)
+no_work_word (AsOf time) plain same = plain
+no_work_word Import plain same = plain
+no_work_word Dump plain same = let first : 100 ≡ 119 = first_letter (codes "dump") (codes "work") same in omega (arith, first)
+
 -- behind its word stand the options of a store
 plain_options : (options : List (List ℕ)) (task : Task) (limits : Limits) → TakesLimits task → NamesLimits options limits → NamesOptions options task limits
 plain_options options Run limits plain names = names
-plain_options options Work limits plain names = names
+plain_options options (Work level) limits plain names = absurd plain
 plain_options options (Check level) limits plain names = absurd plain
 plain_options options Migrate limits plain names = names
 plain_options options (AsOf time) limits plain names = absurd plain
@@ -73,13 +83,13 @@ pub task_is : (words : List (List ℕ)) (task : Task) (limits : Limits) → Take
 task_is words task limits plain first names = record { options = drop 1 words; word = words_are words (task_word task) first; gives = plain_options (drop 1 words) task limits plain names }
 
 options_or_other : (options : List (List ℕ)) (task : Task) (limits : Limits) → NamesOptions options task limits
-    → (NamesLimits options limits) ⊎ ((task_word task ≡ codes "check") ⊎ ((task_word task ≡ codes "asof") ⊎ (task_word task ≡ codes "import")))
+    → (NamesLimits options limits) ⊎ ((task_word task ≡ codes "check") ⊎ ((task_word task ≡ codes "asof") ⊎ ((task_word task ≡ codes "import") ⊎ (task_word task ≡ codes "work"))))
 options_or_other options Run limits names = inl names
-options_or_other options Work limits names = inl names
+options_or_other options (Work level) limits names = inr (inr (inr (inr refl)))
 options_or_other options (Check level) limits names = inr (inl refl)
 options_or_other options Migrate limits names = inl names
 options_or_other options (AsOf time) limits names = inr (inr (inl refl))
-options_or_other options Import limits names = inr (inr (inr refl))
+options_or_other options Import limits names = inr (inr (inr (inl refl)))
 options_or_other options Dump limits names = inl names
 
 first_word : (words options : List (List ℕ)) (word : List ℕ) → words ≡ word ∷ options → slice_get words 0 ≡ Some word
@@ -101,7 +111,10 @@ no_task words task plain first none (Input other limits) names = elim (options_o
     | inl check ↦ no_check_word task plain (sym (same_word words names.options (task_word task) (task_word other) first names.word) ∙ check)
     | inr is ↦ elim is [
       | inl past ↦ no_as_of_word task plain (sym (same_word words names.options (task_word task) (task_word other) first names.word) ∙ past)
-      | inr table ↦ no_import_word task plain (sym (same_word words names.options (task_word task) (task_word other) first names.word) ∙ table)
+      | inr is ↦ elim is [
+        | inl table ↦ no_import_word task plain (sym (same_word words names.options (task_word task) (task_word other) first names.word) ∙ table)
+        | inr work ↦ no_work_word task plain (sym (same_word words names.options (task_word task) (task_word other) first names.word) ∙ work)
+      ]
     ]
   ]
 ]
@@ -110,7 +123,7 @@ no_task words task plain first none (Load numbers) names = no_load_word task (sy
 -- words that begin with `asof`, and name no limits and time behind it
 pub no_as_of : (words : List (List ℕ)) → slice_get words 0 ≡ Some (codes "asof") → ((options : AsOfOptions) → ¬ NamesAsOf (drop 1 words) options) → NamesNone words
 no_as_of words first none (Input Run limits) names = no_as_of_word Run tt (same_word words names.options (codes "asof") (codes "run") first names.word)
-no_as_of words first none (Input Work limits) names = no_as_of_word Work tt (same_word words names.options (codes "asof") (codes "work") first names.word)
+no_as_of words first none (Input (Work level) limits) names = let first_is : 119 ≡ 97 = first_letter (codes "work") (codes "asof") (same_word words names.options (codes "asof") (codes "work") first names.word) in omega (arith, first_is)
 no_as_of words first none (Input (Check level) limits) names = let first_is : 99 ≡ 97 = first_letter (codes "check") (codes "asof") (same_word words names.options (codes "asof") (codes "check") first names.word) in omega (arith, first_is)
 no_as_of words first none (Input Migrate limits) names = no_as_of_word Migrate tt (same_word words names.options (codes "asof") (codes "migrate") first names.word)
 no_as_of words first none (Input (AsOf time) limits) names =
@@ -123,7 +136,7 @@ no_as_of words first none (Load numbers) names = let first_is : 108 ≡ 97 = fir
 -- words that begin with `check`, and name no limits and level behind it
 pub no_check : (words : List (List ℕ)) → slice_get words 0 ≡ Some (codes "check") → ((options : LevelOptions) → ¬ NamesLevel (drop 1 words) options) → NamesNone words
 no_check words first none (Input Run limits) names = no_check_word Run tt (same_word words names.options (codes "check") (codes "run") first names.word)
-no_check words first none (Input Work limits) names = no_check_word Work tt (same_word words names.options (codes "check") (codes "work") first names.word)
+no_check words first none (Input (Work level) limits) names = let first_is : 119 ≡ 99 = first_letter (codes "work") (codes "check") (same_word words names.options (codes "check") (codes "work") first names.word) in omega (arith, first_is)
 no_check words first none (Input (Check level) limits) names =
     let given : LevelOptions = record { limits = limits; level = level } in
     none given (subst (λ (options : List (List ℕ)). NamesLevel options given) (behind words names.options (codes "check") names.word) names.gives)
@@ -133,10 +146,23 @@ no_check words first none (Input Import limits) names = let first_is : 105 ≡ 9
 no_check words first none (Input Dump limits) names = no_check_word Dump tt (same_word words names.options (codes "check") (codes "dump") first names.word)
 no_check words first none (Load numbers) names = let first_is : 108 ≡ 99 = first_letter (codes "load") (codes "check") (same_word words names.options (codes "check") (codes "load") first names.word) in omega (arith, first_is)
 
+-- words that begin with `work`, and name no limits and level behind it
+pub no_work : (words : List (List ℕ)) → slice_get words 0 ≡ Some (codes "work") → ((options : LevelOptions) → ¬ NamesLevel (drop 1 words) options) → NamesNone words
+no_work words first none (Input Run limits) names = no_work_word Run tt (same_word words names.options (codes "work") (codes "run") first names.word)
+no_work words first none (Input (Work level) limits) names =
+    let given : LevelOptions = record { limits = limits; level = level } in
+    none given (subst (λ (options : List (List ℕ)). NamesLevel options given) (behind words names.options (codes "work") names.word) names.gives)
+no_work words first none (Input (Check level) limits) names = let first_is : 99 ≡ 119 = first_letter (codes "check") (codes "work") (same_word words names.options (codes "work") (codes "check") first names.word) in omega (arith, first_is)
+no_work words first none (Input Migrate limits) names = no_work_word Migrate tt (same_word words names.options (codes "work") (codes "migrate") first names.word)
+no_work words first none (Input (AsOf time) limits) names = let first_is : 97 ≡ 119 = first_letter (codes "asof") (codes "work") (same_word words names.options (codes "work") (codes "asof") first names.word) in omega (arith, first_is)
+no_work words first none (Input Import limits) names = let first_is : 105 ≡ 119 = first_letter (codes "import") (codes "work") (same_word words names.options (codes "work") (codes "import") first names.word) in omega (arith, first_is)
+no_work words first none (Input Dump limits) names = no_work_word Dump tt (same_word words names.options (codes "work") (codes "dump") first names.word)
+no_work words first none (Load numbers) names = let first_is : 108 ≡ 119 = first_letter (codes "load") (codes "work") (same_word words names.options (codes "work") (codes "load") first names.word) in omega (arith, first_is)
+
 -- words that begin with `import`, and name no columns behind it
 pub no_import : (words : List (List ℕ)) → slice_get words 0 ≡ Some (codes "import") → ((limits : Limits) → ¬ NamesTable (drop 1 words) limits) → NamesNone words
 no_import words first none (Input Run limits) names = no_import_word Run tt (same_word words names.options (codes "import") (codes "run") first names.word)
-no_import words first none (Input Work limits) names = no_import_word Work tt (same_word words names.options (codes "import") (codes "work") first names.word)
+no_import words first none (Input (Work level) limits) names = let first_is : 119 ≡ 105 = first_letter (codes "work") (codes "import") (same_word words names.options (codes "import") (codes "work") first names.word) in omega (arith, first_is)
 no_import words first none (Input (Check level) limits) names = let first_is : 99 ≡ 105 = first_letter (codes "check") (codes "import") (same_word words names.options (codes "import") (codes "check") first names.word) in omega (arith, first_is)
 no_import words first none (Input Migrate limits) names = no_import_word Migrate tt (same_word words names.options (codes "import") (codes "migrate") first names.word)
 no_import words first none (Input (AsOf time) limits) names = let first_is : 97 ≡ 105 = first_letter (codes "asof") (codes "import") (same_word words names.options (codes "import") (codes "asof") first names.word) in omega (arith, first_is)

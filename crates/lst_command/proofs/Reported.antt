@@ -15,7 +15,7 @@ use Rattle.lst_command.specs.Owed.{OwesReport, IsVerdict, most_bytes}
 use Rattle.lst_command.specs.Runs.{Left}
 use Rattle.lst_command.specs.Reported.{IsJudgedLegal}
 
-module _ (limits : Limits) (input text : List ℕ) (left : Left) (valid : IsValid limits) (small : length input ≤ most_bytes) (owed : OwesReport limits input text left) where
+module _ (limits : Limits) (input text : List ℕ) (left : Left) (valid : IsValid limits) (small : length input ≤ most_bytes) (owed : OwesReport Snapshot limits input text left) where
   legal : IsLegalReport limits owed.script owed.report
   legal = subst (λ (l : Limits). IsLegalReport l owed.script owed.report) owed.limited ((store_told owed.both.1.seat.view).history, owed.by.legal)
 

@@ -12,7 +12,7 @@ use Rattle.lst_command.specs.declared.command.Task.TheVariants.{Run, Work, Check
 -- the word of a task
 abbrev pub task_word : Task → List ℕ
 task_word Run = codes "run"
-task_word Work = codes "work"
+task_word (Work level) = codes "work"
 task_word (Check level) = codes "check"
 task_word Migrate = codes "migrate"
 task_word (AsOf time) = codes "asof"
@@ -22,7 +22,7 @@ task_word Dump = codes "dump"
 -- the options behind it name these limits, and the time or the level; of a table they name the columns alone
 abbrev pub NamesOptions : List (List ℕ) → Task → Limits → Type 0
 NamesOptions options Run limits = NamesLimits options limits
-NamesOptions options Work limits = NamesLimits options limits
+NamesOptions options (Work level) limits = NamesLevel options (record { limits = limits; level = level })
 NamesOptions options (Check level) limits = NamesLevel options (record { limits = limits; level = level })
 NamesOptions options Migrate limits = NamesLimits options limits
 NamesOptions options (AsOf time) limits = NamesAsOf options (record { limits = limits; time = time })
@@ -31,6 +31,7 @@ NamesOptions options Dump limits = NamesLimits options limits
 
 -- the options of a store stand behind the word, and no others
 abbrev pub TakesLimits : Task → Type 0
+TakesLimits (Work level) = ⊥
 TakesLimits (Check level) = ⊥
 TakesLimits (AsOf time) = ⊥
 TakesLimits Import = ⊥

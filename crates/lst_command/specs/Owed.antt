@@ -9,7 +9,7 @@ use Rattle.lst_csv.specs.Importing.{import_of}
 use Rattle.lst_csv.specs.Records.{records_of}
 use Rattle.lst_csv.specs.Tables.{table_fault}
 use Rattle.lst_csv.specs.Writing.{history_text}
-use Rattle.lst_work_laws.specs.Worked.{IsWorked}
+use Rattle.lst_work_laws.specs.Worked.{IsWorkedAt}
 use Rattle.lst_work.specs.declared.loading.Loaded.{Loaded}
 use Rattle.lst_work.specs.Loaded.{IsLoaded}
 use Rattle.lst_machine.specs.State.{opening}
@@ -58,9 +58,9 @@ pub record OwesAnswers (limits : Limits) (input text : List ℕ) (left : Left) :
 
 -- ---- what sessions at work owe
 
--- the input is this script, the text is that of this report, and this store and crew are left: the sessions of the store have worked on the script,
--- and under the history that the crew tells the report is legal for it
-pub record OwesReport (limits : Limits) (input text : List ℕ) (left : Left) : Type 0 where
+-- the input is this script, the text is that of this report, and this store and crew are left: the sessions of the store have worked on the script at
+-- the level, and under the history that the crew tells the report is legal for it at the level
+pub record OwesReport (level : Level) (limits : Limits) (input text : List ℕ) (left : Left) : Type 0 where
   pub script : List Line
   pub is_script : IsScript limits input script
   pub report : Report
@@ -69,7 +69,7 @@ pub record OwesReport (limits : Limits) (input text : List ℕ) (left : Left) : 
   pub is_left : left ≡ Some both
   pub layout : Layout
   pub limited : layout.limits ≡ limits
-  pub by : IsWorked layout script report both.0 both.1
+  pub by : IsWorkedAt level layout script report both.0 both.1
 
 -- ---- what a check owes
 
@@ -155,7 +155,7 @@ pub record OwesLoad (numbers : LoadNumbers) (text : List ℕ) (left : Left) : Ty
 -- left now: what the task made, and by a check, a migration or an import what there was.
 abbrev pub OwesFor : Task → Limits → List ℕ → List ℕ → Status → Left → Left → Type 0
 OwesFor Run limits input text status old new = OwesAnswers limits input text new × (status ≡ Done)
-OwesFor Work limits input text status old new = OwesReport limits input text new × (status ≡ Done)
+OwesFor (Work level) limits input text status old new = OwesReport level limits input text new × (status ≡ Done)
 OwesFor (Check level) limits input text status old new = OwesVerdict level limits input text status × (new ≡ old)
 OwesFor Migrate limits input text status old new = OwesMigration limits input text × (status ≡ Done) × (new ≡ old)
 OwesFor (AsOf time) limits input text status old new = OwesPast time limits input text new × (status ≡ Done)
@@ -165,7 +165,7 @@ OwesFor Dump limits input text status old new = OwesDump limits input text new �
 -- the input's first faulty line for this task; a table has no lines
 abbrev pub IsFaultFor : Task → Limits → List ℕ → ℕ → FaultKind → Type 0
 IsFaultFor Run limits input line kind = text_fault limits input ≡ Some (line, kind)
-IsFaultFor Work limits input line kind = text_fault limits input ≡ Some (line, kind)
+IsFaultFor (Work level) limits input line kind = text_fault limits input ≡ Some (line, kind)
 IsFaultFor (Check level) limits input line kind = IsFaultAt limits input line kind
 IsFaultFor Migrate limits input line kind = text_fault limits input ≡ Some (line, kind)
 IsFaultFor (AsOf time) limits input line kind = text_fault limits input ≡ Some (line, kind)
@@ -195,7 +195,7 @@ IsAnyScript limits input = (script : List Line) × IsScript limits input script
 -- the input is in order for this task, and this status is due to it where the output is written: the text of sessions at work may be one of many
 abbrev pub IsOrderlyFor : Task → Limits → List ℕ → Status → Type 0
 IsOrderlyFor Run limits input status = IsAnyScript limits input × (status ≡ Done)
-IsOrderlyFor Work limits input status = IsAnyScript limits input × (status ≡ Done)
+IsOrderlyFor (Work level) limits input status = IsAnyScript limits input × (status ≡ Done)
 IsOrderlyFor (Check level) limits input status = (text : List ℕ) × OwesVerdict level limits input text status
 IsOrderlyFor Migrate limits input status = IsAnyScript limits input × (status ≡ Done)
 IsOrderlyFor (AsOf time) limits input status = IsAnyScript limits input × (status ≡ Done)

@@ -14,6 +14,6 @@ pub record IsJudgedLegal (limits : Limits) (text : List ℕ) : Type 0 where
   pub owed : OwesVerdict Snapshot limits text (codes "legal\n") Done
   pub alone : (told : List ℕ) (status : Status) → OwesVerdict Snapshot limits text told status → (told ≡ codes "legal\n") × (status ≡ Done)
 
--- what sessions at work owe for an input, behind that input and the line `report`, is judged legal
+-- what sessions at work under snapshot isolation owe for an input, behind that input and the line `report`, is judged legal
 abbrev pub WorkIsJudgedLegal : Type 0
-WorkIsJudgedLegal = (limits : Limits) (input text : List ℕ) (left : Left) → IsValid limits → length input ≤ most_bytes → OwesReport limits input text left → IsJudgedLegal limits (claim_text input text)
+WorkIsJudgedLegal = (limits : Limits) (input text : List ℕ) (left : Left) → IsValid limits → length input ≤ most_bytes → OwesReport Snapshot limits input text left → IsJudgedLegal limits (claim_text input text)

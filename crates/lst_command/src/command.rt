@@ -16,8 +16,8 @@ use std::alloc::Global;
 pub enum Task {
     /// The input is a script, which is run line by line: `run`.
     Run,
-    /// The input is a script, on which all sessions work side by side: `work`.
-    Work,
+    /// The input is a script, on which all sessions work side by side, at a level of isolation: `work`.
+    Work { level: Level },
     /// The input is a script with a report, which is judged at a level of isolation: `check`.
     Check { level: Level },
     /// The input is a script, which is written in version 2: `migrate`.
@@ -44,6 +44,9 @@ pub(crate) fn command_of(alloc: Global, words: &[String]) -> Result<Option<Comma
     ensures told { IfOk result (TellsCommand (map string_bytes words.now)) }
     ensures valid { IfOk result (λ command. IfSome command IsRunnable) }
 {
+    if begins_with_work(words) {
+        return work_named(alloc, words);
+    }
     if begins_with_check(words) {
         return check_named(alloc, words);
     }
@@ -68,6 +71,23 @@ fn task_named(alloc: Global, task: Task, words: &[String]) -> Result<Option<Comm
 {
     match limits_of_words(alloc, words)? {
         Some(limits) => Ok(Some(Command::Input { task, limits })),
+        None => Ok(None),
+    }
+}
+
+/// The command that words name whose first is `work`.
+fn work_named(alloc: Global, words: &[String]) -> Result<Option<Command>, OutOfMemory>
+    requires { slice_get (map string_bytes words.now) 0 ≡ Some (codes "work") }
+    ensures told { IfOk result (TellsCommand (map string_bytes words.now)) }
+    ensures valid { IfOk result (λ command. IfSome command IsRunnable) }
+{
+    match level_of_words(alloc, words)? {
+        Some(options) => Ok(Some(Command::Input {
+            task: Task::Work {
+                level: options.level,
+            },
+            limits: options.limits,
+        })),
         None => Ok(None),
     }
 }
@@ -141,6 +161,13 @@ fn begins_with_load(words: &[String]) -> bool
     !words.is_empty() && is_word(&words[0], b"load")
 }
 
+/// Whether the first word is that of sessions at work.
+fn begins_with_work(words: &[String]) -> bool
+    ensures { IsTrue result ↔ (slice_get (map string_bytes words.now) 0 ≡ Some (codes "work")) }
+{
+    !words.is_empty() && is_word(&words[0], b"work")
+}
+
 /// Whether the first word is that of a check.
 fn begins_with_check(words: &[String]) -> bool
     ensures { IsTrue result ↔ (slice_get (map string_bytes words.now) 0 ≡ Some (codes "check")) }
@@ -164,6 +191,7 @@ fn begins_with_import(words: &[String]) -> bool
 
 /// The task that the first word names, where no other options than those of a store stand behind it.
 fn task_of(words: &[String]) -> Option<Task>
+    requires work { ¬ (slice_get (map string_bytes words.now) 0 ≡ Some (codes "work")) }
     requires check { ¬ (slice_get (map string_bytes words.now) 0 ≡ Some (codes "check")) }
     requires past { ¬ (slice_get (map string_bytes words.now) 0 ≡ Some (codes "asof")) }
     requires table { ¬ (slice_get (map string_bytes words.now) 0 ≡ Some (codes "import")) }
@@ -176,9 +204,6 @@ fn task_of(words: &[String]) -> Option<Task>
     }
     if is_word(&words[0], b"run") {
         return Some(Task::Run);
-    }
-    if is_word(&words[0], b"work") {
-        return Some(Task::Work);
     }
     if is_word(&words[0], b"migrate") {
         return Some(Task::Migrate);

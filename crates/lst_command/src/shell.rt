@@ -31,7 +31,7 @@ use lst_report::{Claim, Report, print_report, read_claim};
 use lst_rule::Store;
 use lst_script::{Named, parse, parse_named, print2};
 use lst_session::Crew;
-use lst_work::{Gate, Loaded, load, work};
+use lst_work::{Gate, Loaded, load, work_at};
 use std::alloc::Global;
 use std::sync::Wait;
 use std::thread::Threads;
@@ -42,13 +42,12 @@ const MOST_BYTES: u64 = 16_777_216;
 /// Runs the command that the words name: reads its input from `source` to the end, unless the command is `load`, writes its output to `sink` as a
 /// whole, and leaves a line on `errors` where it ends with another status than `Done` or `Illegal`.
 ///
-/// The command is `run`, `work`, `migrate` or `dump`, with the options of a store behind it, which name limits, `check` with `--level` beside them, `asof`
+/// The command is `run`, `migrate` or `dump`, with the options of a store behind it, which name limits, `work` or `check` with `--level` beside them, `asof`
 /// with `--time` beside them, `import` with `--columns` alone, or `load`, with a seed and numbers of keys and sessions as its options. The input has at most 16,777,216 bytes.
 /// For `run` it is a script, and the output is what the machine of one thread answers to each line under the limits. For `work` it is a script
 /// too, on which all sessions of a store work side by side, and the output is a report of it: which one is up to their steps, but it is legal for
-/// the script. For `check` it is a script, the line `report` and a report: the output is `legal`, with `Done`, exactly where the report is legal for
-/// the script under the limits, and `illegal`, with `Illegal`, where it isn't: with `--level 2` legal at the serializable level, and with `--level 1`, as
-/// without the option, under snapshot isolation.
+/// the script, with `--level 2` at the serializable level, and with `--level 1`, as without the option, under snapshot isolation. For `check` it is a script, the line `report` and a report: the output is `legal`, with `Done`, exactly where the report is legal for
+/// the script under the limits, and `illegal`, with `Illegal`, where it isn't, by the same option.
 /// For `migrate` it is a script, and the output is its text of version 2, which is read as the same script.
 /// For `asof` it is a script too, which is run as for `run`. The output has a line `bytes` with the length of the block of the history after
 /// the last line, and behind it `rows` with the table as of the time, by rising key, or `future` with the length of the history where the time is above it.
@@ -256,7 +255,7 @@ fn make<R: Threads + Wait + Sync, G: Gate + Sync>(
 {
     match task {
         Task::Run => run_input(alloc, limits, input),
-        Task::Work => work_input(rt, alloc, limits, input, gate),
+        Task::Work { level } => work_input(rt, alloc, level, limits, input, gate),
         Task::Check { level } => check_input(alloc, level, limits, input),
         Task::Migrate => migrate_input(alloc, limits, input),
         Task::AsOf { time } => as_of_input(alloc, limits, time, input),
@@ -299,24 +298,25 @@ fn as_of_input(alloc: Global, limits: &Limits, time: Time, input: &Text) -> Resu
     }
 }
 
-/// The output of sessions at work.
+/// The output of sessions at work at a level.
 #[tactic(auto, using(crate::proofs::Leaving::work_fault, crate::proofs::Leaving::work_output, crate::proofs::Leaving::work_refusal))]
 fn work_input<R: Threads + Wait + Sync, G: Gate + Sync>(
     rt: &R,
     alloc: Global,
+    level: Level,
     limits: &Limits,
     input: &Text,
     gate: &G,
 ) -> Result<Output, Status>
     requires { IsValid limits.now }
-    ensures output { IfOk result (IsOutputFor TaskOf.Work limits.now input.now) }
-    ensures refusal { IfErr result (IsRefusalFor TaskOf.Work limits.now input.now) }
+    ensures output { IfOk result (IsOutputFor (TaskOf.Work level) limits.now input.now) }
+    ensures refusal { IfErr result (IsRefusalFor (TaskOf.Work level) limits.now input.now) }
 {
     let script = match parse(alloc, input.as_bytes(), limits) {
         Ok(script) => script,
         Err(fault) => return Err(of_fault(fault)),
     };
-    match work(rt, alloc, &layout(limits), &script, gate) {
+    match work_at(rt, alloc, level, &layout(limits), &script, gate) {
         Ok((told, store, crew)) => report_output(alloc, &told, (store, crew)),
         Err(OutOfMemory) => Err(Status::OutOfMemory),
     }

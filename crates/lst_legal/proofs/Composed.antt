@@ -10,7 +10,7 @@ use Rattle.lst_replies.specs.Legal.{IsLegalReport, FollowsRules}
 use Rattle.lst_legal_runs.specs.declared.levels.Level.{Level}
 use Rattle.lst_legal_runs.specs.declared.levels.Level.TheVariants.{Snapshot, Serializable}
 use Rattle.lst_legal.specs.Judged.{IsJudged, IsLegalAt}
-use Rattle.lst_legal.specs.Serial.{IsLegalSerialReport}
+use Rattle.lst_serial_laws.specs.Legal.{IsLegalSerialReport}
 
 module _ (b : Bool) (limits : Limits) (lines : List Line) (report : Report) (run : List Answered) where
   legal_is : HaveReplyShape lines report.replies → run ≡ run_of lines report.replies → IsTrue b ↔ IsJudged Snapshot limits run report.history → IsTrue b ↔ IsLegalReport limits lines report

@@ -25,14 +25,12 @@ use Rattle.lst_replies.specs.Levels.{stale_time}
 use Rattle.lst_legal_runs.specs.declared.outlines.OpenOutline.{OpenOutline}
 use Rattle.lst_legal_runs.specs.Outlines.{outline_of_open}
 use Rattle.lst_legal.specs.declared.stales.Reads.{Reads}
-use Rattle.lst_legal.specs.Serial.{lines_since_begin, key_of_call, key_named, reads_table, HasWrittenNamed, MayBeStale, StaleIsExplained}
+use Rattle.lst_serial_laws.specs.Legal.{lines_since_begin, key_of_call, key_named, reads_table, HasWrittenNamed, MayBeStale, StaleIsExplained}
+use Rattle.lst_serial_laws.proofs.Numbers.{since_push}
 use Rattle.lst_legal.specs.Serials.{has_number, has_written, AreNamed, AreReadsOf, AreReads, NamesAsMuch, StayReads}
 use Rattle.lst_legal.proofs.Serials.{read_at}
 
 -- ---- one line more
-
-since_push : (session : ℕ) (front : List Answered) (one : Answered) → lines_since_begin session (front ++ one ∷ []) ≡ cond (is_by session one) (cond (is_begun one.reply) [] (lines_since_begin session front ++ one ∷ [])) (lines_since_begin session front)
-since_push session front one = fold-append (λ (lines : List Answered) (one : Answered). cond (is_by session one) (cond (is_begun one.reply) [] (lines ++ one ∷ [])) lines) [] front (one ∷ [])
 
 module _ (history : List Commit) (reads : List Reads) (front : List Answered) (reply : Reply) where
   pub reads_phase : AreReads history reads front → AreReads history reads (front ++ answered Phase reply ∷ [])

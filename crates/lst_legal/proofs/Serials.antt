@@ -32,7 +32,8 @@ use Rattle.lst_legal_runs.proofs.Splits.{split_at, of_calls, calls_of}
 use Rattle.lst_snapshots.specs.declared.sight.Sight.{Sight}
 use Rattle.lst_snapshots.specs.Sights.{seen}
 use Rattle.lst_legal.specs.Sights.{ShowsAt, IsSightOf, begun_time, Opens}
-use Rattle.lst_legal.specs.Serial.{IsCommitOf, IsAnsweredBy, IsAtSerialPlace}
+use Rattle.lst_serial_laws.specs.Answers.{IsAnsweredBy}
+use Rattle.lst_serial_laws.specs.Legal.{IsCommitOf, IsAtSerialPlace}
 use Rattle.lst_legal.specs.Serials.{time_before, from_place, IsSeenAt, TellsPlace}
 
 -- ---- a commit that passes a test

@@ -13,7 +13,7 @@ use Rattle.lst_replies.specs.Legal.{AtEachWrite, HistoryMatches, IsLegalReport}
 use Rattle.lst_legal_runs.specs.declared.levels.Level.{Level}
 use Rattle.lst_legal_runs.specs.declared.levels.Level.TheVariants.{Snapshot, Serializable}
 use Rattle.lst_legal_runs.specs.Rules.{StateIsToldAt}
-use Rattle.lst_legal.specs.Serial.{IsAtSerialPlace, StaleIsExplained, IsLegalSerialReport}
+use Rattle.lst_serial_laws.specs.Legal.{IsAtSerialPlace, StaleIsExplained, IsLegalSerialReport}
 
 -- the sessions of a script are below a number
 abbrev pub AreSessionsBelow : ℕ → List Line → Type 0

@@ -1,4 +1,3 @@
 pub mod Sights
 pub mod Judged
-pub mod Serial
 pub mod Serials

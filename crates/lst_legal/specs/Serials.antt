@@ -15,7 +15,8 @@ use Rattle.lst_legal_runs.specs.declared.marks.Marks.{Marks}
 use Rattle.lst_legal_runs.specs.Marks.{number_at}
 use Rattle.lst_legal_runs.specs.Places.{IfCall}
 use Rattle.lst_legal.specs.declared.stales.Reads.{Reads}
-use Rattle.lst_legal.specs.Serial.{IsAnsweredBy, lines_since_begin, key_named, reads_table, StaleIsExplained}
+use Rattle.lst_serial_laws.specs.Answers.{IsAnsweredBy}
+use Rattle.lst_serial_laws.specs.Legal.{lines_since_begin, key_named, reads_table, StaleIsExplained}
 
 -- ---- serial places
 

@@ -5,7 +5,7 @@ ghost use Rattle.lst_replies.specs.Legal.{IsLegalReport};
 ghost use Rattle.lst_legal_runs.specs.Places.{AreTraced, AreWithin, run_at};
 ghost use Rattle.lst_legal_runs.specs.Gathering.{CommitsNothing};
 ghost use Rattle.lst_legal.specs.Judged.{AreSessionsBelow, FollowsRules, FollowsSerial, FollowsLevel, FollowsAll, IsJudged, IsLegalAt};
-ghost use Rattle.lst_legal.specs.Serial.{IsLegalSerialReport};
+ghost use Rattle.lst_serial_laws.specs.Legal.{IsLegalSerialReport};
 ghost use Rattle.lst_replies.specs.Runs.{speaker_of};
 
 use crate::places::are_commits_in_place;

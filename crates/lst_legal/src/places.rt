@@ -9,7 +9,8 @@ ghost use Rattle.lst_legal_runs.specs.Firsts.{AreFirstNumbers};
 ghost use Rattle.lst_legal_runs.specs.Places.{AreTraced, AreWithin, IfCall, outline_at, run_at, seen_at};
 ghost use Rattle.lst_snapshots.specs.Sights.{seen};
 ghost use Rattle.lst_legal.specs.Sights.{IsSightOf, AreSights};
-ghost use Rattle.lst_legal.specs.Serial.{TellsKey, IsAnsweredBy, IsAtSerialPlace};
+ghost use Rattle.lst_serial_laws.specs.Answers.{TellsKey, IsAnsweredBy};
+ghost use Rattle.lst_serial_laws.specs.Legal.{IsAtSerialPlace};
 ghost use Rattle.lst_legal.specs.Serials.{time_before, from_place, IsSeenAt, TellsPlace};
 
 use crate::reads::tells_sight;

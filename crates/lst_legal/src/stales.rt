@@ -11,12 +11,13 @@ ghost use Rattle.lst_replies.specs.Explained.{commit_at};
 ghost use Rattle.lst_replies.specs.Levels.{stale_time};
 ghost use Rattle.lst_legal_runs.specs.Outlines.{outline_of};
 ghost use Rattle.lst_legal_runs.specs.Places.{AreTraced, AreWithin, outline_at, run_at, seen_at};
-ghost use Rattle.lst_legal.specs.Serial.{key_of_call, reads_table, MayBeStale, StaleIsExplained, lines_since_begin};
+ghost use Rattle.lst_serial_laws.specs.Legal.{key_of_call, reads_table, MayBeStale, StaleIsExplained, lines_since_begin};
 ghost use Rattle.lst_legal.specs.Serials.{has_number, has_written, AreNamed, AreReadsOf, AreReads, NamesAsMuch, StayReads, TellsStale};
 
 use lst_legal_runs::{OpenOutline, Place};
 use lst_model::{Call, Cause, Key, OutOfMemory, Reply, Time, Write};
 use lst_replies::Answer;
+use lst_serial_laws::{key_of_call, reads_table};
 use lst_snapshots::Snapshots;
 use std::alloc::Global;
 use std::collections::BTreeSet;
@@ -202,29 +203,6 @@ fn is_begun(reply: &Reply) -> bool
     ensures { result ≡ is_begun reply.now }
 {
     matches!(reply, Reply::Begun { .. })
-}
-
-/// The key that a call names, in a get or in a write.
-fn key_of_call(call: &Call) -> Option<Key>
-    ensures { result ≡ key_of_call call.now }
-{
-    match call {
-        Call::Get { key }
-        | Call::Insert { key, .. }
-        | Call::Update { key, .. }
-        | Call::Delete { key } => Some(*key),
-        _ => None,
-    }
-}
-
-/// Whether a reply was read off the whole table.
-fn reads_table(reply: &Reply) -> bool
-    ensures { result ≡ reads_table reply.now }
-{
-    match reply {
-        Reply::Sum { .. } | Reply::Count { .. } | Reply::Rows { .. } | Reply::Keys { .. } => true,
-        _ => false,
-    }
 }
 
 /// Whether the stale commits of a run are explained, under a history. The run's sessions are below this number.

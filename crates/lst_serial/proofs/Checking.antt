@@ -19,7 +19,7 @@ use Rattle.lst_serial.specs.declared.keys.KeySet.{KeySet}
 use Rattle.lst_serial.specs.Keys.{members, has}
 use Rattle.lst_serial.specs.Searches.{IsLeast, IsLeastChange, StaysLeast, Searching}
 use Rattle.lst_serial.specs.Serials.{FirstChanged, IsStaleAt}
-use Rattle.lst_serial.specs.Serial.{IsUnchanged}
+use Rattle.lst_serial_laws.specs.Places.{IsUnchanged}
 use Rattle.lst_serial.proofs.Sets.{apart, any_front, any_last, any_without, last_or_before, each_has}
 
 -- where all keys were read

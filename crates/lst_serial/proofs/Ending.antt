@@ -24,9 +24,9 @@ use Rattle.lst_serial.specs.declared.kinds.SerialEnd.{SerialEnd}
 use Rattle.lst_serial.specs.declared.kinds.SerialEnd.TheVariants.{Idle, Stale}
 use Rattle.lst_serial.specs.Waits.{Concludes, IsWaiting}
 use Rattle.lst_serial.specs.Keys.{has}
-use Rattle.lst_serial.specs.Serial.{IsInPlace}
+use Rattle.lst_serial_laws.specs.Places.{IsInPlace}
 use Rattle.lst_serial.specs.Serials.{IsStaleAt, SpendsOnCommit, GivesBackStale, CommitsInPlace, FindsStale}
-use Rattle.lst_serial.proofs.Placing.{unchanged_is_placed}
+use Rattle.lst_serial_laws.proofs.Placing.{unchanged_is_placed}
 
 module _ (v held w : View) (s : ℕ) (keys : KeySet) (all : Bool) (time : ℕ) (takes : TakesTurn v held s) (whole : HasSeenHistory held s) where
   begin_is : (knows held s).begin ≡ (knows v s).begin

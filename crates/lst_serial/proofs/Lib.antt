@@ -1,5 +1,3 @@
-pub mod Placing
-pub mod Staying
 pub mod Sets
 pub mod Checking
 pub mod Ending

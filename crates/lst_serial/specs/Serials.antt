@@ -13,7 +13,7 @@ use Rattle.lst_session.specs.Calls.{OnlyLooks, FindsNoneFull, Commits}
 use Rattle.lst_session.specs.Held.{HasSeenHistory, LooksStill, TakesTurn, CommitsNext}
 use Rattle.lst_serial.specs.declared.keys.KeySet.{KeySet}
 use Rattle.lst_serial.specs.Keys.{has, Joins, SameKeys}
-use Rattle.lst_serial.specs.Serial.{IsUnchanged, IsInPlace}
+use Rattle.lst_serial_laws.specs.Places.{IsUnchanged, IsInPlace}
 
 -- ---- the read set
 

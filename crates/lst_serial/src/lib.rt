@@ -9,7 +9,6 @@ mod checks;
 mod drawn_tests;
 mod keys;
 mod kinds;
-mod laws;
 mod locks;
 #[cfg(test)]
 mod opened;
@@ -22,5 +21,5 @@ mod skew_tests;
 
 pub use keys::KeySet;
 pub use kinds::{SerialCommit, SerialEnd, SerialRead, SerialWrite};
-pub use laws::{answers_stay, checks_place, places_answer, unchanged_is_placed};
+pub use locks::end_at_last;
 pub use serial::Serial;

@@ -41,9 +41,10 @@ fn try_to_end(
     }
 }
 
-/// Ends the open transaction: tries at once, and where the commit word is held a few times more, since it is mostly held for a moment; then waits
-/// for the lock and tries again and again.
-fn end_at_last<R: Wait>(
+/// Ends the open transaction of a session that has read these keys, or all, as `Serial::commit` does: tries at once, and where the commit word is held a few times
+/// more, since it is mostly held for a moment; then waits for the lock and tries again and again. `Concludes` says what each answer tells; Stale
+/// comes exactly where a commit above the begin changed what was read, and Idle never.
+pub fn end_at_last<R: Wait>(
     rt: &R,
     session: &mut Session,
     store: &Store,

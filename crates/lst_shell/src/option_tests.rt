@@ -172,7 +172,8 @@ fn other_words_are_refused_before_anything_is_read(rt: HostRuntime) -> Result<()
     is_refused(&rt, alloc, "run --columns 9")?;
     is_refused(&rt, alloc, "run --columns 1 --index 1")?;
     is_refused(&rt, alloc, "run --level 1")?;
-    is_refused(&rt, alloc, "work --level 2")?;
+    is_refused(&rt, alloc, "run --level 2")?;
+    is_refused(&rt, alloc, "work --level 3")?;
     is_refused(&rt, alloc, "asof --level 1")?;
     is_refused(&rt, alloc, "load --level 1")?;
     is_refused(&rt, alloc, "check --level 0")?;

@@ -115,13 +115,14 @@ fn both_went(report: &[u8]) -> Option<(Went, Went)> {
     Some((one, other))
 }
 
-/// The rivals at work under a gate: the report is legal, and one of them wrote at last while the other saw it or was refused.
+/// The rivals at work at a level under a gate: the report is legal, and one of them wrote at last while the other saw it or was refused.
 fn rivals_end<R: Abort + Threads + Wait + Sync>(
     rt: &R,
     alloc: Global,
+    level: &str,
     gate: &HoldingGate,
 ) -> Result<(), Fail> {
-    let report = report_of(rt, alloc, "", RIVALS, gate)?;
+    let report = report_of(rt, alloc, level, RIVALS, gate)?;
     let both = both_went(report.as_slice());
     let ended = [
         (Went::First, Went::Second),
@@ -148,7 +149,9 @@ fn two_rivals_write_one_after_the_other_or_one_is_refused(rt: HostRuntime) -> Re
         Hold { line: 8, until: 7 },
     ];
     for hold in holds.iter() {
-        rivals_end(&rt, rt.alloc(), &HoldingGate::new(*hold, TURNS))?;
+        for level in ["", "--level 2"] {
+            rivals_end(&rt, rt.alloc(), level, &HoldingGate::new(*hold, TURNS))?;
+        }
     }
     Ok(())
 }
@@ -156,7 +159,7 @@ fn two_rivals_write_one_after_the_other_or_one_is_refused(rt: HostRuntime) -> Re
 #[test]
 fn two_sessions_are_at_work_at_the_same_time(rt: HostRuntime) -> Result<(), Fail> {
     let gate = HoldingGate::new(Hold { line: 5, until: 8 }, 100_000_000);
-    rivals_end(&rt, rt.alloc(), &gate)?;
+    rivals_end(&rt, rt.alloc(), "", &gate)?;
     assert!(rt; !gate.ran_out.load(Ordering::SeqCst));
     Ok(())
 }

@@ -95,8 +95,33 @@ fn writes_in_order(
 
 #[test]
 fn two_sessions_at_work_write_a_legal_report(rt: HostRuntime) -> Result<(), Fail> {
-    for _ in 0..20u32 {
-        report_of(&rt, rt.alloc(), "--sessions 2", TWO_PHASES, &FreeGate)?;
+    for options in ["--sessions 2", "--sessions 2 --level 2"] {
+        for _ in 0..20u32 {
+            report_of(&rt, rt.alloc(), options, TWO_PHASES, &FreeGate)?;
+        }
+    }
+    Ok(())
+}
+
+/// Two sessions that each read the row that the other one writes. The ends of phases put their calls into this order.
+const SKEW: &str =
+    "2 begin\n2 insert 1 1 0\n2 insert 2 1 0\n2 commit\nphase\n0 begin\n0 get 1\n0 update 2 0 _\nphase\n1 begin\n1 get 2\n1 update 1 0 _\nphase\n0 commit\nphase\n1 commit\n";
+
+#[test]
+fn write_skew_is_stale_at_level_2_alone(rt: HostRuntime) -> Result<(), Fail> {
+    let alloc = rt.alloc();
+    let front =
+        "2 begun 0\n2 ok\n2 ok\n2 committed 1\n0 begun 1\n0 row 1 0\n0 ok\n1 begun 1\n1 row 1 0\n1 ok\n0 committed 2\n";
+    let skewed = "1 committed 3\nhistory 3\n1 2 1 0\n2 0 1 1\n3 1 1 1\n";
+    let stale = "1 conflict stale 2\nhistory 2\n1 2 1 0\n2 0 1 1\n";
+    for (options, end) in [
+        ("--sessions 3", skewed),
+        ("--sessions 3 --level 1", skewed),
+        ("--sessions 3 --level=2", stale),
+    ] {
+        let report = report_of(&rt, alloc, options, SKEW, &FreeGate)?;
+        let wanted = format!(in alloc; "{front}{end}")?;
+        assert_eq!(rt; report.as_slice(), wanted.as_bytes());
     }
     Ok(())
 }
@@ -130,9 +155,13 @@ fn a_line_that_is_held_back_sees_what_was_done_before_it(rt: HostRuntime) -> Res
 
 #[test]
 fn merges_over_tight_limits_give_a_legal_report(rt: HostRuntime) -> Result<(), Fail> {
-    let options = "--sessions 2 --ranges 1 --tails 8 --txns 3 --spare 1";
-    for _ in 0..20u32 {
-        report_of(&rt, rt.alloc(), options, TIGHT, &FreeGate)?;
+    for options in [
+        "--sessions 2 --ranges 1 --tails 8 --txns 3 --spare 1",
+        "--sessions 2 --ranges 1 --tails 8 --txns 3 --spare 1 --level 2",
+    ] {
+        for _ in 0..20u32 {
+            report_of(&rt, rt.alloc(), options, TIGHT, &FreeGate)?;
+        }
     }
     Ok(())
 }

@@ -10,6 +10,8 @@ mod par_tests;
 #[cfg(test)]
 mod part_tests;
 #[cfg(test)]
+mod serial_tests;
+#[cfg(test)]
 mod step_tests;
 #[cfg(test)]
 mod thread_tests;

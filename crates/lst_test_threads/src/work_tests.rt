@@ -109,7 +109,7 @@ pub(crate) fn lines_fit(limits: &Limits, lines: &Script) -> bool
 }
 
 /// The script of a text.
-fn script_of(alloc: Global, limits: &Limits, text: &[u8]) -> Result<Script, Fail>
+pub(crate) fn script_of(alloc: Global, limits: &Limits, text: &[u8]) -> Result<Script, Fail>
     requires { IsValid limits.now }
     ensures { IfOk result (λ script. All (LineFits limits.now.sessions limits.now.ranges limits.now.columns) script) }
 {

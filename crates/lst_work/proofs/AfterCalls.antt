@@ -1,5 +1,5 @@
 -- From what a call leaves of its session to what its line tells.
-use Rattle.std.proofs.Common.{◌≡◌, ℕ, ◌<◌, ◌≤◌, true, cond, Some, None, Result, Ok, Err, IfOk, length, refl, sym, subst, arith}
+use Rattle.std.proofs.Common.{◌≡◌, ℕ, ◌<◌, ◌≤◌, true, false, cond, Some, None, Result, Ok, Err, IfOk, length, refl, sym, subst, arith}
 use Rattle.lst_model.specs.declared.memory.OutOfMemory.{OutOfMemory}
 use Rattle.lst_model.specs.declared.acts.Act.{Act}
 use Rattle.lst_model.specs.declared.acts.Act.TheVariants.{Put, Set, Del}
@@ -9,6 +9,8 @@ use Rattle.lst_model.specs.declared.replies.Reply.{Reply}
 use Rattle.lst_model.specs.declared.replies.Reply.TheVariants.{Begun, Done, Row, Absent, Committed, Ended, Aborted, Sum as SumReply, Count as CountReply, Rows, Keys, Refused}
 use Rattle.lst_model.specs.declared.replies.Cause.{Cause}
 use Rattle.lst_model.specs.declared.replies.Cause.TheVariants as cause
+use Rattle.std.specs.Prelude.{IsNone}
+use Rattle.lst_replies.specs.Levels.{stale_time}
 use Rattle.lst_rule.specs.declared.view.View.{View}
 use Rattle.lst_rule.specs.Rule.{knows}
 use Rattle.lst_session.specs.Traces.{is_put}
@@ -16,6 +18,7 @@ use Rattle.lst_session.specs.Lines.{CanBegin, BeginLeaves, AsOfLeaves, GetLeaves
 use Rattle.lst_scan.specs.Lines.{SumLeaves, CountLeaves, ScanLeaves, FindLeaves}
 use Rattle.lst_work_laws.specs.Lines.{AfterLine}
 use Rattle.lst_scan.specs.Sessions.{EndLeaves, AfterCall}
+use Rattle.lst_work.proofs.EndLines.{stale_none}
 use Rattle.lst_work.proofs.Refusing.{idle_line, active_line, spent_line}
 use Rattle.lst_work.proofs.Beginning.{begun_now, begun_then, ahead}
 use Rattle.lst_work.proofs.Reading.{got, aborted, ended, committed}
@@ -147,3 +150,32 @@ module _ (v w : View) (s : ℕ) where
   pub after_result : (call : Call) (result : Result Reply OutOfMemory) → IfOk result (λ reply. AfterCall v w s call reply) → IfOk result (λ reply. AfterLine s call reply v w)
   after_result call (Ok reply) x = after_line call reply x
   after_result call (Err none) x = tt
+
+  -- under snapshot isolation no commit is told stale
+  end_exact : (reply : Reply) → EndLeaves v w s reply → IsNone (stale_time reply)
+  end_exact (Committed time) x = refl
+  end_exact (Ended time) x = refl
+  end_exact (Refused c) x = by_cause c x
+    where
+      by_cause : (c : Cause) → EndLeaves v w s (Refused c) → IsNone (stale_time (Refused c))
+      by_cause cause.Idle x = refl
+      by_cause c x = absurd x
+  end_exact reply x = absurd x
+
+  never_stale : (call : Call) (reply : Reply) → AfterCall v w s call reply → IsNone (stale_time reply)
+  never_stale CommitCall reply x = end_exact reply x.leaves
+  never_stale Begin reply x = stale_none Begin reply refl (after_line Begin reply x).kind
+  never_stale (AsOf time) reply x = stale_none (AsOf time) reply refl (after_line (AsOf time) reply x).kind
+  never_stale (Get key) reply x = stale_none (Get key) reply refl (after_line (Get key) reply x).kind
+  never_stale (Insert key row) reply x = stale_none (Insert key row) reply refl (after_line (Insert key row) reply x).kind
+  never_stale (Update key patch) reply x = stale_none (Update key patch) reply refl (after_line (Update key patch) reply x).kind
+  never_stale (Delete key) reply x = stale_none (Delete key) reply refl (after_line (Delete key) reply x).kind
+  never_stale (Sum column) reply x = stale_none (Sum column) reply refl (after_line (Sum column) reply x).kind
+  never_stale Count reply x = stale_none Count reply refl (after_line Count reply x).kind
+  never_stale Scan reply x = stale_none Scan reply refl (after_line Scan reply x).kind
+  never_stale (Find column number) reply x = stale_none (Find column number) reply refl (after_line (Find column number) reply x).kind
+  never_stale Abort reply x = stale_none Abort reply refl (after_line Abort reply x).kind
+
+  pub stale_result : (call : Call) (result : Result Reply OutOfMemory) → IfOk result (λ reply. AfterCall v w s call reply) → IfOk result (λ reply. IsNone (stale_time reply))
+  stale_result call (Ok reply) x = never_stale call reply x
+  stale_result call (Err none) x = tt

@@ -30,6 +30,7 @@ use Rattle.lst_replies.specs.declared.reports.Report.{Report}
 use Rattle.lst_replies.specs.declared.states.SessionState.{SessionState}
 use Rattle.lst_replies.specs.declared.states.Transaction.{Transaction}
 use Rattle.lst_replies.specs.Runs.{Answered, answered, AtEachCall, is_insert, run_of, write_of}
+use Rattle.lst_replies.specs.Explained.{EndIsExact}
 use Rattle.lst_replies.specs.States.{unbegun, state_of}
 use Rattle.lst_replies.specs.ReplyKinds.{HaveReplyShape, can_answer}
 use Rattle.lst_session.specs.declared.crew.Crew.{Crew}
@@ -114,6 +115,9 @@ module _ (seed keys n : ℕ) (layout : Layout) (report : Report) (store : Store)
       (let a = count_lines is_insert run in let b = ap (count_by is_insert) lines_are in let c = inserts_counted keys n seed in let r : l.ranges ≡ range_count keys = ap (λ (x : Limits). x.ranges) limits in omega arith)
       (let a = count_lines is_write run in let b = ap (count_by is_write) lines_are in let c = script.writes in let f = script.few in let t : l.tails ≡ 16384 = ap (λ (x : Limits). x.tails) limits in omega arith)
 
+  ends : AtEachCall (λ before s call reply. EndIsExact (state_of s before).current call reply) run
+  ends before s call reply after place = (worked.legal.refusals before s call reply after place).end
+
   -- ---- each session
 
   module _ (j : ℕ) (low : j < n) where
@@ -145,7 +149,7 @@ module _ (seed keys n : ℕ) (layout : Layout) (report : Report) (store : Store)
     first_follows = record { begun = refl; done = refl; opens = tt }
 
     walked : Walked j nothing_done run now
-    walked = walk l n j history owns run kinds free run [] refl nothing_done (knows (opening_view l) j) now
+    walked = walk l n j history owns run kinds free ends run [] refl nothing_done (knows (opening_view l) j) now
         (worked.sessions j (subst (λ (k : ℕ). j < k) (sym sessions_are) low)).lives sees
         (subst (λ (ls : List Line). Goes l.txns n j nothing_done ls) (sym lines_are) through.goes)
         (subst (λ (k : Known). session_told k ≡ unbegun) (sym fresh) refl)

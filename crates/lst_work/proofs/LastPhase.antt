@@ -17,7 +17,8 @@ use Rattle.lst_replies.specs.Runs.{Answered, answered, AtEachCall, commit_times,
 use Rattle.lst_replies.specs.States.{unbegun, state_from, state_of, greatest, ended_phases, floor_of}
 use Rattle.lst_replies.specs.Explained.{TimeIsBounded, ReadIsAnswered, StateIsTold}
 use Rattle.lst_replies.specs.ReplyKinds.{HaveReplyShape, can_answer, can_answer_merge}
-use Rattle.lst_work_laws.proofs.Fronts.{state_on, commits_on}
+use Rattle.lst_serial_laws.proofs.Numbers.{state_on}
+use Rattle.lst_work_laws.proofs.Fronts.{commits_on}
 use Rattle.lst_script.specs.Generated.{final_lines}
 
 -- ---- replies to the parts of a script

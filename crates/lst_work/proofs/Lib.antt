@@ -15,6 +15,7 @@ pub mod Refusing
 pub mod Reports
 pub mod Running
 pub mod Scanning
+pub mod EndLines
 pub mod SeenAlike
 pub mod Totalling
 pub mod Wholes

@@ -333,28 +333,28 @@ module _ (l : Limits) (n j : ℕ) (d : Doing) (state : SessionState) (old new : 
   by_writes [] reply is o begin ends mine = subst (λ (q : Reply). Passed j CommitCall q d state new) (sym ends) (ended begin is (subst (λ (q : Reply). Mine q) ends mine))
   by_writes (w ∷ own) reply is o begin ends mine = subst (λ (q : Reply). Passed j CommitCall q d state new) (sym ends.1) (committed ends.0 w own is o (subst (λ (q : Reply). Mine q) ends.1 mine))
 
-  commit_passes : (reply : Reply) → Can l.txns n j CommitCall d → Told CommitCall reply → Mine reply → Passed j CommitCall reply d state new
-  commit_passes reply can told mine =
+  commit_passes : (reply : Reply) → Can l.txns n j CommitCall d → EndIsExact state.current CommitCall reply → Mine reply → Passed j CommitCall reply d state new
+  commit_passes reply can ends mine =
       let o = open_of j old state.current d.current can.0 can.1 f.opens in
-      let exact : EndIsExact (Some o.t) CommitCall reply = subst (λ (c : Option Transaction). EndIsExact c CommitCall reply) o.is (told 0 (omega arith)).refusals.end in
+      let exact : EndIsExact (Some o.t) CommitCall reply = subst (λ (c : Option Transaction). EndIsExact c CommitCall reply) o.is ends in
       by_writes can.0 reply can.1 o o.t.begin (subst (λ (ws : List Write). EndsBy o.t.begin ws reply) o.sees.writes exact) mine
 
   -- ---- any of them
 
   pub call_passes : (call : CallKind) (reply : Reply) → Can l.txns n j call d → can_answer call reply ≡ true → IfSome state.current (λ (t : Transaction). IfSome (write_of call) (λ (w : Write). IsFree reply))
-      → Told call reply → Mine reply → Passed j call reply d state new
-  call_passes Begin reply can kind free told mine = begin_passes reply can kind told mine
-  call_passes (Insert key row) reply can kind free told mine = insert_passes key row reply can kind free told mine
-  call_passes (Update key patch) reply can kind free told mine = update_passes key patch reply can kind free told mine
-  call_passes (Sum column) reply can kind free told mine = sum_passes column reply can kind told mine
-  call_passes Count reply can kind free told mine = count_passes reply can kind told mine
-  call_passes CommitCall reply can kind free told mine = commit_passes reply can told mine
-  call_passes (AsOf time) reply can kind free told mine = absurd can
-  call_passes (Get key) reply can kind free told mine = absurd can
-  call_passes (Delete key) reply can kind free told mine = absurd can
-  call_passes Scan reply can kind free told mine = absurd can
-  call_passes (Find column value) reply can kind free told mine = absurd can
-  call_passes Abort reply can kind free told mine = absurd can
+      → EndIsExact state.current call reply → Told call reply → Mine reply → Passed j call reply d state new
+  call_passes Begin reply can kind free ends told mine = begin_passes reply can kind told mine
+  call_passes (Insert key row) reply can kind free ends told mine = insert_passes key row reply can kind free told mine
+  call_passes (Update key patch) reply can kind free ends told mine = update_passes key patch reply can kind free told mine
+  call_passes (Sum column) reply can kind free ends told mine = sum_passes column reply can kind told mine
+  call_passes Count reply can kind free ends told mine = count_passes reply can kind told mine
+  call_passes CommitCall reply can kind free ends told mine = commit_passes reply can ends mine
+  call_passes (AsOf time) reply can kind free ends told mine = absurd can
+  call_passes (Get key) reply can kind free ends told mine = absurd can
+  call_passes (Delete key) reply can kind free ends told mine = absurd can
+  call_passes Scan reply can kind free ends told mine = absurd can
+  call_passes (Find column value) reply can kind free ends told mine = absurd can
+  call_passes Abort reply can kind free ends told mine = absurd can
 
 -- nothing of its own was done
 pub follows_on : (j : ℕ) (d : Doing) (state : SessionState) (old new : List Commit) → Extends new old → commits_of j new ≡ commits_of j old → Follows j d state old → Follows j d state new

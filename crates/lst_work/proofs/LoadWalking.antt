@@ -12,11 +12,12 @@ use Rattle.lst_core_state.specs.declared.known.Known.{Known}
 use Rattle.lst_replies.specs.declared.states.Transaction.{Transaction}
 use Rattle.lst_replies.specs.declared.states.SessionState.{SessionState}
 use Rattle.lst_replies.specs.Runs.{Answered, answered, AtEachCall, write_of}
+use Rattle.lst_replies.specs.Explained.{EndIsExact}
 use Rattle.lst_replies.specs.States.{unbegun, after_line, state_of}
 use Rattle.lst_replies.specs.ReplyKinds.{can_answer}
 use Rattle.lst_work_laws.specs.Lines.{session_told}
 use Rattle.lst_work_laws.specs.Lives.{Stays, Answers, Passes, Lives}
-use Rattle.lst_work_laws.proofs.Fronts.{state_on}
+use Rattle.lst_serial_laws.proofs.Numbers.{state_on}
 use Rattle.lst_work_laws.proofs.Living.{passes_state, lives_grow}
 use Rattle.lst_work_laws.proofs.Telling.{extends_on}
 use Rattle.lst_work.specs.Scripted.{Doing, doing_after_call, doing_after, doing_behind}
@@ -65,7 +66,8 @@ pub record Walked (j : ℕ) (d : Doing) (rest : List Answered) (k : Known) : Typ
 
 module _ (l : Limits) (n j : ℕ) (history : List Commit) (owns : CommitsOwn n history) (run : List Answered)
     (kinds : AtEachCall (λ before s call reply. can_answer call reply ≡ true) run)
-    (free : AtEachCall (λ before s call reply. IfSome (state_of s before).current (λ (t : Transaction). IfSome (write_of call) (λ (w : Write). IsFree reply))) run) where
+    (free : AtEachCall (λ before s call reply. IfSome (state_of s before).current (λ (t : Transaction). IfSome (write_of call) (λ (w : Write). IsFree reply))) run)
+    (ends : AtEachCall (λ before s call reply. EndIsExact (state_of s before).current call reply) run) where
   step : (line : Line) (reply : Reply) (before after : List Answered) → run ≡ before ++ answered line reply ∷ after → (d : Doing) (u a : Known) → Passes l j line reply u a → Extends history a.seen → GoesAt l.txns n j d line
       → session_told u ≡ state_of j before → Follows j d (session_told u) u.seen → Stepped j line reply d a
   step Phase reply before after place d u a p e goes told f = record { succeeds = tt; follows = stayed j d u a p f }
@@ -80,6 +82,7 @@ module _ (l : Limits) (n j : ℕ) (history : List Commit) (owns : CommitsOwn n h
       let passed : Passed j call reply d (session_told u) a.seen = call_passes l n j d (session_told u) u.seen a.seen x.1.seen (owns_front n a.seen e.0 (subst (CommitsOwn n) e.1 owns)) f call reply (goes x.0)
       (kinds before t call reply after place)
       (subst (λ (st : SessionState). IfSome st.current (λ (t : Transaction). IfSome (write_of call) (λ (w : Write). IsFree reply))) here (free before t call reply after place))
+      (subst (λ (st : SessionState). EndIsExact st.current call reply) here (ends before t call reply after place))
       x.1.tells x.1.mine in
       record {
         succeeds = λ is. passed.succeeds;

@@ -19,6 +19,7 @@ use Rattle.lst_replies.specs.States.{unbegun, after_call, after_line, state_from
 use Rattle.lst_replies.specs.Explained.{commit_at, HasAccepted, IsInTheWay}
 use Rattle.lst_replies.specs.ReplyKinds.{HaveReplyShape}
 use Rattle.lst_replies.specs.Legal.{IsEntered}
+use Rattle.lst_serial_laws.proofs.Numbers.{IsPlace, place_of}
 use Rattle.lst_work_laws.proofs.Mergers.{all_at}
 use Rattle.lst_script.specs.Counted.{WritesOwn, LineWritesOwn}
 use Rattle.lst_work.proofs.Lists.{Has, WriteOwn, CommitsOwn}
@@ -114,37 +115,6 @@ front_all P [] after all = tt
 front_all P (one ∷ before) after all = (all.0, front_all P before after all.1)
 
 -- ---- the commits of the history
-
-record IsPlace (run : List Answered) (time : ℕ) : Type 0 where
-  before : List Answered
-  line : Line
-  after : List Answered
-  place : run ≡ before ++ answered line (Committed time) ∷ after
-
-commit_says : (reply : Reply) (time : ℕ) → commit_time reply ≡ Some time → reply ≡ Committed time
-commit_says (Committed other) time e = ap Committed (some_is other time e)
-  where
-    some_is : (a b : ℕ) → Some a ≡ Some b → a ≡ b
-    some_is a b e = cc
-commit_says reply time e = cc
-
-place_of : (run : List Answered) (time k : ℕ) → k < length (commit_times run) → slice_index_or (commit_times run) k time ≡ time → IsPlace run time
-place_of [] time k low is = absurd (omega arith)
-place_of (one ∷ run) time k low is = by_reply (commit_time one.reply) refl k low is (λ i less same. place_of run time i less same)
-  where
-    further : IsPlace run time → IsPlace (one ∷ run) time
-    further p = record { before = one ∷ p.before; line = p.line; after = p.after; place = ap (λ ones. one ∷ ones) p.place }
-
-    by_reply : (o : Option ℕ) → commit_time one.reply ≡ o → (k : ℕ) → k < length (cons_option o (commit_times run)) → slice_index_or (cons_option o (commit_times run)) k time ≡ time
-        → ((i : ℕ) → i < length (commit_times run) → slice_index_or (commit_times run) i time ≡ time → IsPlace run time) → IsPlace (one ∷ run) time
-    by_reply None e k low is rest = further (rest k low is)
-    by_reply (Some told) e zero low is rest = record {
-      before = [];
-      line = one.line;
-      after = run;
-      place = ap (λ (r : Reply). answered one.line r ∷ run) (commit_says one.reply time (e ∙ ap (λ (t : ℕ). Some t) is));
-    }
-    by_reply (Some told) e (suc i) low is rest = further (rest i (omega arith) is)
 
 all_by_place : (P : Commit → Type 0) (cs : List Commit) → ((i : ℕ) (c : Commit) → i < length cs → slice_get cs i ≡ Some c → P c) → AllByRecursion P cs
 all_by_place P [] h = tt

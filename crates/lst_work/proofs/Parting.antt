@@ -9,7 +9,7 @@ use Rattle.lst_work.specs.declared.workers.Worker.{Worker}
 use Rattle.lst_work.specs.Blocks.{queues_of, parts_at}
 use Rattle.lst_work.specs.Orders.{queue_at}
 use Rattle.lst_work.specs.Workers.{parts_of}
-use Rattle.lst_work.specs.Hiring.{AreFirst, HaveSaid, sessions_of, said_in}
+use Rattle.lst_work.specs.Hiring.{AreFirst, HaveSaid, sessions_of, reads_of, said_in}
 use Rattle.lst_work_laws.proofs.Lists.{element}
 
 -- ---- a number is below another, or it is that, or it is above it
@@ -32,15 +32,16 @@ pub record IsTaking (old now : List Worker) (queues : List (List Reply)) (i : �
   pub count : length now ≡ length old
   pub within : i ≤ length old
   pub sessions_are : sessions_of now ≡ sessions_of old
+  pub reads_are : reads_of now ≡ reads_of old
   pub wide : length queues ≡ i
   pub own : (k : ℕ) (d : Worker) → k < i → parts_of (get_or old k d) ≡ queue_at queues k ∷ parts_of (get_or now k d)
   pub others : (k : ℕ) (d : Worker) → i ≤ k → get_or now k d ≡ get_or old k d
 
 pub taking_first : (old : List Worker) (queues : List (List Reply)) → queues ≡ [] → IsTaking old old queues 0
-taking_first old queues none = record { count = refl; within = omega arith; sessions_are = refl; wide = ap length none; own = λ k d low. absurd (omega arith); others = λ k d past. refl }
+taking_first old queues none = record { count = refl; within = omega arith; sessions_are = refl; reads_are = refl; wide = ap length none; own = λ k d low. absurd (omega arith); others = λ k d past. refl }
 
 module _ (old now : List Worker) (queues longer : List (List Reply)) (i : ℕ) (worker next : Worker) (part : List Reply) (x : IsTaking old now queues i) (low : i < length now) (is : worker ≡ get_or now i worker) where
-  module _ (same : next.session ≡ worker.session) (first : parts_of worker ≡ part ∷ parts_of next) (more : longer ≡ queues ++ part ∷ []) where
+  module _ (same : next.session ≡ worker.session) (reads_same : next.reads ≡ worker.reads) (first : parts_of worker ≡ part ∷ parts_of next) (more : longer ≡ queues ++ part ∷ []) where
     own_at : (k : ℕ) (d : Worker) → k ≡ i → parts_of (get_or old k d) ≡ queue_at longer k ∷ parts_of (get_or (set now i next) k d)
     own_at k d e = subst (λ (n : ℕ). parts_of (get_or old n d) ≡ queue_at longer n ∷ parts_of (get_or (set now i next) n d)) (sym e)
         (ap parts_of (sym (x.others i d (omega arith)) ∙ (get_or_default now i d worker low ∙ sym is)) ∙ (first
@@ -59,6 +60,9 @@ module _ (old now : List Worker) (queues longer : List (List Reply)) (i : ℕ) (
       sessions_are = map-set (λ (w : Worker). w.session) now i next
           ∙ (ap (set (sessions_of now) i) (same ∙ (ap (λ (w : Worker). w.session) is ∙ sym (get_or-map (λ (w : Worker). w.session) now i worker worker.session low)))
           ∙ (set-get_or (sessions_of now) i worker.session ∙ x.sessions_are));
+      reads_are = map-set (λ (w : Worker). w.reads) now i next
+          ∙ (ap (set (reads_of now) i) (reads_same ∙ (ap (λ (w : Worker). w.reads) is ∙ sym (get_or-map (λ (w : Worker). w.reads) now i worker worker.reads low)))
+          ∙ (set-get_or (reads_of now) i worker.reads ∙ x.reads_are));
       wide = ap length more ∙ (length-append queues (part ∷ []) ∙ ap (λ (n : ℕ). n + 1) x.wide);
       own = λ k d below. by_place k i (own_below k d) (own_at k d) (λ above. absurd (omega arith));
       others = λ k d past. get_or-set_other now i k next d (λ e. absurd (omega (arith, e))) ∙ x.others k d (omega arith);
@@ -69,6 +73,7 @@ taken_all old now queues longer merges i x past more =
     let all : length queues ≡ length old = (let w = x.wide in let c = x.count in let n = x.within in omega arith) in record {
       count = x.count;
       sessions_are = x.sessions_are;
+      reads_are = x.reads_are;
       wide = ap length more ∙ (length-append queues (merges ∷ []) ∙ ap (λ (n : ℕ). n + 1) all);
       own = λ k d low. x.own k d (let w = x.wide in omega arith)
           ∙ ap (λ (p : List Reply). p ∷ parts_of (get_or now k d)) (sym (ap (λ (qs : List (List Reply)). queue_at qs k) more ∙ get_or_append_left queues (merges ∷ []) [] k (omega arith)));
@@ -116,12 +121,13 @@ said_nothing left said queue = by_place queue (length left)
 pub record IsParting (all left : List Worker) (merges rest : List (List Reply)) (blocks : List Block) : Type 0 where
   pub count : length left ≡ length all
   pub sessions_are : sessions_of left ≡ sessions_of all
+  pub reads_are : reads_of left ≡ reads_of all
   pub said : HaveSaid left (length rest)
   pub wide : AllByRecursion (λ block. length block.queues.items ≡ length all + 1) blocks
   pub parts : (queue : ℕ) → parts_at blocks queue ++ said_in left rest queue ≡ said_in all merges queue
 
 pub parting_first : (all : List Worker) (merges : List (List Reply)) (blocks : List Block) → HaveSaid all (length merges) → blocks ≡ [] → IsParting all all merges merges blocks
-parting_first all merges [] said none = record { count = refl; sessions_are = refl; said = said; wide = tt; parts = λ queue. refl }
+parting_first all merges [] said none = record { count = refl; sessions_are = refl; reads_are = refl; said = said; wide = tt; parts = λ queue. refl }
 parting_first all merges (block ∷ blocks) said none = let e = ap length none in absurd (omega arith)
 
 all_on : {X : Type 0} (P : X → Type 0) (xs : List X) (x : X) → AllByRecursion P xs → P x → AllByRecursion P (xs ++ x ∷ [])
@@ -134,6 +140,7 @@ parting_on all left new merges rest after part blocks longer block x first f mor
     let wide : length block.queues.items ≡ length all + 1 = (let w = f.wide in let c = x.count in omega arith) in record {
       count = f.count ∙ x.count;
       sessions_are = f.sessions_are ∙ x.sessions_are;
+      reads_are = f.reads_are ∙ x.reads_are;
       said = said_fewer left new part after (queues_of block) f (subst (λ (ps : List (List Reply)). HaveSaid left (length ps)) first x.said);
       wide = subst (AllByRecursion (λ block. length block.queues.items ≡ length all + 1)) (sym more) (all_on (λ block. length block.queues.items ≡ length all + 1) blocks block x.wide wide);
       parts = λ queue. ap (λ (bs : List Block). parts_at bs queue ++ said_in new after queue) more

@@ -1,9 +1,10 @@
 -- Lines that read, and lines that end a transaction.
-use Rattle.std.proofs.Common.{◌≡◌, ℕ, ◌<◌, ◌≤◌, List, [], ◌∷◌, true, cond, length, Option, Some, None, refl, sym, subst, ap, ◌∙◌, arith, inl, length-append}
+use Rattle.std.proofs.Common.{◌≡◌, ℕ, ◌<◌, ◌≤◌, List, [], ◌∷◌, true, cond, length, Option, Some, None, refl, sym, subst, ap, ◌∙◌, arith, inl, inr, length-append}
 use Rattle.lst_model.specs.declared.acts.Write.{Write}
 use Rattle.lst_model.specs.declared.commits.Commit.{Commit}
 use Rattle.lst_model.specs.declared.lines.Call.TheVariants.{Get, Commit as CommitCall, Abort}
-use Rattle.lst_model.specs.declared.replies.Reply.TheVariants.{Row, Absent, Committed as CommittedReply, Ended as EndedReply, Aborted}
+use Rattle.lst_model.specs.declared.replies.Reply.TheVariants.{Row, Absent, Committed as CommittedReply, Ended as EndedReply, Aborted, Refused}
+use Rattle.lst_model.specs.declared.replies.Cause.TheVariants as cause
 use Rattle.lst_model.specs.Cells.{Cell}
 use Rattle.lst_model.specs.Tables.{Rows, row_of}
 use Rattle.lst_model.specs.Histories.{Extends, snapshot}
@@ -11,9 +12,9 @@ use Rattle.lst_core_state.specs.Writes.{commit}
 use Rattle.lst_machine.specs.Calls.{row_reply}
 use Rattle.lst_rule.specs.declared.view.View.{View}
 use Rattle.lst_rule.specs.Rule.{knows}
-use Rattle.lst_session.specs.Calls.{Gets, Commits, Ends}
+use Rattle.lst_session.specs.Calls.{Gets, OnlyLooks, Commits, Ends}
 use Rattle.lst_replies.specs.declared.states.SessionState.{SessionState}
-use Rattle.lst_replies.specs.Explained.{EndsBy}
+use Rattle.lst_replies.specs.Levels.{EndsOrStaysBy}
 use Rattle.lst_work_laws.specs.Lines.{transaction_told, session_told, Tells, AfterLine}
 use Rattle.lst_work_laws.proofs.Telling.{opened_told, same_told, extends_on, later_length, snapshot_later, at_place}
 use Rattle.lst_work.proofs.Refusing.{kept_drawn}
@@ -96,12 +97,16 @@ module _ (v w : View) (s : ℕ) where
     found = tt;
   }
 
-  ended_by : (begin : ℕ) (own : List Write) → own ≡ [] → EndsBy begin own (EndedReply begin)
-  ended_by begin own none = subst (λ (ws : List Write). EndsBy begin ws (EndedReply begin)) (sym none) refl
+  ended_by : (begin : ℕ) (own : List Write) → own ≡ [] → EndsOrStaysBy begin own (EndedReply begin)
+  ended_by begin own none = subst (λ (ws : List Write). EndsOrStaysBy begin ws (EndedReply begin)) (sym none) refl
 
-  committed_by : (begin time : ℕ) (own : List Write) → 0 < length own → EndsBy begin own (CommittedReply time)
+  committed_by : (begin time : ℕ) (own : List Write) → 0 < length own → EndsOrStaysBy begin own (CommittedReply time)
   committed_by begin time [] some = absurd (omega arith)
-  committed_by begin time (write ∷ writes) some = (time, refl)
+  committed_by begin time (write ∷ writes) some = inl (time, refl)
+
+  stale_by : (begin time : ℕ) (own : List Write) → 0 < length own → EndsOrStaysBy begin own (Refused (cause.Stale time))
+  stale_by begin time [] some = absurd (omega arith)
+  stale_by begin time (write ∷ writes) some = inr (time, refl)
 
   module _ (on : (knows v s).is_open ≡ true) where
     pub ended : (knows v s).begin ≤ length (knows v s).seen → (knows v s).own ≡ [] → Ends v w s → AfterLine s CommitCall (EndedReply (knows v s).begin) v w
@@ -146,3 +151,23 @@ module _ (v w : View) (s : ℕ) where
       where
         commit_low : time ≤ length (knows w s).seen
         commit_low = let h = ap length x.seen in let p = x.place in omega (arith, length-append x.before (commit s (knows v s).number (knows v s).begin (knows v s).own ∷ []))
+
+    pub stale : (time : ℕ) → OnlyLooks v w s → 0 < length (knows v s).own → AfterLine s CommitCall (Refused (cause.Stale time)) v w
+    stale time x wrote = record {
+      called = x.called;
+      kind = refl;
+      tells = λ floor history low e. subst (λ (st : SessionState). Tells v.limits history floor st CommitCall (Refused (cause.Stale time))) (sym (opened_told (knows v s) on)) record {
+        times = tt;
+        reads = record { sight = tt; index = refl };
+        refusals = record { refusal = refl; end = stale_by (knows v s).begin time (knows v s).own wrote };
+        writes = tt;
+      };
+      told = tt;
+      state = same_told s (knows v s) (knows w s) x.same;
+      commits = x.same.mine;
+      writes = x.lists.done;
+      drawn = kept_drawn v w s x.lists CommitCall (Refused (cause.Stale time));
+      latched = inl x.lists.latched;
+      pins = x.pins.pins;
+      found = tt;
+    }

@@ -16,7 +16,8 @@ use Rattle.lst_rule.specs.declared.store.Store.{Store}
 use Rattle.lst_rule.specs.Rule.{knows, crew as opening_view}
 use Rattle.lst_replies.specs.declared.reports.Report.{Report}
 use Rattle.lst_replies.specs.declared.reports.Stamp.{Stamp}
-use Rattle.lst_replies.specs.Legal.{IsLegal, stamp_of}
+use Rattle.lst_replies.specs.Legal.{stamp_of}
+use Rattle.lst_legal_runs.specs.declared.levels.Level.{Level}
 use Rattle.lst_replies.specs.Runs.{Answered, run_of}
 use Rattle.lst_session.specs.declared.crew.Crew.{Crew}
 use Rattle.lst_session.specs.declared.passes.Merger.{Merger}
@@ -26,7 +27,8 @@ use Rattle.lst_session.specs.Parting.{known_by, IsMergerOf, IsMissing, IsGathere
 use Rattle.lst_session.specs.Passes.{IsReady}
 use Rattle.lst_work_laws.specs.Legal.{HaveDoneNothing, AreTogether, WorkedScriptIsLegal}
 use Rattle.lst_work_laws.specs.Whole.{AreAll}
-use Rattle.lst_work_laws.specs.Worked.{HaveSeenTheHistory, IsWorked}
+use Rattle.lst_work_laws.specs.Keeping.{EachEnds, IsLegalUnder}
+use Rattle.lst_work_laws.specs.Worked.{HaveSeenTheHistory, IsWorkedAt}
 use Rattle.lst_work_laws.specs.Works.{SessionWorks, MergerWorks, Works}
 use Rattle.lst_work_laws.proofs.Lists.{element}
 use Rattle.lst_work_laws.proofs.Together.{together}
@@ -51,13 +53,16 @@ pub stamps_bare : (commits : List Commit) → map stamp_of (map without_writes c
 stamps_bare [] = refl
 stamps_bare (commit ∷ commits) = ap (λ (stamps : List Stamp). stamp_of commit ∷ stamps) (stamps_bare commits)
 
-module _ (law : WorkedScriptIsLegal) (layout : Layout) (lines : List Line) (store : Store) (old new : List Session) (first last : Merger) (replies : List (Option ℕ × Reply)) (gathered crew : Crew) (report : Report)
+module _ (law : WorkedScriptIsLegal) (level : Level) (layout : Layout) (lines : List Line) (store : Store) (old new : List Session) (first last : Merger) (replies : List (Option ℕ × Reply)) (gathered crew : Crew) (report : Report)
     (opened : store.layout ≡ layout) (nothing : HaveDoneNothing store old first.seat.view) (knew : KnowTheOpening layout.limits old first.seat.view)
     (fits : All (LineFits layout.limits.sessions layout.limits.ranges layout.limits.columns) lines)
-    (all : AreAll store new) (works : Works store lines old new first.seat.view last.seat.view replies) (merger : IsMergerOf store last)
+    (all : AreAll store new) (works : Works store lines old new first.seat.view last.seat.view replies) (ends : EachEnds level (run_of lines replies) old new) (merger : IsMergerOf store last)
     (together_in : IsGathered new last.seat.view gathered.seat.view) (gathered_of : IsCrewOf store gathered) (r : IsReported store replies gathered report crew) (seen : HaveSeenTheHistory crew.seat.view) where
   works_told : Works store lines old new first.seat.view last.seat.view report.replies
   works_told = subst (λ (rs : List (Option ℕ × Reply)). Works store lines old new first.seat.view last.seat.view rs) (sym r.tells) works
+
+  ends_told : EachEnds level (run_of lines report.replies) old new
+  ends_told = subst (λ (rs : List (Option ℕ × Reply)). EachEnds level (run_of lines rs) old new) (sym r.tells) ends
 
   limits_are : store.layout.limits ≡ layout.limits
   limits_are = ap (λ (x : Layout). x.limits) opened
@@ -89,14 +94,14 @@ module _ (law : WorkedScriptIsLegal) (layout : Layout) (lines : List Line) (stor
       (merger_as store.layout.limits run first.seat.view last.seat.view (opening_view layout.limits) crew.seat.view
       (sym knew.merger_limits) (t.limits ∙ sym merger.seat_of.limits) (sym knew.merger) t.merger works_told.merger)
 
-  pub is_worked : IsWorked layout lines report store crew
+  pub is_worked : IsWorkedAt level layout lines report store crew
   is_worked = record {
     opened = opened;
     crew_of = r.crew_of;
     whole = r.whole;
     seen = seen;
-    legal = subst (λ (l : Limits). IsLegal l lines report (store_told crew.seat.view).history) limits_are
-        (law store lines old new first.seat.view last.seat.view crew.seat.view report nothing all fits_store works_told t r.possible r.stamps);
+    legal = subst (λ (l : Limits). IsLegalUnder level l lines report (store_told crew.seat.view).history) limits_are
+        (law level store lines old new first.seat.view last.seat.view crew.seat.view report nothing all fits_store works_told ends_told t r.possible r.stamps);
     sessions = session_works;
     merger = merger_works;
   }

@@ -24,7 +24,14 @@ use Rattle.lst_work.specs.Blocks.{block_length, first_blocks, blocks_of, joined,
 use Rattle.lst_work.specs.Workers.{AreReady, HaveRun, parts_of}
 use Rattle.lst_work_laws.specs.Orders.{queue_of, replies_from}
 use Rattle.lst_work.specs.Orders.{queue_at, lines_from, AreInOrder}
-use Rattle.lst_work.specs.Hiring.{IsNew, AreHired, HaveSaid, sessions_of, replies_of, said_in}
+use Rattle.lst_work.specs.Hiring.{IsNew, AreHired, HaveSaid, sessions_of, reads_of, replies_of, said_in}
+use Rattle.lst_work.specs.Parts.{AllCarryOn, pass_at}
+use Rattle.lst_work.specs.Reads.{pass_of}
+use Rattle.lst_work.specs.declared.reads.Reads.{Reads}
+use Rattle.lst_legal_runs.specs.declared.levels.Level.{Level}
+use Rattle.lst_work_laws.specs.Keeping.{Pass, CarriesOn}
+use Rattle.lst_work_laws.specs.Laws.{answered_all, own_run}
+use Rattle.lst_work.proofs.Running.{carries_as, pass_in}
 use Rattle.lst_work_laws.specs.Whole.{AreAll, IsPhase}
 use Rattle.lst_work_laws.proofs.Lists.{element}
 use Rattle.lst_work_laws.proofs.Weaving.{queue_is}
@@ -84,7 +91,7 @@ no_replies (part ∷ parts) = no_replies parts
 
 -- ---- the phase
 
-module _ (store : Store) (lines : List Line) (old : List Session) (first last : List Worker) (all : AreAll store old) (hires : AreHired old first) where
+module _ (store : Store) (lines : List Line) (level : Level) (old : List Session) (kept : List Reads) (first last : List Worker) (all : AreAll store old) (hires : AreHired level old kept first) where
   many : length first ≡ length old
   many = sym (length-map first (λ (w : Worker). w.session)) ∙ ap length hires.sessions_are
 
@@ -94,8 +101,11 @@ module _ (store : Store) (lines : List Line) (old : List Session) (first last : 
   pub ready_first : AreReady store first
   ready_first k d low = subst (IsReady store) (sym (session_at k d low)) (all.ready k d.session (subst (λ (n : ℕ). k < n) many low))
 
-  new_at : (ws : List Worker) → AllByRecursion IsNew ws → (k : ℕ) (d : Worker) → k < length ws → IsNew (get_or ws k d)
-  new_at ws news = All-from_recursion IsNew ws news
+  new_at : (ws : List Worker) → AllByRecursion (IsNew level) ws → (k : ℕ) (d : Worker) → k < length ws → IsNew level (get_or ws k d)
+  new_at ws news = All-from_recursion (IsNew level) ws news
+
+  read_at : (k : ℕ) (d : Worker) → k < length first → (get_or first k d).reads ≡ get_or kept k d.reads
+  read_at k d low = sym (get_or-map (λ (w : Worker). w.reads) first k d d.reads low) ∙ ap (λ (rs : List Reads). get_or rs k d.reads) hires.reads_are
 
   module _ (ran : HaveRun lines first last) (long : length last ≡ length first) (ready : AreReady store last) where
     number_at : (k : ℕ) (d : Worker) → k < length first → (get_or first k d).session.number ≡ k
@@ -183,3 +193,22 @@ module _ (store : Store) (lines : List Line) (old : List Session) (first last : 
           (subst (λ (b : Session). Runs s (lines_of s lines) (replies_from (length old) s replies) (get_or first s x).session.seat.view b.seat.view) (sym (get_or-map (λ (w : Worker). w.session) last s x d after))
           (subst (λ (rs : List Reply). Runs s (lines_of s lines) rs (get_or first s x).session.seat.view (get_or last s x).session.seat.view) own here));
     }
+
+    -- what each session kept along its own lines, it keeps along those of the phase
+    pub phase_carries : (merges : List Reply) (replies : List (Option ℕ × Reply)) → AreInOrder store.layout.limits.sessions lines (replies_of last ++ merges ∷ []) replies
+        → AllCarryOn level (λ s. own_run (length old) s lines replies) old (sessions_of last) kept (reads_of last)
+    phase_carries merges replies ordered s d e low =
+        let inside : s < length first = subst (λ (n : ℕ). s < n) (sym many) low in
+        let x = element first s inside in let r = ran s x inside in let after : s < length last = subst (λ (n : ℕ). s < n) (sym long) inside in
+        let as_many : length kept ≡ length first = sym (ap length hires.reads_are) ∙ length-map first (λ (w : Worker). w.reads) in
+        let a : Worker = get_or first s x in let b : Worker = get_or last s x in
+        let whole : CarriesOn a.level a.session.number (answered_all (lines_of a.session.number lines) (joined r.parts)) (pass_in a) (pass_in b) =
+        subst (λ (ls : List Line). CarriesOn a.level a.session.number (answered_all (lines_of a.session.number ls) (joined r.parts)) (pass_in a) (pass_in b)) (joined_blocks lines) r.carries in
+        let here : CarriesOn level s (answered_all (lines_of s lines) (joined r.parts)) (pass_in a) (pass_in b) =
+        carries_as level a.level s a.session.number lines (joined r.parts) (pass_in a) (pass_in b) (new_at first hires.all_new s x inside).level_is (number_at s x inside) whole in
+        let own : joined r.parts ≡ replies_from (length old) s replies = sym (queue_is_own merges s x inside) ∙ (sym (ordered.own s) ∙ ap (λ (k : ℕ). replies_from k s replies) (sym all.count)) in
+        let from : pass_in a ≡ pass_at old kept s d e = λ i. pass_of ((session_at s x inside ∙ get_or_default old s x.session d low) i) ((read_at s x inside ∙ get_or_default kept s x.reads e (omega arith)) i) in
+        let to : pass_in b ≡ pass_at (sessions_of last) (reads_of last) s d e = λ i. pass_of (sym (get_or-map (λ (w : Worker). w.session) last s x d after) i) (sym (get_or-map (λ (w : Worker). w.reads) last s x e after) i) in
+        subst (λ (p : Pass). CarriesOn level s (own_run (length old) s lines replies) p (pass_at (sessions_of last) (reads_of last) s d e)) from
+        (subst (λ (p : Pass). CarriesOn level s (own_run (length old) s lines replies) (pass_in a) p) to
+        (subst (λ (rs : List Reply). CarriesOn level s (answered_all (lines_of s lines) rs) (pass_in a) (pass_in b)) own here))

@@ -6,6 +6,7 @@ pub mod ParSums
 pub mod Parts
 pub mod Reporting
 pub mod Totals
+pub mod Reads
 pub mod Workers
 pub mod Loaded
 pub mod Scripted

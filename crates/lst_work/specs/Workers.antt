@@ -6,15 +6,21 @@ use Rattle.lst_model.specs.declared.replies.Reply.{Reply}
 use Rattle.lst_rule.specs.declared.store.Store.{Store}
 use Rattle.lst_session.specs.Passes.{IsReady}
 use Rattle.lst_work.specs.declared.workers.Worker.{Worker}
+use Rattle.lst_work_laws.specs.Keeping.{CarriesOn}
+use Rattle.lst_work_laws.specs.Laws.{answered_all}
 use Rattle.lst_work_laws.specs.Runs.{lines_of, Runs}
+use Rattle.lst_work.specs.Reads.{pass_of}
 use Rattle.lst_work.specs.Blocks.{blocks_of, joined}
 
--- The worker has run its session's lines among these, and has put their replies behind those that it had.
+-- The worker has run its session's lines among these, and has put their replies behind those that it had. What its session kept along its own lines, at its
+-- level, it keeps along these too.
 pub record Ran (lines : List Line) (old new : Worker) : Type 0 where
   pub number : new.session.number ≡ old.session.number
   pub replies : List Reply
   pub grows : new.replies ≡ old.replies ++ replies
   pub runs : Runs old.session.number (lines_of old.session.number lines) replies old.session.seat.view new.session.seat.view
+  pub level : new.level ≡ old.level
+  pub carries : CarriesOn old.level old.session.number (answered_all (lines_of old.session.number lines) replies) (pass_of old.session old.reads) (pass_of new.session new.reads)
   pub parts : new.parts ≡ old.parts
 
 -- what a worker has said, block by block
@@ -28,6 +34,8 @@ pub record RanBlocks (blocks : List (List Line)) (old new : Worker) : Type 0 whe
   pub grows : parts_of new ≡ parts_of old ++ parts
   pub long : map length parts ≡ map (λ block. length (lines_of old.session.number block)) blocks
   pub runs : Runs old.session.number (lines_of old.session.number (joined blocks)) (joined parts) old.session.seat.view new.session.seat.view
+  pub level : new.level ≡ old.level
+  pub carries : CarriesOn old.level old.session.number (answered_all (lines_of old.session.number (joined blocks)) (joined parts)) (pass_of old.session old.reads) (pass_of new.session new.reads)
 
 -- so it has, unless memory ran out, and its session is ready for the next phase
 pub record HasWorked (store : Store) (lines : List Line) (old new : Worker) : Type 0 where

@@ -1,7 +1,8 @@
 //! The lines of a session.
-ghost use Rattle.std.specs.Prelude.{◌≡◌, IfOk, OnErr};
+ghost use Rattle.std.specs.Prelude.{◌≡◌, IfOk, OnErr, IsNone};
 ghost use Rattle.lst_model.specs.Lines.{CallFits};
 ghost use Rattle.lst_session.specs.Passes.{IsReady};
+ghost use Rattle.lst_replies.specs.Levels.{stale_time};
 ghost use Rattle.lst_scan.specs.Sessions.{LooksInVain};
 ghost use Rattle.lst_work_laws.specs.Lines.{AfterLine};
 
@@ -12,8 +13,8 @@ use lst_session::{CommitLock, Session};
 use std::alloc::Global;
 use std::sync::Wait;
 
-/// The reply to a call of the session, and what it tells by the rules of a legal report. A commit waits while the commit word is held. For want of
-/// memory the session has only looked.
+/// The reply to a call of the session, and what it tells by the rules of a legal report, under snapshot isolation: no commit is told stale. A commit waits
+/// while the commit word is held. For want of memory the session has only looked.
 pub fn line_reply<R: Wait>(
     rt: &R,
     alloc: Global,
@@ -27,6 +28,7 @@ pub fn line_reply<R: Wait>(
     ensures ready { IsReady store.now session.new }
     ensures number { session.new.number ≡ session.old.number }
     ensures after { IfOk result (λ reply. AfterLine session.old.number call.now reply session.old.seat.view session.new.seat.view) }
+    ensures stale { IfOk result (λ reply. IsNone (stale_time reply)) }
     ensures looks { OnErr result (LooksInVain session.old.seat.view session.new.seat.view session.old.number call.now) }
 {
     session_line(rt, alloc, store, session, lock, call)

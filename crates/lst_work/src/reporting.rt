@@ -7,12 +7,13 @@ ghost use Rattle.lst_session.specs.Crews.{IsCrewOf};
 ghost use Rattle.lst_session.specs.Parting.{IsMergerOf, IsGathered};
 ghost use Rattle.lst_work_laws.specs.Legal.{HaveDoneNothing};
 ghost use Rattle.lst_work_laws.specs.Whole.{AreAll};
-ghost use Rattle.lst_work_laws.specs.Worked.{HaveSeenTheHistory, IsWorked};
+ghost use Rattle.lst_work_laws.specs.Worked.{HaveSeenTheHistory, IsWorked, IsWorkedAt, IsWorkedSerial};
 ghost use Rattle.lst_work.specs.Reporting.{KnowTheOpening, IsReported};
 
 use crate::gates::Gate;
-use crate::working::work_on;
+use crate::working::work_on_at;
 use lst_layout::Layout;
+use lst_legal_runs::Level;
 use lst_model::{History, OutOfMemory};
 use lst_replies::{Replies, Report, Stamp, Stamps};
 use lst_rule::Store;
@@ -91,19 +92,31 @@ fn reported(
     Ok((Report { replies, history }, crew))
 }
 
-/// Runs a script by all sessions of a new store and its merger, and gathers them: the report, the store, and its crew.
-pub(crate) fn worked<R: Threads + Wait + Sync, G: Gate + Sync>(
+/// Runs a script by all sessions of a new store and its merger, at a level of isolation, and gathers them: the report, the store, and its crew. It does what
+/// `work` does under snapshot isolation, and what `work_serial` does at the serializable level, so the report is legal for the script at the level.
+/// The only error is want of memory. Nothing is promised of when the call returns.
+pub fn work_at<R: Threads + Wait + Sync, G: Gate + Sync>(
     rt: &R,
     alloc: Global,
+    level: Level,
     layout: &Layout,
     script: &Script,
     gate: &G,
 ) -> Result<(Report, Store, Crew), OutOfMemory>
     requires fits { All (LineFits layout.now.limits.sessions layout.now.limits.ranges layout.now.limits.columns) script.now }
-    ensures { IfOk result (λ done. IsWorked layout.now script.now done.0 done.1 done.2) }
+    ensures { IfOk result (λ done. IsWorkedAt level layout.now script.now done.0 done.1 done.2) }
 {
     let (store, sessions, mut merger) = opened(alloc, layout)?;
-    let (sessions, replies) = work_on(rt, alloc, &store, sessions, &mut merger, script, gate)?;
+    let (sessions, replies) = work_on_at(
+        rt,
+        alloc,
+        &store,
+        level,
+        sessions,
+        &mut merger,
+        script,
+        gate,
+    )?;
     let crew = gathered(alloc, &store, sessions, merger)?;
     let (report, crew) = reported(alloc, &store, crew, replies)?;
     Ok((report, store, crew))
@@ -125,5 +138,23 @@ pub fn work<R: Threads + Wait + Sync, G: Gate + Sync>(
     requires fits { All (LineFits layout.now.limits.sessions layout.now.limits.ranges layout.now.limits.columns) script.now }
     ensures { IfOk result (λ done. IsWorked layout.now script.now done.0 done.1 done.2) }
 {
-    worked(rt, alloc, layout, script, gate)
+    work_at(rt, alloc, Level::Snapshot, layout, script, gate)
+}
+
+/// Runs a script as `work` does, by sessions at the serializable level. A commit of a transaction with writes is told stale where another commit changed
+/// what the transaction had read, and the transaction stays open.
+///
+/// The report is legal for the script at the serializable level: the calls of each transaction that commits are answered as if it had run alone at its
+/// commit's time, and each stale commit has its reason. The only error is want of memory. Nothing is promised of when the call returns.
+pub fn work_serial<R: Threads + Wait + Sync, G: Gate + Sync>(
+    rt: &R,
+    alloc: Global,
+    layout: &Layout,
+    script: &Script,
+    gate: &G,
+) -> Result<(Report, Store, Crew), OutOfMemory>
+    requires fits { All (LineFits layout.now.limits.sessions layout.now.limits.ranges layout.now.limits.columns) script.now }
+    ensures { IfOk result (λ done. IsWorkedSerial layout.now script.now done.0 done.1 done.2) }
+{
+    work_at(rt, alloc, Level::Serializable, layout, script, gate)
 }

@@ -15,8 +15,9 @@ ghost use Rattle.lst_work.specs.Totals.{MayAllBegin, IsHeldUp, IsSummed, HasTota
 
 use crate::gates::Gate;
 use crate::par_sums::par_sum;
-use crate::reporting::{gathered, worked};
+use crate::reporting::{gathered, work_at};
 use lst_layout::Layout;
+use lst_legal_runs::Level;
 use lst_model::{OutOfMemory, Time};
 use lst_replies::Report;
 use lst_rule::Store;
@@ -135,7 +136,7 @@ pub fn work_total<R: Threads + Wait + Sync, G: Gate + Sync>(
     requires column { column < layout.now.limits.columns }
     ensures { IfOk result (λ done. IsWorkedTotal layout.now script.now column done.0 done.1 done.2 done.3) }
 {
-    let (report, store, crew) = worked(rt, alloc, layout, script, gate)?;
+    let (report, store, crew) = work_at(rt, alloc, Level::Snapshot, layout, script, gate)?;
     crew.seat.consider();
     let (total, crew) = total_of(rt, alloc, &store, crew, column)?;
     Ok((report, total, store, crew))

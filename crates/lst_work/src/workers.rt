@@ -8,8 +8,10 @@ ghost use Rattle.lst_work.specs.Blocks.{blocks_of};
 
 use crate::blocks::first_block;
 use crate::gates::Gate;
-use crate::lines::line_reply;
 use crate::paces::Pace;
+use crate::reads::Reads;
+use crate::serials::level_line;
+use lst_legal_runs::Level;
 use lst_model::{Call, Line, OutOfMemory};
 use lst_reply_queue::ReplyQueue;
 use lst_rule::Store;
@@ -22,6 +24,10 @@ use std::sync::Wait;
 #[derive(Drop)]
 pub(crate) struct Worker {
     pub(crate) session: Session,
+    /// What its open transaction has read, where its level asks for it.
+    pub(crate) reads: Reads,
+    /// The level of isolation of its transactions.
+    pub(crate) level: Level,
     /// The replies to the lines of the block at hand.
     pub(crate) replies: ReplyQueue,
     /// Those to the lines of each block before it.
@@ -34,13 +40,17 @@ impl Worker {
     ghost use Rattle.std.specs.Prelude.{◌≡◌, [], false};
 
     /// A worker that has run nothing yet.
-    pub(crate) fn new(alloc: Global, session: Session) -> Worker
+    pub(crate) fn new(alloc: Global, level: Level, session: Session, reads: Reads) -> Worker
         ensures session { result.session ≡ session }
+        ensures reads { result.reads ≡ reads }
+        ensures level { result.level ≡ level }
         ensures none { result.parts.items ≡ [] }
         ensures ready { result.has_failed ≡ false }
     {
         Worker {
             session,
+            reads,
+            level,
             replies: ReplyQueue::new(alloc),
             parts: Vec::new(alloc),
             has_failed: false,
@@ -63,7 +73,16 @@ fn run_call<R: Wait>(
     ensures number { worker.new.session.number ≡ worker.old.session.number }
     ensures ran { OnOk result (Ran (Line.Call worker.old.session.number call.now ∷ []) worker.old worker.new) }
 {
-    let reply = line_reply(rt, alloc, store, &mut worker.session, lock, call)?;
+    let reply = level_line(
+        rt,
+        alloc,
+        store,
+        worker.level,
+        &mut worker.session,
+        &mut worker.reads,
+        lock,
+        call,
+    )?;
     worker.replies.push(reply)?;
     Ok(())
 }

@@ -1,5 +1,5 @@
 -- The front of a run, with more lines behind it; and the runs of whole scripts.
-use Rattle.std.proofs.Common.{◌≡◌, ⊎_elim, ◌⊎◌, inl, inr, ℕ, ◌<◌, ◌≤◌, max, List, [], ◌∷◌, ◌++◌, Bool, true, false, ◌||◌, cond, map, Option, Some, None, IfSome, refl, sym, subst, ap, ◌∙◌, arith}
+use Rattle.std.proofs.Common.{◌≡◌, ℕ, ◌<◌, ◌≤◌, max, List, [], ◌∷◌, ◌++◌, Bool, true, false, ◌||◌, cond, map, Option, Some, None, IfSome, refl, sym, subst, ap, ◌∙◌, arith}
 use Rattle.std.specs.List.{filter, filter_map, list_any, cons_option, AllByRecursion}
 use Rattle.std.proofs.lemmas.List.Elements.{filter-append, filter_map-append}
 use Rattle.std.proofs.lemmas.List.Folds.{list_any-append}
@@ -9,24 +9,13 @@ use Rattle.lst_model.specs.declared.lines.Line.TheVariants.{Phase, Merge, Call}
 use Rattle.lst_model.specs.declared.lines.Call.{Call as CallKind}
 use Rattle.lst_model.specs.declared.replies.Reply.{Reply}
 use Rattle.lst_model.specs.declared.replies.Reply.TheVariants.{Silent}
-use Rattle.lst_replies.specs.declared.states.SessionState.{SessionState}
 use Rattle.lst_replies.specs.Runs.{Answered, answered, run_of, is_by, is_phase, speaker_of, commit_time, commit_times}
-use Rattle.lst_replies.specs.States.{after_line, state_from, greatest, times_told, time_told, ended_phases}
+use Rattle.lst_replies.specs.States.{greatest, times_told, time_told, ended_phases}
 use Rattle.lst_work_laws.specs.Runs.{CanRun}
 use Rattle.lst_work_laws.specs.Laws.{phase_run}
 use Rattle.lst_work_laws.proofs.Floors.{more_low}
 
 -- ---- lists
-
--- an element of two lists with one more between them
-pub split_middle : {X : Type 0} (xs : List X) (p : X) (ys before : List X) (one : X) (after : List X) → xs ++ p ∷ ys ≡ before ++ one ∷ after
-    → ((rest : List X) × (xs ≡ before ++ one ∷ rest)) ⊎ ((p ≡ one) ⊎ ((middle : List X) × (before ≡ xs ++ p ∷ middle) × (ys ≡ middle ++ one ∷ after)))
-split_middle [] p ys [] one after e = let same : p ≡ one = cc in inr (inl same)
-split_middle [] p ys (b ∷ before) one after e = let same : p ≡ b = cc in let others : ys ≡ before ++ one ∷ after = cc in inr (inr (before, ap (λ z. z ∷ before) (sym same), others))
-split_middle (x ∷ xs) p ys [] one after e = let same : x ≡ one = cc in inl (xs, ap (λ z. z ∷ xs) same)
-split_middle (x ∷ xs) p ys (b ∷ before) one after e =
-    let first : x ≡ b = cc in let others : xs ++ p ∷ ys ≡ before ++ one ∷ after = cc in
-    ⊎_elim (λ h. inl (h.0, cc (first, h.1))) (λ h. inr (⊎_elim (λ g. inl g) (λ g. inr (g.0, cc (first, g.1), g.2)) h)) (split_middle xs p ys before one after others)
 
 greatest-append : (xs ys : List ℕ) → greatest (xs ++ ys) ≡ max (greatest xs) (greatest ys)
 greatest-append [] ys = omega arith
@@ -41,10 +30,6 @@ times_on s front before =
 
 pub commits_on : (front before : List Answered) → greatest (commit_times (front ++ before)) ≡ max (greatest (commit_times front)) (greatest (commit_times before))
 commits_on front before = ap greatest (filter_map-append (λ (one : Answered). commit_time one.reply) front before) ∙ greatest-append (commit_times front) (commit_times before)
-
-pub state_on : (state : SessionState) (s : ℕ) (front before : List Answered) → state_from state s (front ++ before) ≡ state_from (state_from state s front) s before
-state_on state s [] before = refl
-state_on state s (one ∷ front) before = state_on (after_line s one state) s front before
 
 or_none : (a b : Bool) → b ≡ false → (a || b) ≡ a
 or_none true b e = refl

@@ -29,7 +29,8 @@ use Rattle.lst_rule.specs.Rule.{knows}
 use Rattle.lst_replies.specs.declared.states.SessionState.{SessionState}
 use Rattle.lst_replies.specs.States.{after_call, after_line, state_from}
 use Rattle.lst_replies.specs.Runs.{Answered, answered, is_by, is_begun, names, commit_time, write_of, key_of, is_done, is_accepted, may_take_record, may_take_latch, takes_no_latch}
-use Rattle.lst_replies.specs.Explained.{StateIsTold, open_cause}
+use Rattle.lst_replies.specs.Explained.{open_cause}
+use Rattle.lst_replies.specs.Levels.{StateIsToldAtAnyLevel}
 use Rattle.lst_replies.specs.ReplyKinds.{can_answer, can_refuse, is_begin_cause, is_idle, is_future, is_not_indexed, is_stale}
 use Rattle.lst_write.specs.Standings.{FoundSince}
 use Rattle.lst_index.specs.Placings.{Drew, FoundFull}
@@ -42,7 +43,7 @@ use Rattle.lst_work_laws.specs.Runs.{Runs}
 use Rattle.lst_work_laws.specs.Laws.{answered_all, commit_told, commits_told, tells_begun, refuses_for, is_latched_find, is_latched_cause, is_unfinished_find, is_unfinished_cause, is_full_table_find, is_full_table_cause, is_full_range_find, is_full_range_cause, AreFound, HasWritten, HasHeld, Leaves}
 use Rattle.lst_work_laws.proofs.Telling.{opened_told, closed_told, extends_on, same_told}
 use Rattle.lst_work_laws.proofs.Closing.{own_after}
-use Rattle.lst_work_laws.proofs.Fronts.{state_on}
+use Rattle.lst_serial_laws.proofs.Numbers.{state_on}
 
 -- ---- the commits
 
@@ -215,14 +216,14 @@ numbered l k e = by_open k.is_open refl
     by_open true is = subst (λ (st : SessionState). IsSomeAnd st.current (λ transaction. transaction.number ≡ k.number)) (sym (opened_told k is)) refl
     by_open false is = let none : open_cause true None ≡ None = subst (λ (st : SessionState). open_cause true st.current ≡ None) (closed_told k is) e in absurd (cc)
 
-open_write : (l : Limits) (state : SessionState) (call : CallKind) (write : Write) → write_of call ≡ Some write → StateIsTold l state call Done → open_cause true state.current ≡ None
+open_write : (l : Limits) (state : SessionState) (call : CallKind) (write : Write) → write_of call ≡ Some write → StateIsToldAtAnyLevel l state call Done → open_cause true state.current ≡ None
 open_write l state (Insert key row) write is told = sym told.refusal
 open_write l state (Update key patch) write is told = sym told.refusal
 open_write l state (Delete key) write is told = sym told.refusal
 open_write l state call write is told = absurd (cc)
 
 module _ (s t : ℕ) (call : CallKind) (v u : View) (own : t ≡ s) where
-  line_wrote : (write : Option Write) (reply : Reply) → write_of call ≡ write → StateIsTold v.limits (session_told (knows v s)) call reply → LeavesWrites v u s write reply
+  line_wrote : (write : Option Write) (reply : Reply) → write_of call ≡ write → StateIsToldAtAnyLevel v.limits (session_told (knows v s)) call reply → LeavesWrites v u s write reply
       → (deed : Deed) → Contains (knows u s).done deed → Contains (knows v s).done deed ⊎ HasWritten s (session_told (knows v s)) (answered (Call t call) reply ∷ []) (knows u s) deed
   line_wrote (Some write) Done is state h deed at =
       ⊎_elim (λ old. inl old)

@@ -1,8 +1,9 @@
 -- The report of a whole script on which all sessions of a store have worked is legal.
-use Rattle.std.proofs.Common.{◌≡◌, ℕ, ◌<◌, ◌≤◌, List, [], ◌∷◌, ◌++◌, true, ◌&&◌, IfSome, Option, length, sym, subst, ap, ◌∙◌, arith}
+use Rattle.std.proofs.Common.{◌≡◌, ℕ, ◌<◌, ◌≤◌, List, [], ◌∷◌, ◌++◌, Bool, true, ◌&&◌, cond, map, IfSome, Option, length, refl, sym, subst, ap, ◌∙◌, arith}
 use Rattle.std.specs.Prelude.{slice_index_or}
-use Rattle.std.specs.List.{All, AllByRecursion, count_by, list_any, sum_by, Contains}
-use Rattle.std.proofs.lemmas.List.Elements.{recursion_from_All}
+use Rattle.std.specs.List.{All, AllByRecursion, count_by, filter, list_any, sum_by, Contains}
+use Rattle.std.proofs.lemmas.List.Elements.{recursion_from_All, filter-append}
+use Rattle.std.proofs.lemmas.Bool.{eq-eqb}
 use Rattle.lst_layout.specs.declared.limits.Limits.{Limits}
 use Rattle.lst_layout.specs.Words.{shown}
 use Rattle.lst_model.specs.declared.commits.Commit.{Commit}
@@ -23,20 +24,36 @@ use Rattle.lst_pages.proofs.Numbering.{settled_are_numbered}
 use Rattle.lst_rule.specs.declared.store.Store.{Store}
 use Rattle.lst_rule.specs.declared.view.View.{View}
 use Rattle.lst_rule.specs.Rule.{knows, hosts, Allowed}
+use Rattle.lst_rule.specs.Learned.{Possible}
 use Rattle.lst_rule.specs.PageSteps.{stock_of}
 use Rattle.lst_rule.proofs.Knowing.{knows_own}
 use Rattle.lst_rule.proofs.Paging.{pages_known, stock_is}
 use Rattle.lst_pages.specs.Runs.{tps_known}
-use Rattle.lst_replies.specs.Runs.{Answered, answered, run_of, speaker_of, is_by, is_begun, is_merged, is_accepted}
+use Rattle.lst_replies.specs.declared.reports.Report.{Report}
+use Rattle.lst_replies.specs.declared.states.Transaction.{Transaction}
+use Rattle.lst_replies.specs.declared.states.SessionState.{SessionState}
+use Rattle.lst_replies.specs.Runs.{Answered, answered, AtEachCall, run_of, speaker_of, is_by, is_begun, is_merged, is_accepted, commit_time}
+use Rattle.lst_replies.specs.States.{unbegun, state_from, state_of}
+use Rattle.lst_replies.specs.Levels.{stale_time, StateIsToldAtAnyLevel}
+use Rattle.lst_replies.proofs.Levels.{legal_is_no_stale}
 use Rattle.lst_replies.specs.Explained.{ConflictIsExplained, FullnessIsExplained, MergeIsAnswered}
-use Rattle.lst_replies.specs.Legal.{AtEachWrite}
+use Rattle.lst_replies.specs.Legal.{AtEachWrite, FollowsRules, stamp_of}
+use Rattle.lst_legal_runs.specs.declared.levels.Level.{Level}
+use Rattle.lst_legal_runs.specs.declared.levels.Level.TheVariants.{Snapshot, Serializable}
+use Rattle.lst_serial_laws.specs.Places.{IsInPlace}
+use Rattle.lst_serial_laws.specs.Legal.{MayBeStale}
+use Rattle.lst_serial_laws.specs.Ends.{is_key_named, is_table_read}
+use Rattle.lst_serial_laws.proofs.Numbers.{own_since}
+use Rattle.lst_serial_laws.proofs.Ending.{ends_are_legal}
 use Rattle.lst_session.specs.declared.session.Session.{Session}
 use Rattle.lst_session.specs.Crews.{store_told}
 use Rattle.lst_session.specs.Parting.{known_by}
 use Rattle.lst_work_laws.specs.Lives.{Lives}
 use Rattle.lst_work_laws.specs.Explained.{HaveEnded, HasGathered, TailsAreWritten, ScriptIsExplained}
 use Rattle.lst_work_laws.specs.Legal.{HaveDoneNothing, AreTogether, WorkedScriptIsLegal}
-use Rattle.lst_work_laws.specs.Scripts.{GoesOn, ScriptTold, RunIsTold, ScriptIsTold}
+use Rattle.lst_work_laws.specs.Lines.{session_told}
+use Rattle.lst_work_laws.specs.Keeping.{EndsAt, EachEnds, IsLegalUnder}
+use Rattle.lst_work_laws.specs.Scripts.{AreFresh, GoesOn, ScriptTold, RunIsTold, ScriptIsTold}
 use Rattle.lst_work_laws.specs.Whole.{AreAll}
 use Rattle.lst_work_laws.specs.Works.{tells_merged, merged_by, Works}
 use Rattle.lst_work_laws.proofs.Lists.{element}
@@ -46,6 +63,7 @@ use Rattle.lst_work_laws.proofs.Owners.{AreOwned, commits_owned, all_are_own}
 use Rattle.lst_work_laws.proofs.Summed.{pages_within, AreAbove, told_low, settled_drawn, count_less, merged_told, any_counted}
 use Rattle.lst_work_laws.proofs.Together.{looked_stays}
 use Rattle.lst_work_laws.proofs.Totals.{all_within, run_within}
+use Rattle.lst_work_laws.proofs.Weaving.{own_state}
 
 module _ (store : Store) (lines : List Line) (old new : List Session) (m n w : View) (replies : List (Option ℕ × Reply))
     (nothing : HaveDoneNothing store old m) (all : AreAll store new) (fits : All (LineFits store.layout.limits.sessions store.layout.limits.ranges store.layout.limits.columns) lines)
@@ -184,8 +202,12 @@ module _ (store : Store) (lines : List Line) (old new : List Session) (m n w : V
 -- ---- the report
 
 -- from the laws of one line, of conflicts and full counters, and of tails that were written
-pub worked_is_legal : ScriptIsTold → ScriptIsExplained → TailsAreWritten → WorkedScriptIsLegal
-worked_is_legal telling explaining written store lines old new m n w report nothing all fits works t possible named =
+-- at any level of isolation, whose rule on ends is the wider one
+follows_rules : ScriptIsTold → ScriptIsExplained → TailsAreWritten → (store : Store) (lines : List Line) (old new : List Session) (m n w : View) (report : Report)
+    → HaveDoneNothing store old m → AreAll store new → All (LineFits store.layout.limits.sessions store.layout.limits.ranges store.layout.limits.columns) lines
+    → Works store lines old new m n report.replies → AreTogether store new n w → Possible w → report.history ≡ map stamp_of (store_told w).history
+    → FollowsRules StateIsToldAtAnyLevel store.layout.limits lines report (store_told w).history
+follows_rules telling explaining written store lines old new m n w report nothing all fits works t possible named =
     let l : Limits = store.layout.limits in let words = possible.words in let known = possible.known in let merger = possible.merger in let a = possible.allowed in
     let c : Core = state_over w.limits words known merger in let run : List Answered = run_of lines report.replies in
     let history : List Commit = (store_told w).history in
@@ -213,3 +235,45 @@ worked_is_legal telling explaining written store lines old new m n w report noth
       fullness = subst (λ (x : Limits × List Commit). AtEachWrite (λ before session transaction write reply. FullnessIsExplained x.0 x.1 run before session transaction write reply) run) (λ i. (t.limits i, sym is i)) explained.1;
       merges = merges store lines old new m n w report.replies nothing all fits works t words known merger a some written;
     }
+
+-- ---- at a level
+
+-- the lines of other sessions say nothing of how a session's line ends
+among_all : (level : Level) (history : List Commit) (s : ℕ) (front : List Answered) (current : Option Transaction) (reply : Reply) → EndsAt level history (filter (is_by s) front) s current reply → EndsAt level history front s current reply
+among_all Snapshot history s front current reply x = x
+among_all Serializable history s front current reply x = record {
+  placed = subst (λ (lines : List Answered). IfSome current (λ transaction. IfSome (commit_time reply) (λ time. IsInPlace (is_key_named lines) (is_table_read lines) history transaction.begin time))) (own_since s front) x.placed;
+  stale = subst (λ (lines : List Answered). IfSome current (λ transaction. IfSome (stale_time reply) (λ time. MayBeStale history transaction.begin time lines))) (own_since s front) x.stale;
+}
+
+module _ (level : Level) (store : Store) (run : List Answered) (old new : List Session) (history : List Commit) (before : AreAll store old) (after : AreAll store new) (fresh : AreFresh old) (ends : EachEnds level run old new) (goes : GoesOn history new)
+    (within : AllByRecursion (λ (one : Answered). IfSome (speaker_of one.line) (λ t. t < length new)) run) where
+  run_ends : AtEachCall (λ front session call reply. EndsAt level history front session (state_of session front).current reply) run
+  run_ends front session call reply rest place =
+      let low : session < length new = all_at (λ (one : Answered). IfSome (speaker_of one.line) (λ t. t < length new)) front (answered (Call session call) reply) rest (subst (AllByRecursion (λ (one : Answered). IfSome (speaker_of one.line) (λ t. t < length new))) place within) in
+      let few : session < length old = subst (λ (k : ℕ). session < k) (after.count ∙ sym before.count) low in
+      let d : Session = element new session low in
+      let own : filter (is_by session) run ≡ filter (is_by session) front ++ answered (Call session call) reply ∷ filter (is_by session) rest =
+      ap (filter (is_by session)) place ∙ (filter-append (is_by session) front (answered (Call session call) reply ∷ rest)
+      ∙ ap (λ (b : Bool). filter (is_by session) front ++ cond b (answered (Call session call) reply ∷ filter (is_by session) rest) (filter (is_by session) rest)) (eq-eqb session session refl)) in
+      let state : state_from (session_told (known_by (slice_index_or old session d))) session (filter (is_by session) front) ≡ state_of session front =
+      ap (λ (st : SessionState). state_from st session (filter (is_by session) front)) (fresh session d few).state ∙ own_state session front unbegun in
+      among_all level history session front (state_of session front).current reply
+      (subst (λ (st : SessionState). EndsAt level history (filter (is_by session) front) session st.current reply) state
+      (ends session d few history (goes session d low) (filter (is_by session) front) call reply (filter (is_by session) rest) own))
+
+pub worked_is_legal : ScriptIsTold → ScriptIsExplained → TailsAreWritten → WorkedScriptIsLegal
+worked_is_legal telling explaining written level store lines old new m n w report nothing all fits works each t possible named = by_level level each
+  where
+    rules : FollowsRules StateIsToldAtAnyLevel store.layout.limits lines report (store_told w).history
+    rules = follows_rules telling explaining written store lines old new m n w report nothing all fits works t possible named
+
+    within : AllByRecursion (λ (one : Answered). IfSome (speaker_of one.line) (λ t. t < length new)) (run_of lines report.replies)
+    within = run_within (length new) lines report.replies (all_within (length new) store.layout.limits lines (sym all.count) (recursion_from_All (λ (line : Line). LineFits store.layout.limits.sessions store.layout.limits.ranges store.layout.limits.columns line) lines fits))
+
+    at_each : (level : Level) → EachEnds level (run_of lines report.replies) old new → AtEachCall (λ front session call reply. EndsAt level (store_told w).history front session (state_of session front).current reply) (run_of lines report.replies)
+    at_each level each = run_ends level store (run_of lines report.replies) old new (store_told w).history nothing.all all nothing.fresh each (λ s d low. t.seen s d low) within
+
+    by_level : (level : Level) → EachEnds level (run_of lines report.replies) old new → IsLegalUnder level store.layout.limits lines report (store_told w).history
+    by_level Snapshot each = (legal_is_no_stale store.layout.limits lines report (store_told w).history).1 (rules, at_each Snapshot each)
+    by_level Serializable each = ends_are_legal store.layout.limits lines report (store_told w).history rules (at_each Serializable each)

@@ -9,6 +9,7 @@ pub mod Floors
 pub mod Fresh
 pub mod Fronts
 pub mod Judging
+pub mod Keeping
 pub mod Leaving
 pub mod Legality
 pub mod Lists

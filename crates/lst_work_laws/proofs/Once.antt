@@ -1,15 +1,13 @@
 -- No commit time is told twice.
-use Rattle.std.proofs.Common.{◌≡◌, ◌≢◌, ℕ, ◌+◌, ◌-◌, ◌<◌, ◌≤◌, List, [], ◌∷◌, ◌++◌, Bool, true, false, ◌||◌, ◌&&◌, is_some, eqb, cond, length, Option, Some, None, IfSome, refl, sym, subst, ap, ◌∙◌, arith, append_assoc, append-nil, length-append}
-use Rattle.std.specs.Prelude.{slice_get, IsSomeAnd}
+use Rattle.std.proofs.Common.{◌≡◌, ◌≢◌, ℕ, ◌+◌, ◌<◌, ◌≤◌, List, [], ◌∷◌, ◌++◌, Bool, true, false, ◌||◌, ◌&&◌, is_some, eqb, cond, length, Option, Some, None, IfSome, refl, sym, subst, ap, ◌∙◌, arith, append_assoc, append-nil, length-append}
+use Rattle.std.specs.Prelude.{IsSomeAnd}
 use Rattle.std.specs.List.{AllPairs, AllByRecursion, Contains, cons_option, count_by, filter, list_any}
 use Rattle.std.proofs.lemmas.List.Elements.{All-from_recursion}
 use Rattle.std.proofs.lemmas.Bool.{eq-eqb, eqb-true, eqb-false}
 use Rattle.std.proofs.lemmas.List.Sums.{sum_by-cons}
 use Rattle.std.proofs.lemmas.Map.Views.{Contains-from_any}
-use Rattle.std.proofs.lemmas.Option.{slice_get_within}
 use Rattle.lst_probe.proofs.Counting.{distinct_are_few}
 use Rattle.std.proofs.lemmas.List.Kept.{AllPairs-cons}
-use Rattle.lst_model.specs.declared.acts.Write.{Write}
 use Rattle.lst_model.specs.declared.commits.Commit.{Commit}
 use Rattle.lst_model.specs.declared.lines.Line.{Line}
 use Rattle.lst_model.specs.declared.lines.Line.TheVariants.{Phase, Merge, Call}
@@ -19,12 +17,12 @@ use Rattle.lst_model.specs.declared.replies.Reply.TheVariants.{Begun, Done, Comm
 use Rattle.lst_replies.specs.declared.states.Transaction.{Transaction}
 use Rattle.lst_replies.specs.declared.states.SessionState.{SessionState}
 use Rattle.lst_replies.specs.Runs.{Answered, answered, run_of, is_by, write_of, commit_time, commit_times, names, speaker_of}
-use Rattle.lst_replies.specs.States.{with_write, after_call, after_line, state_from, state_of, unbegun, commit_of}
+use Rattle.lst_replies.specs.States.{after_call, after_line, state_from, state_of, unbegun, commit_of}
 use Rattle.lst_replies.specs.Explained.{commit_at}
 use Rattle.lst_replies.specs.ReplyKinds.{can_answer_merge, HaveReplyShape}
 use Rattle.lst_replies.specs.Legal.{IsEntered}
 use Rattle.lst_work_laws.specs.Laws.{commit_told, commits_told}
-use Rattle.lst_work_laws.proofs.Fronts.{state_on}
+use Rattle.lst_serial_laws.proofs.Numbers.{state_on, line_keeps, written, in_range}
 
 -- ---- only calls commit
 
@@ -57,11 +55,6 @@ pub record IsAbove (n : ℕ) (state : SessionState) : Type 0 where
 abbrev IsBegun : SessionState → Type 0
 IsBegun state = IfSome state.current (λ transaction. transaction.number ≤ state.begun)
 
-written : (P : ℕ → Type 0) (write : Option Write) (current : Option Transaction) → IfSome current (λ transaction. P transaction.number) → IfSome (with_write write current) (λ transaction. P transaction.number)
-written P None current h = h
-written P (Some write) None h = h
-written P (Some write) (Some transaction) h = h
-
 above_call : (n : ℕ) (call : CallKind) (reply : Reply) (state : SessionState) → IsAbove n state → IsAbove n (after_call call reply state)
 above_call n call (Begun time) state h = let low = h.begun in record { begun = omega arith; current = omega arith }
 above_call n call Done state h = record { begun = h.begun; current = written (λ k. n < k) (write_of call) state.current h.current }
@@ -77,19 +70,6 @@ begun_call call (Committed time) state h = tt
 begun_call call (Ended time) state h = tt
 begun_call call Aborted state h = tt
 begun_call call reply state h = h
-
--- what each call keeps, a line keeps
-line_keeps : (P : SessionState → Type 0) → ((call : CallKind) (reply : Reply) (state : SessionState) → P state → P (after_call call reply state)) → (s : ℕ) (one : Answered) (state : SessionState) → P state → P (after_line s one state)
-line_keeps P keeps s one state h = by_line one.line
-  where
-    by_test : (b : Bool) (call : CallKind) → P (cond b (after_call call one.reply state) state)
-    by_test true call = keeps call one.reply state h
-    by_test false call = h
-
-    by_line : (line : Line) → P (after_line s (answered line one.reply) state)
-    by_line Phase = h
-    by_line (Merge range column) = h
-    by_line (Call t call) = by_test (is_by s (answered (Call t call) one.reply)) call
 
 all_begun : (s : ℕ) (front : List Answered) (state : SessionState) → IsBegun state → IsBegun (state_from state s front)
 all_begun s [] state h = h
@@ -179,13 +159,6 @@ module _ (history : List Commit) where
           rest
 
 -- ---- every time is told
-
-in_range : (history : List Commit) (time : ℕ) (one : Commit) → commit_at history time ≡ Some one → (0 < time) × (time ≤ length history)
-in_range history time one at = by_test (eqb time 0) refl at
-  where
-    by_test : (b : Bool) → eqb time 0 ≡ b → cond b None (slice_get history (time - 1)) ≡ Some one → (0 < time) × (time ≤ length history)
-    by_test true is at = absurd (cc)
-    by_test false is at = let other = eqb-false time 0 is in let low = slice_get_within history (time - 1) one at in (omega arith, omega arith)
 
 pub times_within : (history : List Commit) (front run : List Answered) → AllByRecursion (λ (one : Answered). IsOfCall one.line one.reply) run → EnteredBehind history front run → AllByRecursion (λ time. (0 < time) × (time ≤ length history)) (commit_times run)
 times_within history front [] calls x = tt

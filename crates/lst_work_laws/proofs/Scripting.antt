@@ -39,7 +39,8 @@ use Rattle.lst_work_laws.proofs.Merges.{merging_answers}
 use Rattle.lst_work_laws.proofs.Mergers.{merges_among, merges_phase}
 use Rattle.lst_work_laws.proofs.Weaving.{own_times, own_state, own_part, woven_is_told}
 use Rattle.lst_work_laws.proofs.Lists.{element}
-use Rattle.lst_work_laws.proofs.Fronts.{split_middle, times_on, commits_on, state_on, ended_on, ended_low, CommitsLow, low_each, low_all, unended_before, run_last, run_then}
+use Rattle.lst_serial_laws.proofs.Numbers.{split_middle, state_on}
+use Rattle.lst_work_laws.proofs.Fronts.{times_on, commits_on, ended_on, ended_low, CommitsLow, low_each, low_all, unended_before, run_last, run_then}
 use Rattle.lst_work_laws.proofs.Mixing.{Answers, AnswersMerge, mixed, runs_kinds, shape_last, shape_then}
 
 -- At the front of a phase a session's state is the one that the run so far leaves of the state that it came in; it has seen every time that was

@@ -55,7 +55,7 @@ at_place history before one rest time is place =
     ap (λ (b : Bool). cond b None (slice_get history (time - 1))) (ne_eqb time 0 (λ e. absurd (omega arith)))
     ∙ slice_get_read history (length history) (time - 1) one refl (let h = ap length is in omega (arith, length-append before (one ∷ rest))) (sym (ap (λ (h : List Commit). get_or h (time - 1) one) is ∙ get_or_at before one rest one (time - 1) (omega arith)))
 
-any_write : (key : ℕ) (writes : List Write) → acts_on key writes ≢ [] → list_any (λ (write : Write). write.key == key) writes ≡ true
+pub any_write : (key : ℕ) (writes : List Write) → acts_on key writes ≢ [] → list_any (λ (write : Write). write.key == key) writes ≡ true
 any_write key [] some = absurd (some refl)
 any_write key (write ∷ writes) some = by_test (write.key == key) (any_write key writes) some
   where

@@ -17,11 +17,14 @@ use Rattle.lst_rule.specs.Surveys.{HostsAll}
 use Rattle.lst_rule.specs.Copies.{Includes}
 use Rattle.lst_pages.specs.Runs.{tps_known}
 use Rattle.lst_replies.specs.declared.reports.Report.{Report}
-use Rattle.lst_replies.specs.Legal.{IsLegal, stamp_of}
+use Rattle.lst_replies.specs.Runs.{run_of}
+use Rattle.lst_replies.specs.Legal.{stamp_of}
+use Rattle.lst_legal_runs.specs.declared.levels.Level.{Level}
 use Rattle.lst_session.specs.declared.session.Session.{Session}
 use Rattle.lst_session.specs.Calls.{SameWork, SameLists}
 use Rattle.lst_session.specs.Crews.{store_told}
 use Rattle.lst_session.specs.Parting.{known_by}
+use Rattle.lst_work_laws.specs.Keeping.{EachEnds, IsLegalUnder}
 use Rattle.lst_work_laws.specs.Scripts.{AreFresh}
 use Rattle.lst_work_laws.specs.Whole.{AreAll}
 use Rattle.lst_work_laws.specs.Works.{Works}
@@ -58,9 +61,9 @@ pub record AreTogether (store : Store) (sessions : List Session) (n w : View) : 
   pub merger : knows w w.limits.sessions ≡ knows n n.limits.sessions
 
 -- Where sessions that had done nothing have run a whole script and are gathered, a report of their replies, and of the commits that the store has,
--- is legal under the history that the store has
+-- is legal under the history that the store has, at the level at which the lines of each session end
 abbrev pub WorkedScriptIsLegal : Type 0
-WorkedScriptIsLegal = (store : Store) (lines : List Line) (old new : List Session) (m n w : View) (report : Report)
+WorkedScriptIsLegal = (level : Level) (store : Store) (lines : List Line) (old new : List Session) (m n w : View) (report : Report)
     → HaveDoneNothing store old m → AreAll store new → All (LineFits store.layout.limits.sessions store.layout.limits.ranges store.layout.limits.columns) lines
-    → Works store lines old new m n report.replies → AreTogether store new n w → Possible w → report.history ≡ map stamp_of (store_told w).history
-    → IsLegal store.layout.limits lines report (store_told w).history
+    → Works store lines old new m n report.replies → EachEnds level (run_of lines report.replies) old new → AreTogether store new n w → Possible w → report.history ≡ map stamp_of (store_told w).history
+    → IsLegalUnder level store.layout.limits lines report (store_told w).history

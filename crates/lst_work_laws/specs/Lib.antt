@@ -1,4 +1,5 @@
 pub mod Explained
+pub mod Keeping
 pub mod Laws
 pub mod Legal
 pub mod Lines

@@ -19,7 +19,8 @@ use Rattle.lst_replies.specs.declared.states.Transaction.{Transaction}
 use Rattle.lst_replies.specs.declared.states.SessionState.{SessionState}
 use Rattle.lst_replies.specs.Runs.{write_of, key_of, is_insert_call, takes_no_record, takes_no_latch}
 use Rattle.lst_replies.specs.States.{after_call, commit_of, time_told}
-use Rattle.lst_replies.specs.Explained.{commit_at, TimeIsBounded, ReadIsAnswered, StateIsTold, WriteIsAnswered}
+use Rattle.lst_replies.specs.Explained.{commit_at, TimeIsBounded, ReadIsAnswered, WriteIsAnswered}
+use Rattle.lst_replies.specs.Levels.{StateIsToldAtAnyLevel}
 use Rattle.lst_replies.specs.ReplyKinds.{can_answer}
 
 -- ---- the state of a session, as its view tells it
@@ -32,11 +33,12 @@ session_told k = record { begun = k.number; current = cond k.is_open (Some (tran
 
 -- ---- what a reply tells
 
--- the rules of a legal report that speak of one line of one session: its times, reads, refusals by the session's state, and writes
+-- the rules of a legal report that speak of one line of one session: its times, reads, refusals by the session's state, and writes. The one on ends is
+-- that of any level of isolation
 pub record Tells (limits : Limits) (history : List Commit) (floor : ℕ) (state : SessionState) (call : Call) (reply : Reply) : Type 0 where
   pub times : TimeIsBounded history floor call reply
   pub reads : ReadIsAnswered limits history state.current call reply
-  pub refusals : StateIsTold limits state call reply
+  pub refusals : StateIsToldAtAnyLevel limits state call reply
   pub writes : IfSome state.current (λ transaction. IfSome (write_of call) (λ write. WriteIsAnswered history transaction write reply))
 
 -- ---- what a reply leaves

@@ -13,7 +13,8 @@ use Rattle.lst_core_state.specs.State.{mine}
 use Rattle.lst_rule.specs.Seen.{HasKey}
 use Rattle.lst_replies.specs.Runs.{Answered, commit_times, run_of, AtEachCall, is_accepted, may_take_record}
 use Rattle.lst_replies.specs.States.{unbegun, state_of, floor_of}
-use Rattle.lst_replies.specs.Explained.{TimeIsBounded, ReadIsAnswered, StateIsTold, WriteIsAnswered, HasAccepted}
+use Rattle.lst_replies.specs.Explained.{TimeIsBounded, ReadIsAnswered, WriteIsAnswered, HasAccepted}
+use Rattle.lst_replies.specs.Levels.{StateIsToldAtAnyLevel}
 use Rattle.lst_replies.specs.ReplyKinds.{HaveReplyShape}
 use Rattle.lst_replies.specs.Legal.{IsEntered, AtEachWrite}
 use Rattle.lst_rule.specs.declared.store.Store.{Store}
@@ -40,13 +41,13 @@ AreFresh sessions = (s : ℕ) (d : Session) → s < length sessions → IsFresh 
 abbrev pub GoesOn : List Commit → List Session → Type 0
 GoesOn history sessions = (s : ℕ) (d : Session) → s < length sessions → Extends history (known_by (slice_index_or sessions s d)).seen
 
--- the rules of a legal report that speak of one line of one session, each at every line of a run
+-- the rules of a legal report, at any level of isolation, that speak of one line of one session, each at every line of a run
 pub record RunIsTold (limits : Limits) (run : List Answered) (history : List Commit) : Type 0 where
   pub entered : AtEachCall (IsEntered history) run
   pub once : AllPairs (λ time other. time ≢ other) (commit_times run)
   pub times : AtEachCall (λ before session call reply. TimeIsBounded history (floor_of session before) call reply) run
   pub reads : AtEachCall (λ before session call reply. ReadIsAnswered limits history (state_of session before).current call reply) run
-  pub refusals : AtEachCall (λ before session call reply. StateIsTold limits (state_of session before) call reply) run
+  pub refusals : AtEachCall (λ before session call reply. StateIsToldAtAnyLevel limits (state_of session before) call reply) run
   pub writes : AtEachWrite (λ before session transaction write reply. WriteIsAnswered history transaction write reply) run
 
 -- the record of this write has a key on which the session's transaction of its number has a write that was accepted, somewhere in the run

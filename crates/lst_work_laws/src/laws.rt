@@ -1,5 +1,6 @@
 //! The laws. Each function is a law: its contract holds at all values, and its body does nothing.
 ghost use Rattle.lst_work_laws.specs.Explained.{TailsAreWritten, ScriptIsExplained};
+ghost use Rattle.lst_work_laws.specs.Keeping.{LinesCarryOn};
 ghost use Rattle.lst_work_laws.specs.Legal.{WorkedScriptIsLegal};
 ghost use Rattle.lst_work_laws.specs.Scripts.{ScriptIsTold};
 
@@ -19,8 +20,14 @@ pub fn tails_are_written()
     ensures { TailsAreWritten }
 {}
 
+/// What a session keeps along its own lines, at its level of isolation, it keeps with one line more: at the serializable level what its open transaction
+/// has read, so that what was read is in place at each commit, and was changed where one is told stale.
+pub fn lines_carry_on()
+    ensures { LinesCarryOn }
+{}
+
 /// Where sessions that had done nothing have run a whole script and are gathered, a report of their replies and of the store's commits is legal,
-/// under the history that the store has.
+/// under the history that the store has, at the level of isolation at which the lines of each session end.
 pub fn worked_script_is_legal()
     ensures { WorkedScriptIsLegal }
 {}

@@ -5,7 +5,7 @@ use Rattle.lst_replies.specs.Runs.{AtEachCall}
 use Rattle.lst_replies.specs.States.{state_of}
 use Rattle.lst_legal_runs.specs.Places.{run_at}
 use Rattle.lst_legal_runs.proofs.Deciding.{is_false, passes, refuses}
-use Rattle.lst_legal.specs.Serial.{StaleIsExplained}
+use Rattle.lst_serial_laws.specs.Legal.{StaleIsExplained}
 use Rattle.lst_legal.proofs.judging.follows_serial.Goals as goal
 
 pub returns-then-not-branch : goal.returns-then-not-branch

@@ -6,7 +6,7 @@ use Rattle.lst_legal_runs.proofs.Deciding.{is_false, passes, refuses}
 use Rattle.lst_legal_runs.proofs.Splits.{so_far_step, so_far_wrong, of_calls}
 use Rattle.lst_legal_runs.proofs.Placing.{run_more, traced_read}
 use Rattle.lst_legal_runs.proofs.Stepping.{speaker_within}
-use Rattle.lst_legal.specs.Serial.{StaleIsExplained}
+use Rattle.lst_serial_laws.specs.Legal.{StaleIsExplained}
 use Rattle.lst_legal.specs.Serials.{AreReads, TellsStale}
 use Rattle.lst_legal.proofs.stales.are_explained_with.Goals as goal
 

@@ -9,7 +9,7 @@ use Rattle.lst_legal_runs.specs.declared.outlines.StateOutline.{StateOutline}
 use Rattle.lst_legal_runs.specs.Outlines.{outline_of}
 use Rattle.lst_legal_runs.specs.Places.{outline_at}
 use Rattle.lst_legal.specs.declared.stales.Reads.{Reads}
-use Rattle.lst_legal.specs.Serial.{lines_since_begin}
+use Rattle.lst_serial_laws.specs.Legal.{lines_since_begin}
 use Rattle.lst_legal.specs.Serials.{AreReads, AreReadsOf, TellsStale}
 use Rattle.lst_legal.proofs.Rereading.{reads_phase, reads_merge, reads_call}
 use Rattle.lst_legal.proofs.stales.pass.Goals as goal

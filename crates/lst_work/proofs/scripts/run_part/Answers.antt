@@ -12,5 +12,5 @@ phase_onto-requires-clause-can g c κs within = let l = c.args.store.now.layout.
 pub returns-clause-part : goal.returns-clause-part
 returns-clause-part g c = let e = c.phase_end-end.ensures in let x = c.in_ok-sessions.ensures.phase in
     grown_as _ c.args.replies.now.items c.phase_onto.new.replies.items _ x
-    (part_is c.args.store.now c.args.lines.now c.lines_between-phase.result.now c.args.start c.phase_end-end.result c.args.sessions.items c.in_ok-sessions.sessions.items c.args.merger.now.seat.view c.phase_onto.new.merger.seat.view x.added
+    (part_is c.args.store.now c.args.level c.args.lines.now c.lines_between-phase.result.now c.args.start c.phase_end-end.result c.args.sessions.items c.in_ok-sessions.sessions.items c.args.reads.items c.in_ok-sessions.reads.items c.args.merger.now.seat.view c.phase_onto.new.merger.seat.view x.added
     c.requires.fits e.from e.most e.within e.end c.lines_between-phase.ensures c.in_ok-sessions.ensures.all x.so)

@@ -1,6 +1,6 @@
 use Rattle.std.proofs.Common.{sym, ◌∙◌}
 use Rattle.std.proofs.lemmas.Result.{IfOk-weaker}
-use Rattle.lst_legal.specs.Serial.{lines_since_begin}
+use Rattle.lst_serial_laws.specs.Legal.{lines_since_begin}
 use Rattle.lst_legal.proofs.Rereading.{at_stale}
 use Rattle.lst_legal.proofs.stales.Reads.explain.Goals as goal
 

@@ -1,5 +1,0 @@
-use Rattle.lst_serial.proofs.Staying.{answers_stay}
-use Rattle.lst_serial.proofs.laws.answers_stay.Goals as goal
-
-pub returns : goal.returns
-returns c = answers_stay

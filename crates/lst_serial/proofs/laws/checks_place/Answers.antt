@@ -1,5 +1,0 @@
-use Rattle.lst_serial.proofs.Placing.{checks_place}
-use Rattle.lst_serial.proofs.laws.checks_place.Goals as goal
-
-pub returns : goal.returns
-returns c = checks_place

@@ -1,5 +1,0 @@
-use Rattle.lst_serial.proofs.Placing.{unchanged_is_placed}
-use Rattle.lst_serial.proofs.laws.unchanged_is_placed.Goals as goal
-
-pub returns : goal.returns
-returns c = unchanged_is_placed

@@ -1,0 +1,4 @@
+pub mod Placing
+pub mod Staying
+pub mod Numbers
+pub mod Ending
