@@ -33,8 +33,10 @@ use Rattle.lst_replay.specs.Puts.{ArePutsFrom, HasRoomForRows, after_one, one_co
 use Rattle.lst_script.specs.declared.scripts.Named.{Named}
 use Rattle.lst_script.specs.Scripts.{IsNamed, AnswersUnlessMemory}
 use Rattle.lst_script.proofs.Versions.{answers_named}
-use Rattle.lst_command.specs.Owed.{OwesTable, dump_of}
-use Rattle.lst_command.specs.TablesAgain.{ImportIsScript, TablesComeBack}
+use Rattle.lst_command.specs.Owed.{OwesDump, OwesTable, dump_of}
+use Rattle.lst_command.specs.Runs.{Left}
+use Rattle.lst_dumps.specs.Dumps.{DumpsAreTables, IsDumped, last_table}
+use Rattle.lst_command.specs.TablesAgain.{ComesBack, DumpsComeBack, ImportIsScript, TablesComeBack}
 
 -- ---- the machine's store behind the script
 
@@ -132,3 +134,16 @@ tables_come_back committed importing limits names table text valid same is =
           let one : owed.named ≡ found = one_named limits script owed.named found owed.is_named (subst (IsNamed limits script) named read) in
           owed.is_text ∙ ap (λ (n : Named). dump_of limits n.names n.script) one ∙ dumped_again committed limits names table valid room ∙ sym is.is_text;
     }
+
+-- ---- what any dump owes
+
+few_rows : (limits : Limits) (rows : ℕ) → IsValid limits → rows ≤ 256 * limits.ranges → rows ≤ 16384
+few_rows limits rows valid few = arith few valid.ranges.1
+
+pub dumps_come_back : PutsAreCommitted → DumpsAreTables → DumpsComeBack
+dumps_come_back committed tables importing limits input text left valid same owed =
+    let table = last_table limits owed.named.script in
+    let is : IsDumped limits owed.named.names table = tables limits input owed.named valid owed.is_named in
+    let back : ComesBack importing limits table text = tables_come_back committed importing limits owed.named.names table text valid same
+        (record { named = is.named; few = few_rows limits (count_of table) valid is.few; rows = is.rows; is_text = owed.is_text }) in
+    record { taken = back.taken; same = λ tails. back.same (record { keys = is.few; tails = inr tails }) }

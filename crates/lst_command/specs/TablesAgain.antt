@@ -32,3 +32,12 @@ pub record ComesBack (importing limits : Limits) (table : Rows) (text : List ℕ
 abbrev pub TablesComeBack : Type 0
 TablesComeBack = (importing limits : Limits) (names : List (List ℕ)) (table : Rows) (text : List ℕ) → IsValid limits → importing.columns ≡ limits.columns → IsTextOfTable limits.columns names table text
     → ComesBack importing limits table text
+
+-- What any dump owes is such a text: an import takes it, and of what it owes for it, under limits with 256 tail records for each range or more, a dump owes
+-- the same text, byte for byte
+pub record DumpComesBack (importing limits : Limits) (text : List ℕ) : Type 0 where
+  pub taken : OwesTable importing text (import_of (records_of text))
+  pub same : 256 ≤ limits.tails → (script again : List ℕ) (left : Left) → OwesTable importing text script → OwesDump limits script again left → again ≡ text
+
+abbrev pub DumpsComeBack : Type 0
+DumpsComeBack = (importing limits : Limits) (input text : List ℕ) (left : Left) → IsValid limits → importing.columns ≡ limits.columns → OwesDump limits input text left → DumpComesBack importing limits text

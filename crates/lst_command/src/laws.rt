@@ -9,8 +9,9 @@ ghost use Rattle.lst_command.specs.Merges.{other_text};
 ghost use Rattle.lst_command.specs.Loads.{LoadsReadNothing};
 ghost use Rattle.lst_command.specs.Runs.{RunsAreSound};
 ghost use Rattle.lst_command.specs.Reported.{WorkIsJudgedLegal};
-ghost use Rattle.lst_command.specs.TablesAgain.{ImportIsScript, TablesComeBack};
+ghost use Rattle.lst_command.specs.TablesAgain.{DumpsComeBack, ImportIsScript, TablesComeBack};
 
+use lst_dumps::dumps_are_tables;
 use lst_replay::puts_are_committed;
 
 /// An input is one script at most, so a run has one output alone. The contract is a law; the body does nothing.
@@ -48,13 +49,16 @@ pub fn work_is_judged_legal()
     ensures { WorkIsJudgedLegal }
 {}
 
-/// What an import owes is read as a script, under any limits with as many columns. An import takes the text of a table of at most 16,384 rows, as `dump`
-/// may write it; and what a dump owes for the script that the import owes is the same text, byte for byte. For that a new store has to have room for the
-/// rows: no more than 256 for each range, and as many tail records in a range as there are rows, or 256. A table with no rows needs none. The contract is a
+/// What an import owes is read as a script, under any limits with as many columns. An import takes the text of a table of at most 16,384 rows; and what a
+/// dump owes for the script that the import owes is the same text, byte for byte. For that a new store has to have room for the
+/// rows: no more than 256 for each range, and as many tail records in a range as there are rows, or 256. A table with no rows needs none. What any dump owes
+/// is such a text, and its rows have room under the limits of the dump where these have 256 tail records for each range or more. The contract is a
 /// law; the body does nothing.
 pub fn tables_come_back()
     ensures script { ImportIsScript }
     ensures same { TablesComeBack }
+    ensures dumped { DumpsComeBack }
 {
     puts_are_committed();
+    dumps_are_tables();
 }
