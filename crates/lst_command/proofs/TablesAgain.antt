@@ -145,5 +145,5 @@ dumps_come_back committed tables importing limits input text left valid same owe
     let table = last_table limits owed.named.script in
     let is : IsDumped limits owed.named.names table = tables limits input owed.named valid owed.is_named in
     let back : ComesBack importing limits table text = tables_come_back committed importing limits owed.named.names table text valid same
-        (record { named = is.named; few = few_rows limits (count_of table) valid is.few; rows = is.rows; is_text = owed.is_text }) in
+    (record { named = is.named; few = few_rows limits (count_of table) valid is.few; rows = is.rows; is_text = owed.is_text }) in
     record { taken = back.taken; same = λ tails. back.same (record { keys = is.few; tails = inr tails }) }

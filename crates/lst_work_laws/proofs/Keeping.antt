@@ -117,9 +117,9 @@ module _ (s : ℕ) (call : CallKind) (reply : Reply) (own : List Answered) where
       ends_on : EndAll level state s (own ++ one ∷ []) new.known.seen
       ends_on history goes before c r after e = ⊎_elim
           (λ (h : (before ≡ own) × (answered (Call s c) r ≡ one)).
-              subst (λ (b : List Answered). EndsAt level history b s (state_from state s b).current r) (sym h.0)
-              (subst (λ (a : Reply). EndsAt level history own s (state_from state s own).current a) (sym (ap (λ (o : Answered). o.reply) h.1))
-              (subst (λ (st : SessionState). EndsAt level history own s st.current reply) kept.told (ends_here history goes level x kept.reads))))
+          subst (λ (b : List Answered). EndsAt level history b s (state_from state s b).current r) (sym h.0)
+          (subst (λ (a : Reply). EndsAt level history own s (state_from state s own).current a) (sym (ap (λ (o : Answered). o.reply) h.1))
+          (subst (λ (st : SessionState). EndsAt level history own s st.current reply) kept.told (ends_here history goes level x kept.reads))))
           (λ (h : (rest : List Answered) × (own ≡ before ++ answered (Call s c) r ∷ rest)). kept.ends history (extends_on old.known.seen new.known.seen history later goes) before c r h.0 h.1)
           (split_push own one before (answered (Call s c) r) after e)
 

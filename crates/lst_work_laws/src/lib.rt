@@ -9,4 +9,6 @@
 
 mod laws;
 
-pub use laws::{lines_carry_on, script_is_explained, script_is_told, tails_are_written, worked_script_is_legal};
+pub use laws::{
+    lines_carry_on, script_is_explained, script_is_told, tails_are_written, worked_script_is_legal,
+};
