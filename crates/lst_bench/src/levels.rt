@@ -8,7 +8,7 @@ use crate::engines::{drawn, patch};
 use crate::reads::put;
 use crate::sums::merge_all;
 use lst_layout::Limits;
-use lst_model::OutOfMemory;
+use lst_model::{Key, OutOfMemory};
 use lst_rule::Store;
 use lst_serial::Serial;
 use lst_session::{Crew, Session, Sessions, open_crew};
@@ -56,6 +56,17 @@ pub(crate) fn course_of(kind: &str) -> Option<Course> {
     Some(Course { level, merged })
 }
 
+/// A session on its store. Each call tells whether it was done.
+trait Hosts {
+    fn begin(&mut self) -> bool;
+
+    fn update(&mut self, key: Key) -> bool;
+
+    fn get(&mut self, key: Key) -> bool;
+
+    fn commit(&mut self) -> bool;
+}
+
 /// A store of two columns, and its session.
 #[derive(Drop)]
 struct Opened {
@@ -64,32 +75,21 @@ struct Opened {
     ghost own: { IsReady store session × (store.layout.limits.columns ≡ 2) },
 }
 
-impl Opened {
-    /// One transaction, on keys that are drawn. Whether it was committed.
-    fn transact(&mut self, seed: &mut u64) -> bool {
-        if self.session.begin(&self.store).is_err() {
-            return false;
-        }
-        let key = drawn(seed, KEYS);
-        if self.session.update(&self.store, key, &patch(key)).is_err() {
-            return false;
-        }
-        for _ in 0..3 {
-            if self.session.get(&self.store, drawn(seed, KEYS)).is_err() {
-                return false;
-            }
-        }
-        self.session.try_commit(&self.store).is_ok()
+impl Hosts for Opened {
+    fn begin(&mut self) -> bool {
+        self.session.begin(&self.store).is_ok()
     }
 
-    /// So many transactions, and how many of them were committed.
-    fn run(&mut self, count: u32) -> u64 {
-        let mut seed = 1;
-        let mut committed = 0u64;
-        for _ in 0..count {
-            committed = committed.wrapping_add(self.transact(&mut seed) as u64);
-        }
-        committed
+    fn update(&mut self, key: Key) -> bool {
+        self.session.update(&self.store, key, &patch(key)).is_ok()
+    }
+
+    fn get(&mut self, key: Key) -> bool {
+        self.session.get(&self.store, key).is_ok()
+    }
+
+    fn commit(&mut self) -> bool {
+        self.session.try_commit(&self.store).is_ok()
     }
 }
 
@@ -101,33 +101,45 @@ struct OpenedSerial {
     ghost own: { IsReady store serial.session × (store.layout.limits.columns ≡ 2) },
 }
 
-impl OpenedSerial {
-    /// The same transaction. Whether it was committed.
-    fn transact(&mut self, seed: &mut u64) -> bool {
-        if self.serial.begin(&self.store).is_err() {
-            return false;
-        }
-        let key = drawn(seed, KEYS);
-        if self.serial.update(&self.store, key, &patch(key)).is_err() {
-            return false;
-        }
-        for _ in 0..3 {
-            if self.serial.get(&self.store, drawn(seed, KEYS)).is_err() {
-                return false;
-            }
-        }
-        self.serial.try_commit(&self.store).is_ok()
+impl Hosts for OpenedSerial {
+    fn begin(&mut self) -> bool {
+        self.serial.begin(&self.store).is_ok()
     }
 
-    /// So many transactions, and how many of them were committed.
-    fn run(&mut self, count: u32) -> u64 {
-        let mut seed = 1;
-        let mut committed = 0u64;
-        for _ in 0..count {
-            committed = committed.wrapping_add(self.transact(&mut seed) as u64);
-        }
-        committed
+    fn update(&mut self, key: Key) -> bool {
+        self.serial.update(&self.store, key, &patch(key)).is_ok()
     }
+
+    fn get(&mut self, key: Key) -> bool {
+        self.serial.get(&self.store, key).is_ok()
+    }
+
+    fn commit(&mut self) -> bool {
+        self.serial.try_commit(&self.store).is_ok()
+    }
+}
+
+/// One transaction, on keys that are drawn. Whether it was committed.
+fn transact<H: Hosts>(hosts: &mut H, seed: &mut u64) -> bool {
+    if !hosts.begin() || !hosts.update(drawn(seed, KEYS)) {
+        return false;
+    }
+    for _ in 0..3 {
+        if !hosts.get(drawn(seed, KEYS)) {
+            return false;
+        }
+    }
+    hosts.commit()
+}
+
+/// So many transactions, and how many of them were committed.
+fn transact_all<H: Hosts>(hosts: &mut H, count: u32) -> u64 {
+    let mut seed = 1;
+    let mut committed = 0u64;
+    for _ in 0..count {
+        committed = committed.wrapping_add(transact(hosts, &mut seed) as u64);
+    }
+    committed
 }
 
 /// Puts a row of each key by one transaction of session 0, and answers whether it was committed.
@@ -164,13 +176,17 @@ fn run(alloc: Global, store: Store, session: Session, level: Level, count: u32) 
     requires columns { store.layout.limits.columns ≡ 2 }
 {
     match level {
-        Level::Snapshot => Opened { store, session }.run(count),
+        Level::Snapshot => {
+            let mut opened = Opened { store, session };
+            transact_all(&mut opened, count)
+        }
         Level::Serializable => {
             if !session.is_idle() {
                 return 0;
             }
             let serial = Serial::new(alloc, session);
-            OpenedSerial { store, serial }.run(count)
+            let mut opened = OpenedSerial { store, serial };
+            transact_all(&mut opened, count)
         }
     }
 }
