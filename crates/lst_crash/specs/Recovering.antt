@@ -1,0 +1,81 @@
+-- A run through a journal, the images that its crash may leave, and what is recovered from one of them.
+use Rattle.std.specs.Prelude.{◌≡◌, ℕ, ◌≤◌, Bool, true, false, List, [], ◌++◌, length}
+use Rattle.lst_layout.specs.declared.limits.Limits.{Limits}
+use Rattle.lst_model.specs.declared.commits.Commit.{Commit}
+use Rattle.lst_model.specs.declared.lines.Line.{Line}
+use Rattle.lst_machine.specs.State.{opening}
+use Rattle.lst_machine.specs.Machine.{state_after}
+use Rattle.lst_disk.specs.declared.memory.MemDisk.{MemDisk}
+use Rattle.lst_disk.specs.Memory.{disk_content, disk_images, disk_left}
+use Rattle.lst_redo.specs.Journals.{StandsFor}
+use Rattle.lst_recovery.specs.Scripts.{lines_again}
+use Rattle.lst_replay.specs.Rests.{HasRoomFor}
+use Rattle.lst_rule.specs.declared.store.Store.{Store}
+use Rattle.lst_session.specs.declared.crew.Crew.{Crew}
+use Rattle.lst_session.specs.Crews.{IsCrewOf, TellsState, state_told}
+use Rattle.lst_journal.specs.declared.journal.Redo.{Redo}
+use Rattle.lst_journal.specs.Journals.{view_of, IsJournalOf}
+use Rattle.lst_crash.specs.Crashes.{most_bytes, Run, Ending, ending_from, ending_of, AreRecovered, crash_text, recovered_text, limits_again}
+
+-- ---- a run
+
+-- the journal is where the run stands, over a disk of so many bytes: it stands for the machine's history, and its crew tells the machine's state
+pub record IsAt (limits : Limits) (bytes : ℕ) (run : Run) (redo : Redo MemDisk) : Type 0 where
+  pub journal : IsJournalOf disk_content disk_images run.state.store.history redo
+  pub opened : (view_of redo).limits ≡ limits
+  pub told : state_told (view_of redo) ≡ run.state
+  pub end : redo.log.end ≡ run.end
+  pub left : disk_left redo.log.disk ≡ run.left
+  pub size : length (disk_content redo.log.disk) ≡ bytes
+  pub sound : redo.failed ≡ false
+
+-- with this text so far and these lines to come it ends so
+pub record IsRunning (limits : Limits) (bytes : ℕ) (redo : Redo MemDisk) (text : List ℕ) (rest : List Line) (ending : Ending) : Type 0 where
+  pub run : Run
+  pub at : IsAt limits bytes run redo
+  pub few : bytes ≤ most_bytes
+  pub ends : ending_from limits bytes run text rest ≡ ending
+
+-- ---- what a crash may leave
+
+-- these commits can be recovered from the image: it stands for them, and the second opening has room for them
+pub record IsRecoverable (limits : Limits) (commits : List Commit) (image : List ℕ) : Type 0 where
+  pub stands : StandsFor limits.columns image commits
+  pub room : HasRoomFor (limits_again limits) commits
+
+-- the run has ended: from each image that a crash may leave, commits that may be recovered can be
+pub record HasEnded (limits : Limits) (disk : MemDisk) (text : List ℕ) (ending : Ending) : Type 0 where
+  pub is_text : text ≡ ending.text
+  pub recoverable : (image : List ℕ) → disk_images disk image → (commits : List Commit) × AreRecovered ending commits × IsRecoverable limits commits image
+
+-- it has ended where the disk failed, and else goes on
+abbrev pub GoesOn : Bool → Limits → ℕ → Redo MemDisk → List ℕ → List Line → Ending → Type 0
+GoesOn true limits bytes redo text rest ending = HasEnded limits redo.log.disk text ending
+GoesOn false limits bytes redo text rest ending = IsRunning limits bytes redo text rest ending
+
+-- a whole run over a disk of so many bytes that makes so many calls
+abbrev pub IsStopped : Limits → ℕ → ℕ → List Line → List ℕ → MemDisk → Type 0
+IsStopped limits bytes stop script text disk = HasEnded limits disk text (ending_of limits bytes stop script)
+
+-- ---- what is recovered
+
+-- a store with these limits and its crew, which tells the machine's state behind the lines that run these commits again
+pub record HoldsAgain (limits : Limits) (commits : List Commit) (left : Store × Crew) : Type 0 where
+  pub opened : left.1.seat.view.limits ≡ limits
+  pub crew_of : IsCrewOf left.0 left.1
+  pub tells : TellsState left.1.seat.view
+  pub told : state_told left.1.seat.view ≡ state_after limits opening (lines_again commits)
+
+-- one of the disk's images was opened: the text tells the commits that it stands for, and the store holds them
+pub record HasRecovered (limits : Limits) (disk : MemDisk) (before text : List ℕ) (left : Store × Crew) : Type 0 where
+  pub image : List ℕ
+  pub left_so : disk_images disk image
+  pub is_text : (commits : List Commit) → IsRecoverable limits commits image → text ≡ before ++ recovered_text commits
+  pub holds : (commits : List Commit) → IsRecoverable limits commits image → HoldsAgain (limits_again limits) commits left
+
+-- a script was run through a journal and crashed: these commits were recovered, which the text tells, and the store that is left holds them
+pub record IsCrashed (limits : Limits) (bytes stop : ℕ) (script : List Line) (text : List ℕ) (left : Store × Crew) : Type 0 where
+  pub commits : List Commit
+  pub recovered : AreRecovered (ending_of limits bytes stop script) commits
+  pub is_text : text ≡ crash_text (ending_of limits bytes stop script) commits
+  pub holds : HoldsAgain (limits_again limits) commits left
