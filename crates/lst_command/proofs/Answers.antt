@@ -15,15 +15,16 @@ use Rattle.lst_report.specs.Claims.{IsClaim, report_part, script_lines}
 use Rattle.lst_report.specs.declared.claims.Claim.{Claim}
 use Rattle.lst_report.proofs.Claimed.{read_if_claim}
 use Rattle.lst_script.specs.declared.faults.ScriptFault.TheVariants as faults
+use Rattle.lst_options.specs.declared.crash.CrashOptions.{CrashOptions}
 use Rattle.lst_options.specs.declared.level.LevelOptions.{LevelOptions}
 use Rattle.lst_options.specs.declared.load.LoadNumbers.{LoadNumbers}
 use Rattle.lst_options.specs.declared.as_of.AsOfOptions.{AsOfOptions}
 use Rattle.lst_options.specs.Options.{NamesLimits, NamesLoad}
-use Rattle.lst_options.proofs.OneStore.{names_one, names_one_as_of, names_one_level, names_one_load, names_one_table}
+use Rattle.lst_options.proofs.OneStore.{names_one, names_one_as_of, names_one_level, names_one_load, names_one_table, names_one_crash}
 use Rattle.lst_command.specs.declared.command.Command.{Command}
 use Rattle.lst_command.specs.declared.command.Command.TheVariants.{Input, Load}
 use Rattle.lst_command.specs.declared.command.Task.{Task}
-use Rattle.lst_command.specs.declared.command.Task.TheVariants.{Run, Work, Check, Migrate, AsOf, Import, Dump}
+use Rattle.lst_command.specs.declared.command.Task.TheVariants.{Run, Work, Check, Migrate, AsOf, Import, Dump, Crash}
 use Rattle.lst_command.specs.Commands.{Names, NamesLoading, NamesOptions, NamesTask, task_word}
 use Rattle.lst_command.proofs.Naming.{no_load_word}
 use Rattle.lst_command.specs.Runs.{Left}
@@ -61,6 +62,7 @@ same_named options Run Migrate limits other word first second = let letter : 114
 same_named options Run (AsOf late) limits other word first second = let letter : 114 ≡ 97 = first_letter Run (AsOf late) word in absurd (omega (arith, letter))
 same_named options Run Import limits other word first second = let letter : 114 ≡ 105 = first_letter Run Import word in absurd (omega (arith, letter))
 same_named options Run Dump limits other word first second = let letter : 114 ≡ 100 = first_letter Run Dump word in absurd (omega (arith, letter))
+same_named options Run (Crash disk) limits other word first second = let letter : 114 ≡ 99 = first_letter Run (Crash disk) word in absurd (omega (arith, letter))
 same_named options (Work level) Run limits other word first second = let letter : 119 ≡ 114 = first_letter (Work level) Run word in absurd (omega (arith, letter))
 same_named options (Work level) (Work at) limits other word first second =
     ap (λ (o : LevelOptions). Input (Work o.level) o.limits) (names_one_level options (record { limits = limits; level = level }) (record { limits = other; level = at }) first second)
@@ -69,6 +71,7 @@ same_named options (Work level) Migrate limits other word first second = let let
 same_named options (Work level) (AsOf late) limits other word first second = let letter : 119 ≡ 97 = first_letter (Work level) (AsOf late) word in absurd (omega (arith, letter))
 same_named options (Work level) Import limits other word first second = let letter : 119 ≡ 105 = first_letter (Work level) Import word in absurd (omega (arith, letter))
 same_named options (Work level) Dump limits other word first second = let letter : 119 ≡ 100 = first_letter (Work level) Dump word in absurd (omega (arith, letter))
+same_named options (Work level) (Crash disk) limits other word first second = let letter : 119 ≡ 99 = first_letter (Work level) (Crash disk) word in absurd (omega (arith, letter))
 same_named options (Check level) Run limits other word first second = let letter : 99 ≡ 114 = first_letter (Check level) Run word in absurd (omega (arith, letter))
 same_named options (Check level) (Work at) limits other word first second = let letter : 99 ≡ 119 = first_letter (Check level) (Work at) word in absurd (omega (arith, letter))
 same_named options (Check level) (Check at) limits other word first second =
@@ -77,6 +80,7 @@ same_named options (Check level) Migrate limits other word first second = let le
 same_named options (Check level) (AsOf late) limits other word first second = let letter : 99 ≡ 97 = first_letter (Check level) (AsOf late) word in absurd (omega (arith, letter))
 same_named options (Check level) Import limits other word first second = let letter : 99 ≡ 105 = first_letter (Check level) Import word in absurd (omega (arith, letter))
 same_named options (Check level) Dump limits other word first second = let letter : 99 ≡ 100 = first_letter (Check level) Dump word in absurd (omega (arith, letter))
+same_named options (Check level) (Crash disk) limits other word first second = let letter : 104 ≡ 114 = ap (λ (letters : List ℕ). slice_index_or letters 1 0) word in absurd (omega (arith, letter))
 same_named options Migrate Run limits other word first second = let letter : 109 ≡ 114 = first_letter Migrate Run word in absurd (omega (arith, letter))
 same_named options Migrate (Work level) limits other word first second = let letter : 109 ≡ 119 = first_letter Migrate (Work level) word in absurd (omega (arith, letter))
 same_named options Migrate (Check level) limits other word first second = let letter : 109 ≡ 99 = first_letter Migrate (Check level) word in absurd (omega (arith, letter))
@@ -84,6 +88,7 @@ same_named options Migrate Migrate limits other word first second = ap (λ (l : 
 same_named options Migrate (AsOf late) limits other word first second = let letter : 109 ≡ 97 = first_letter Migrate (AsOf late) word in absurd (omega (arith, letter))
 same_named options Migrate Import limits other word first second = let letter : 109 ≡ 105 = first_letter Migrate Import word in absurd (omega (arith, letter))
 same_named options Migrate Dump limits other word first second = let letter : 109 ≡ 100 = first_letter Migrate Dump word in absurd (omega (arith, letter))
+same_named options Migrate (Crash disk) limits other word first second = let letter : 109 ≡ 99 = first_letter Migrate (Crash disk) word in absurd (omega (arith, letter))
 same_named options (AsOf time) Run limits other word first second = let letter : 97 ≡ 114 = first_letter (AsOf time) Run word in absurd (omega (arith, letter))
 same_named options (AsOf time) (Work level) limits other word first second = let letter : 97 ≡ 119 = first_letter (AsOf time) (Work level) word in absurd (omega (arith, letter))
 same_named options (AsOf time) (Check level) limits other word first second = let letter : 97 ≡ 99 = first_letter (AsOf time) (Check level) word in absurd (omega (arith, letter))
@@ -92,6 +97,7 @@ same_named options (AsOf time) (AsOf late) limits other word first second =
     ap (λ (o : AsOfOptions). Input (AsOf o.time) o.limits) (names_one_as_of options (record { limits = limits; time = time }) (record { limits = other; time = late }) first second)
 same_named options (AsOf time) Import limits other word first second = let letter : 97 ≡ 105 = first_letter (AsOf time) Import word in absurd (omega (arith, letter))
 same_named options (AsOf time) Dump limits other word first second = let letter : 97 ≡ 100 = first_letter (AsOf time) Dump word in absurd (omega (arith, letter))
+same_named options (AsOf time) (Crash disk) limits other word first second = let letter : 97 ≡ 99 = first_letter (AsOf time) (Crash disk) word in absurd (omega (arith, letter))
 same_named options Import Run limits other word first second = let letter : 105 ≡ 114 = first_letter Import Run word in absurd (omega (arith, letter))
 same_named options Import (Work level) limits other word first second = let letter : 105 ≡ 119 = first_letter Import (Work level) word in absurd (omega (arith, letter))
 same_named options Import (Check level) limits other word first second = let letter : 105 ≡ 99 = first_letter Import (Check level) word in absurd (omega (arith, letter))
@@ -99,6 +105,7 @@ same_named options Import Migrate limits other word first second = let letter : 
 same_named options Import (AsOf late) limits other word first second = let letter : 105 ≡ 97 = first_letter Import (AsOf late) word in absurd (omega (arith, letter))
 same_named options Import Import limits other word first second = ap (λ (l : Limits). Input Import l) (names_one_table options limits other first second)
 same_named options Import Dump limits other word first second = let letter : 105 ≡ 100 = first_letter Import Dump word in absurd (omega (arith, letter))
+same_named options Import (Crash disk) limits other word first second = let letter : 105 ≡ 99 = first_letter Import (Crash disk) word in absurd (omega (arith, letter))
 same_named options Dump Run limits other word first second = let letter : 100 ≡ 114 = first_letter Dump Run word in absurd (omega (arith, letter))
 same_named options Dump (Work level) limits other word first second = let letter : 100 ≡ 119 = first_letter Dump (Work level) word in absurd (omega (arith, letter))
 same_named options Dump (Check level) limits other word first second = let letter : 100 ≡ 99 = first_letter Dump (Check level) word in absurd (omega (arith, letter))
@@ -106,6 +113,16 @@ same_named options Dump Migrate limits other word first second = let letter : 10
 same_named options Dump (AsOf late) limits other word first second = let letter : 100 ≡ 97 = first_letter Dump (AsOf late) word in absurd (omega (arith, letter))
 same_named options Dump Import limits other word first second = let letter : 100 ≡ 105 = first_letter Dump Import word in absurd (omega (arith, letter))
 same_named options Dump Dump limits other word first second = ap (λ (l : Limits). Input Dump l) (names_one options limits other first second)
+same_named options Dump (Crash disk) limits other word first second = let letter : 100 ≡ 99 = first_letter Dump (Crash disk) word in absurd (omega (arith, letter))
+same_named options (Crash disk) Run limits other word first second = let letter : 99 ≡ 114 = first_letter (Crash disk) Run word in absurd (omega (arith, letter))
+same_named options (Crash disk) (Work level) limits other word first second = let letter : 99 ≡ 119 = first_letter (Crash disk) (Work level) word in absurd (omega (arith, letter))
+same_named options (Crash disk) (Check level) limits other word first second = let letter : 114 ≡ 104 = ap (λ (letters : List ℕ). slice_index_or letters 1 0) word in absurd (omega (arith, letter))
+same_named options (Crash disk) Migrate limits other word first second = let letter : 99 ≡ 109 = first_letter (Crash disk) Migrate word in absurd (omega (arith, letter))
+same_named options (Crash disk) (AsOf time) limits other word first second = let letter : 99 ≡ 97 = first_letter (Crash disk) (AsOf time) word in absurd (omega (arith, letter))
+same_named options (Crash disk) Import limits other word first second = let letter : 99 ≡ 105 = first_letter (Crash disk) Import word in absurd (omega (arith, letter))
+same_named options (Crash disk) Dump limits other word first second = let letter : 99 ≡ 100 = first_letter (Crash disk) Dump word in absurd (omega (arith, letter))
+same_named options (Crash disk) (Crash second_disk) limits other word first second =
+    ap (λ (o : CrashOptions). Input (Crash o.disk) o.limits) (names_one_crash options (record { limits = limits; disk = disk }) (record { limits = other; disk = second_disk }) first second)
 
 -- words name one task with its limits at most, and one load
 one_input : (words : List (List ℕ)) (a b : Task) (limits other : Limits) → NamesTask words a limits → NamesTask words b other → Input a limits ≡ Input b other
@@ -154,6 +171,9 @@ not_both (AsOf time) limits input status line kind orderly faulty =
 not_both Dump limits input status line kind orderly faulty =
     let none = text_fault_none limits input orderly.0.0 orderly.0.1 in
     cc
+not_both (Crash disk) limits input status line kind orderly faulty =
+    let none = text_fault_none limits input orderly.0.0 orderly.0.1 in
+    cc
 not_both Import limits input status line kind orderly faulty = faulty
 not_both (Check level) limits input status line kind orderly faulty = read_if_claim limits input (Err (faults.Bad line kind)) faulty orderly.1.claim orderly.1.is_claim
 
@@ -167,6 +187,7 @@ not_both_table Import limits input status place kind orderly faulty =
     let none = orderly.0 in
     cc
 not_both_table Dump limits input status place kind orderly faulty = faulty
+not_both_table (Crash disk) limits input status place kind orderly faulty = faulty
 
 -- an input is one claim at most
 one_report : (columns : ℕ) (some : 0 < columns) (text : List ℕ) (a b : Report) → IsReportText columns text a → IsReportText columns text b → a ≡ b
@@ -200,6 +221,7 @@ one_status Migrate limits input a b orderly other = orderly.1 ∙ sym other.1
 one_status (AsOf time) limits input a b orderly other = orderly.1 ∙ sym other.1
 one_status Import limits input a b orderly other = orderly.1 ∙ sym other.1
 one_status Dump limits input a b orderly other = orderly.1 ∙ sym other.1
+one_status (Crash disk) limits input a b orderly other = orderly.1 ∙ sym other.1
 one_status (Check level) limits input a b orderly other =
     let same = one_claim limits orderly.1.wide input orderly.1.claim other.1.claim orderly.1.is_claim other.1.is_claim in
     one_verdict level limits other.1.claim orderly.0 other.0 a b (subst (λ (claim : Claim). IsVerdict level limits claim orderly.0 a) same orderly.1.verdict) other.1.verdict
@@ -213,6 +235,7 @@ owed_orderly Migrate limits input text status old new owed = ((owed.0.named.scri
 owed_orderly (AsOf time) limits input text status old new owed = ((owed.0.script, owed.0.is_script), owed.1)
 owed_orderly Import limits input text status old new owed = (owed.0.faultless, owed.1)
 owed_orderly Dump limits input text status old new owed = ((owed.0.named.script, (owed.0.named.names, owed.0.is_named)), owed.1)
+owed_orderly (Crash disk) limits input text status old new owed = ((owed.0.script, owed.0.is_script), owed.1)
 
 in_order : (command : Command) (source : Change) (input text : List ℕ) (status : Status) (old new : Left) → source.before.bytes ≡ Some input → Makes command source text status old new → IsInOrder command input status
 in_order (Input task limits) source input text status old new told made =

@@ -13,7 +13,7 @@ use Rattle.lst_options.specs.declared.load.LoadNumbers.{LoadNumbers}
 use Rattle.lst_command.specs.declared.command.Command.{Command}
 use Rattle.lst_command.specs.declared.command.Command.TheVariants.{Input, Load}
 use Rattle.lst_command.specs.declared.command.Task.{Task}
-use Rattle.lst_command.specs.declared.command.Task.TheVariants.{Run, Work, Check, Migrate, AsOf, Import, Dump}
+use Rattle.lst_command.specs.declared.command.Task.TheVariants.{Run, Work, Check, Migrate, AsOf, Import, Dump, Crash}
 use Rattle.lst_command.specs.declared.output.Output.{Output}
 use Rattle.lst_command.specs.declared.status.Status.{Status}
 use Rattle.lst_command.specs.declared.status.Status.TheVariants.{Done, Illegal, Usage, BadScript, TooLong, ReadFault, WriteFault, OutOfMemory, BadTable}
@@ -49,6 +49,7 @@ final Migrate limits input text status old new owed = subst IsFinal (sym owed.1)
 final (AsOf time) limits input text status old new owed = subst IsFinal (sym owed.1) tt
 final Import limits input text status old new owed = subst IsFinal (sym owed.1) tt
 final Dump limits input text status old new owed = subst IsFinal (sym owed.1) tt
+final (Crash disk) limits input text status old new owed = subst IsFinal (sym owed.1) tt
 final (Check level) limits input text status old new owed = elim owed.0.verdict [
   | inl legal ↦ subst IsFinal (sym legal.2) tt
   | inr illegal ↦ subst IsFinal (sym illegal.2) tt
@@ -107,6 +108,16 @@ taken_over Dump limits input text status both old new owed over = (
     named = owed.0.named;
     is_named = owed.0.is_named;
     is_text = owed.0.is_text;
+    both = owed.0.both;
+    is_left = is_over both old new owed.0.both owed.0.is_left over;
+    by = owed.0.by;
+  },
+  owed.1,
+)
+taken_over (Crash disk) limits input text status both old new owed over = (
+  record {
+    script = owed.0.script;
+    is_script = owed.0.is_script;
     both = owed.0.both;
     is_left = is_over both old new owed.0.both owed.0.is_left over;
     by = owed.0.by;

@@ -11,3 +11,4 @@ mod Pasts
 mod Dumps
 mod Reported
 mod TablesAgain
+mod Crashes

@@ -4,6 +4,7 @@ use Rattle.lst_model.specs.declared.lines.Line.{Line}
 use Rattle.lst_layout.specs.declared.layout.Layout.{Layout}
 use Rattle.lst_layout.specs.Limits.{IsValid}
 use Rattle.lst_layout.specs.declared.limits.Limits.{Limits}
+use Rattle.lst_crash.specs.Recovering.{IsCrashed}
 use Rattle.lst_csv.specs.declared.faults.TableFault.{TableFault}
 use Rattle.lst_csv.specs.Importing.{import_of}
 use Rattle.lst_csv.specs.Records.{records_of}
@@ -15,6 +16,7 @@ use Rattle.lst_work.specs.Loaded.{IsLoaded}
 use Rattle.lst_machine.specs.State.{opening}
 use Rattle.lst_machine.specs.Machine.{replies, state_after}
 use Rattle.lst_past.specs.Past.{number_line, past_text}
+use Rattle.lst_options.specs.declared.crash.DiskOptions.{DiskOptions}
 use Rattle.lst_options.specs.declared.load.LoadNumbers.{LoadNumbers}
 use Rattle.lst_replies.specs.declared.reports.Report.{Report}
 use Rattle.lst_legal.specs.Judged.{IsLegalAt}
@@ -32,7 +34,7 @@ use Rattle.lst_session.specs.declared.crew.Crew.{Crew}
 use Rattle.lst_command.specs.declared.command.Command.{Command}
 use Rattle.lst_command.specs.declared.command.Command.TheVariants.{Input, Load}
 use Rattle.lst_command.specs.declared.command.Task.{Task}
-use Rattle.lst_command.specs.declared.command.Task.TheVariants.{Run, Work, Check, Migrate, AsOf, Import, Dump}
+use Rattle.lst_command.specs.declared.command.Task.TheVariants.{Run, Work, Check, Migrate, AsOf, Import, Dump, Crash}
 use Rattle.lst_command.specs.declared.status.Status.{Status}
 use Rattle.lst_command.specs.declared.status.Status.TheVariants.{Done, Illegal}
 use Rattle.lst_command.specs.Runs.{Left, LeftBy}
@@ -134,6 +136,16 @@ pub record OwesDump (limits : Limits) (input text : List ℕ) (left : Left) : Ty
   pub is_left : left ≡ Some both
   pub by : LeftBy limits named.script both
 
+-- ---- what a crash owes
+
+-- the input is this script, which was run through a journal and crashed: the text tells that, and what was recovered, and this store and crew are left, which hold it
+pub record OwesCrash (disk : DiskOptions) (limits : Limits) (input text : List ℕ) (left : Left) : Type 0 where
+  pub script : List Line
+  pub is_script : IsScript limits input script
+  pub both : Store × Crew
+  pub is_left : left ≡ Some both
+  pub by : IsCrashed limits disk.bytes disk.stop script text both
+
 -- ---- what a load owes
 
 -- how many rows there are, and what they add up to
@@ -161,6 +173,7 @@ OwesFor Migrate limits input text status old new = OwesMigration limits input te
 OwesFor (AsOf time) limits input text status old new = OwesPast time limits input text new × (status ≡ Done)
 OwesFor Import limits input text status old new = OwesTable limits input text × (status ≡ Done) × (new ≡ old)
 OwesFor Dump limits input text status old new = OwesDump limits input text new × (status ≡ Done)
+OwesFor (Crash disk) limits input text status old new = OwesCrash disk limits input text new × (status ≡ Done)
 
 -- the input's first faulty line for this task; a table has no lines
 abbrev pub IsFaultFor : Task → Limits → List ℕ → ℕ → FaultKind → Type 0
@@ -171,6 +184,7 @@ IsFaultFor Migrate limits input line kind = text_fault limits input ≡ Some (li
 IsFaultFor (AsOf time) limits input line kind = text_fault limits input ≡ Some (line, kind)
 IsFaultFor Import limits input line kind = ⊥
 IsFaultFor Dump limits input line kind = text_fault limits input ≡ Some (line, kind)
+IsFaultFor (Crash disk) limits input line kind = text_fault limits input ≡ Some (line, kind)
 
 -- the input's first faulty record, where the task takes a table
 abbrev pub IsTableFaultFor : Task → Limits → List ℕ → ℕ → TableFault → Type 0
@@ -201,6 +215,7 @@ IsOrderlyFor Migrate limits input status = IsAnyScript limits input × (status �
 IsOrderlyFor (AsOf time) limits input status = IsAnyScript limits input × (status ≡ Done)
 IsOrderlyFor Import limits input status = (table_fault limits.columns (records_of input) ≡ None) × (status ≡ Done)
 IsOrderlyFor Dump limits input status = IsAnyScript limits input × (status ≡ Done)
+IsOrderlyFor (Crash disk) limits input status = IsAnyScript limits input × (status ≡ Done)
 
 -- the input isn't too long, is in order for this task, and this status is due to it
 pub record IsInOrderFor (task : Task) (limits : Limits) (input : List ℕ) (status : Status) : Type 0 where

@@ -7,7 +7,8 @@ use lst_layout::Limits;
 use lst_legal::Level;
 use lst_model::{OutOfMemory, Time};
 use lst_options::{
-    LoadNumbers, as_of_of_words, level_of_words, limits_of_words, load_of_words, table_of_words,
+    DiskOptions, LoadNumbers, as_of_of_words, crash_of_words, level_of_words, limits_of_words,
+    load_of_words, table_of_words,
 };
 use std::alloc::Global;
 
@@ -28,6 +29,8 @@ pub enum Task {
     Import,
     /// The input is a script, which is run line by line, and the table that its commits make is written as comma-separated values: `dump`.
     Dump,
+    /// The input is a script, which is run line by line through a journal on a disk in memory. The disk crashes and is opened again: `crash`.
+    Crash { disk: DiskOptions },
 }
 
 /// What is to be done.
@@ -55,6 +58,9 @@ pub(crate) fn command_of(alloc: Global, words: &[String]) -> Result<Option<Comma
     }
     if begins_with_import(words) {
         return import_named(alloc, words);
+    }
+    if begins_with_crash(words) {
+        return crash_named(alloc, words);
     }
     match task_of(words) {
         Some(task) => task_named(alloc, task, words),
@@ -139,6 +145,21 @@ fn import_named(alloc: Global, words: &[String]) -> Result<Option<Command>, OutO
     }
 }
 
+/// The command that words name whose first is `crash`.
+fn crash_named(alloc: Global, words: &[String]) -> Result<Option<Command>, OutOfMemory>
+    requires { slice_get (map string_bytes words.now) 0 ≡ Some (codes "crash") }
+    ensures told { IfOk result (TellsCommand (map string_bytes words.now)) }
+    ensures valid { IfOk result (λ command. IfSome command IsRunnable) }
+{
+    match crash_of_words(alloc, words)? {
+        Some(options) => Ok(Some(Command::Input {
+            task: Task::Crash { disk: options.disk },
+            limits: options.limits,
+        })),
+        None => Ok(None),
+    }
+}
+
 /// The command that words name whose first is the word of no task.
 fn load_named(alloc: Global, words: &[String]) -> Result<Option<Command>, OutOfMemory>
     requires { (task : TaskNamed) → ¬ (slice_get (map string_bytes words.now) 0 ≡ Some (task_word task)) }
@@ -189,12 +210,20 @@ fn begins_with_import(words: &[String]) -> bool
     !words.is_empty() && is_word(&words[0], b"import")
 }
 
+/// Whether the first word is that of a run that is crashed.
+fn begins_with_crash(words: &[String]) -> bool
+    ensures { IsTrue result ↔ (slice_get (map string_bytes words.now) 0 ≡ Some (codes "crash")) }
+{
+    !words.is_empty() && is_word(&words[0], b"crash")
+}
+
 /// The task that the first word names, where no other options than those of a store stand behind it.
 fn task_of(words: &[String]) -> Option<Task>
     requires work { ¬ (slice_get (map string_bytes words.now) 0 ≡ Some (codes "work")) }
     requires check { ¬ (slice_get (map string_bytes words.now) 0 ≡ Some (codes "check")) }
     requires past { ¬ (slice_get (map string_bytes words.now) 0 ≡ Some (codes "asof")) }
     requires table { ¬ (slice_get (map string_bytes words.now) 0 ≡ Some (codes "import")) }
+    requires crash { ¬ (slice_get (map string_bytes words.now) 0 ≡ Some (codes "crash")) }
     ensures plain { IfSome result TakesLimits }
     ensures some { IfSome result (λ task. slice_get (map string_bytes words.now) 0 ≡ Some (task_word task)) }
     ensures none { result ≡ None → (task : TaskNamed) → ¬ (slice_get (map string_bytes words.now) 0 ≡ Some (task_word task)) }

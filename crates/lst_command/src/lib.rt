@@ -5,6 +5,7 @@
 #![tactic(auto)]
 
 mod command;
+mod crashing;
 mod dumping;
 mod ending;
 mod execution;

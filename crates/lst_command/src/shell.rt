@@ -5,7 +5,7 @@ ghost use Rattle.lst_command.specs.Answers.{Says, IsUsage, IsDue, IsComplete, Re
 ghost use Rattle.lst_command.specs.declared.command.Command.{Command as CommandOf};
 ghost use Rattle.lst_command.specs.declared.command.Task.{Task as TaskOf};
 ghost use Rattle.lst_command.specs.declared.status.Status.{Status as StatusOf};
-ghost use Rattle.lst_command.specs.Commands.{IsRunnable, Names};
+ghost use Rattle.lst_command.specs.Commands.{HasDisk, IsRunnable, Names};
 ghost use Rattle.lst_command.specs.Outputs.{HasMade, HasSaid, IsLoadOutput, IsOutputFor, IsOutputOf, IsRefusalFor, IsVerdictOn};
 ghost use Rattle.lst_command.specs.Owed.{load_text};
 ghost use Rattle.lst_options.specs.Options.{IsLoadable};
@@ -15,6 +15,7 @@ ghost use Rattle.lst_replies.specs.ReportTexts.{report_text};
 ghost use Rattle.lst_script.specs.Canonical.{named_text};
 
 use crate::command::{Command, Task, command_of};
+use crate::crashing::crash_input;
 use crate::execution::{execute, layout};
 use crate::looking::look_back;
 use crate::messages::report;
@@ -43,7 +44,8 @@ const MOST_BYTES: u64 = 16_777_216;
 /// whole, and leaves a line on `errors` where it ends with another status than `Done` or `Illegal`.
 ///
 /// The command is `run`, `migrate` or `dump`, with the options of a store behind it, which name limits, `work` or `check` with `--level` beside them, `asof`
-/// with `--time` beside them, `import` with `--columns` alone, or `load`, with a seed and numbers of keys and sessions as its options. The input has at most 16,777,216 bytes.
+/// with `--time` beside them, `crash` with `--stop`, `--torn` and `--bytes` beside them, `import` with `--columns` alone, or `load`, with a seed and numbers
+/// of keys and sessions as its options. The input has at most 16,777,216 bytes.
 /// For `run` it is a script, and the output is what the machine of one thread answers to each line under the limits. For `work` it is a script
 /// too, on which all sessions of a store work side by side, and the output is a report of it: which one is up to their steps, but it is legal for
 /// the script, with `--level 2` at the serializable level, and with `--level 1`, as without the option, under snapshot isolation. For `check` it is a script, the line `report` and a report: the output is `legal`, with `Done`, exactly where the report is legal for
@@ -54,6 +56,9 @@ const MOST_BYTES: u64 = 16_777_216;
 /// For `import` it is a table as comma-separated values, the word `key` and the names of the columns first, and the output is the script of version 2
 /// that puts its rows in one transaction. Where a record is faulty, the status is `BadTable` with the first such record, and never `BadScript`.
 /// For `dump` it is a script, which is run as for `run`, and the output is the table that its commits make, as comma-separated values.
+/// For `crash` it is a script, which is run through a journal on a disk in memory of `--bytes` bytes that makes `--stop` calls and fails then. The disk crashes
+/// at the first line at which it fails, or behind the last line, and is opened again. The output is what the lines are answered until then, how many
+/// commits were recovered and the table that they make: they are those that were acknowledged, or these and the one at which the disk failed.
 /// The words are looked at first, then the whole input is read, then its lines are, then they are run, and then the output is written at once.
 /// Want of memory may come at any of these but the last, so at the words too: then nothing is read.
 ///
@@ -62,7 +67,8 @@ const MOST_BYTES: u64 = 16_777_216;
 /// sink fails or memory is wanting.
 ///
 /// With `Done` and with `WriteFault` of a run, a look at a past table and a dump, `left` receives a store with those limits and the crew that hosts all of
-/// it, which tells the machine's state after the last line; of sessions at work the store and the crew in which they are gathered, under whose history
+/// it, which tells the machine's state after the last line; of a crash the store and the crew that were opened last, which tell its state behind the
+/// commits that were recovered; of sessions at work the store and the crew in which they are gathered, under whose history
 /// the very report that was written is legal. Of a load it receives the store and the crew in which its sessions are gathered. With any other status,
 /// and of a check, a migration or an import, `left` stays as it is.
 ///
@@ -226,7 +232,8 @@ fn input_output<R: Threads + Wait + Sync, S: Source, G: Gate + Sync>(
     source: &mut S,
     gate: &G,
 ) -> Result<Output, Status>
-    requires { IsValid limits.now }
+    requires valid { IsValid limits.now }
+    requires disk { HasDisk task }
     ensures output { IfOk result (IsOutputOf (CommandOf.Input task limits.now) (change (S.left source.old) (S.faults source.old) (S.left source.new) (S.faults source.new))) }
     ensures refusal { IfErr result (λ status. RefusesInput task limits.now status
         (change (S.left source.old) (S.faults source.old) (S.left source.new) (S.faults source.new))) }
@@ -249,7 +256,8 @@ fn make<R: Threads + Wait + Sync, G: Gate + Sync>(
     input: &Text,
     gate: &G,
 ) -> Result<Output, Status>
-    requires { IsValid limits.now }
+    requires valid { IsValid limits.now }
+    requires disk { HasDisk task }
     ensures output { IfOk result (IsOutputFor task limits.now input.now) }
     ensures refusal { IfErr result (IsRefusalFor task limits.now input.now) }
 {
@@ -261,6 +269,7 @@ fn make<R: Threads + Wait + Sync, G: Gate + Sync>(
         Task::AsOf { time } => as_of_input(alloc, limits, time, input),
         Task::Import => import_input(alloc, limits, input),
         Task::Dump => dump_input(alloc, limits, input),
+        Task::Crash { disk } => crash_input(alloc, limits, disk, input),
     }
 }
 

@@ -159,6 +159,7 @@ module _ (v : View) (crew : IsCrewView v) (p : Possible v) where
     where
       none : (CommitsWrites v (Call s call.Commit) → ⊥) → MakesCommit v (Call s call.Commit) ⊎ MakesNothing v (Call s call.Commit)
       none never = inr record { none = never; made = made_none s fits.0 never }
+
       at : (b : Bool) → (knows v s).is_open ≡ b → (ws : List Write) → (knows v s).own ≡ ws → MakesCommit v (Call s call.Commit) ⊎ MakesNothing v (Call s call.Commit)
       at false shut ws own = none (λ x. let clash : false ≡ true = sym shut ∙ x.0 in absurd (cc))
       at true is_open [] own = none (λ x. let short : length (knows v s).own ≡ 0 = ap length own in let long = x.1 in omega (arith, short, long))

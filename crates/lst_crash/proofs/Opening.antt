@@ -67,7 +67,6 @@ runs_from_start limits bytes left redo text script here few empty = record {
   ends = ap (λ (t : List ℕ). ending_from limits bytes (start_of left) t script) empty;
 }
 
-
 some_left : (a b : ℕ) → Some a ≡ Some b → a ≡ b
 some_left a b e = cc
 

@@ -172,16 +172,22 @@ module _ (limits : Limits) (bytes : ℕ) (run : Run) (old : Redo MemDisk) (some 
       where
         none : commit_by limits run.state.store line ≡ None
         none = made_is ∙ m.made
+
         answer_is : a ≡ machine.reply limits run.state line
         answer_is = told.answered.is ∙ reply_is
+
         is : answer limits bytes run line ≡ Replied a
         is = ap (answer_of limits bytes run line) none ∙ ap Replied (sym answer_is)
+
         then_is : later limits bytes run line ≡ record run { state = machine.next limits run.state line }
         then_is = λ i. run_after limits run line (none i) (is i)
+
         log_is : new.log ≡ old.log
         log_is = told.still m.none
+
         same : commits_after (v) (history) line (Replied a) ≡ (machine.next limits run.state line).store.history
         same = ap (λ (r : Reply). commits_after (v) (history) line (Replied r)) answer_is ∙ commits_stay limits run.state (v) (history) line none ∙ sym (history_stays limits run.state line none)
+
         no_fault : new.failed ≡ false
         no_fault = not_true new.failed (λ e. reply_is_no_fault a (told.failed.0 e))
 
@@ -233,7 +239,7 @@ module _ (limits : Limits) (bytes : ℕ) (run : Run) (old : Redo MemDisk) (some 
       one_more : IsKept old new line DiskFault → (place) ≤ bytes → (image : List ℕ) → StandsForOneMore old.log.columns (v) (history) line image → IsRecoverable limits ((history) ++ (c) ∷ []) image
       one_more told high image more =
           let stands : StandsFor limits.columns image ((history) ++ (c) ∷ []) =
-              subst (λ (n : ℕ). StandsFor n image ((history) ++ (c) ∷ [])) columns_are (subst (λ (l : Line). StandsForOneMore old.log.columns (v) (history) l image) m.is more) in
+          subst (λ (n : ℕ). StandsFor n image ((history) ++ (c) ∷ [])) columns_are (subst (λ (l : Line). StandsForOneMore old.log.columns (v) (history) l image) m.is more) in
           let room : HasRoomFor (with_tails (v).limits (writes_in ((history) ++ (c) ∷ []))) ((history) ++ (c) ∷ []) = subst (λ (l : Line). HasRoomAfter (v) (history) l) m.is (told.room (history) here.journal committing) in
           record {
             stands = stands;
@@ -270,8 +276,10 @@ module _ (limits : Limits) (bytes : ℕ) (run : Run) (old : Redo MemDisk) (some 
         where
           is : answer limits bytes run line ≡ JournalFull
           is = full_is (lacks (told.full.0 refl))
+
           then_is : later limits bytes run line ≡ run
           then_is = λ i. run_after limits run line (made i) (is i)
+
           log_is : new.log ≡ old.log
           log_is = told.refused refl
       passed_to_disk DiskFault told = record {
@@ -298,29 +306,41 @@ module _ (limits : Limits) (bytes : ℕ) (run : Run) (old : Redo MemDisk) (some 
         where
           high : (place) ≤ bytes
           high = has_place (λ x. reply_is_not_full a (told.full.1 x))
+
           four : 4 ≤ run.left
           four = not_less run.left 4 (λ low. reply_is_no_fault a ((told.calls.0 committing).0.1 (subst (λ (n : ℕ). n < 4) (sym here.left) low)))
+
           answer_is : a ≡ machine.reply limits run.state line
           answer_is = told.answered.is ∙ reply_is
+
           is : answer limits bytes run line ≡ Replied a
           is = otherwise high ∙ ap (λ (b : Bool). cond b DiskFault (spoken_of)) (le-ltb run.left 4 four) ∙ ap Replied (sym answer_is)
+
           then_is : later limits bytes run line ≡ record { state = machine.next limits run.state line; end = run.end + record_size limits (c); left = run.left - 4 }
           then_is = λ i. run_after limits run line (made i) (is i)
+
           opened : (view_of new).limits ≡ limits
           opened = told.answered.limits ∙ here.opened
+
           committed : a ≡ reply.Committed (length (store_told (v)).history + 1)
           committed = told.answered.is ∙ ap (machine.reply (v).limits (state_told (v))) m.is ∙ reply_committed (v) crew p m.session m.low m.is_open m.some
+
           grown : (machine.next limits run.state line).store.history ≡ (history) ++ (c) ∷ []
           grown = ap (λ (st : State). st.store.history) (sym next_is) ∙ ap (λ (l : Line). (machine.next (v).limits (state_told (v)) l).store.history) m.is
               ∙ history_grows (v) crew p m.session m.low m.is_open m.some ∙ ap (λ (h : List Commit). h ++ c ∷ []) history_is
+
           after_is : commits_after (v) (history) line (Replied a) ≡ (history) ++ (c) ∷ []
           after_is = λ i. commits_after (v) (history) (m.is i) (Replied (committed i))
+
           journal_grown : IsJournalOf disk_content disk_images ((history) ++ (c) ∷ []) new
           journal_grown = subst (λ (h : List Commit). IsJournalOf disk_content disk_images h new) after_is (told.journal (history) here.journal (reply_is_no_fault a))
+
           journal_now : IsJournalOf disk_content disk_images (machine.next limits run.state line).store.history new
           journal_now = subst (λ (h : List Commit). IsJournalOf disk_content disk_images h new) (sym grown) journal_grown
+
           columns_now : new.log.columns ≡ limits.columns
           columns_now = journal_grown.columns ∙ ap (λ (l : Limits). l.columns) (sym journal_grown.crew_of.seat_of.limits ∙ opened)
+
           end_now : new.log.end ≡ run.end + record_size limits (c)
           end_now = journal_grown.keeps.end ∙ ap (λ (n : ℕ). length (journal n ((history) ++ (c) ∷ []))) columns_now ∙ journal_more limits.columns (history) (c) ∙ ap (λ (n : ℕ). n + length (record_of limits.columns (c))) (sym end_is)
 
@@ -370,7 +390,7 @@ at_the_end limits bytes redo text ending some running = record {
     running.run.state.store.history,
     refl,
     so_far limits bytes running.run redo some running.few running.at image
-      (subst (λ (content : List ℕ). StandsFor redo.log.columns content running.run.state.store.history) (sym (running.at.journal.keeps.lasts image now)) running.at.journal.keeps.stands),
+        (subst (λ (content : List ℕ). StandsFor redo.log.columns content running.run.state.store.history) (sym (running.at.journal.keeps.lasts image now)) running.at.journal.keeps.stands),
   );
 }
 

@@ -18,16 +18,22 @@ const PUT_AND_DELETED: &[u8] =
     b"0 begin\n0 insert 7 10 20\n0 commit\n0 begin\n0 delete 7\n0 commit\n";
 
 /// A stock of three items, of which two are sold while a session sums it.
-const STOCK: &[u8] = b"0 begin\n0 insert 1001 40 250\n0 insert 1002 15 900\n0 insert 1003 8 1200\n0 commit\n2 begin\n2 sum 0\n1 begin\n1 update 1002 14 _\n1 update 1003 6 _\n1 commit\nmerge 0 0\nmerge 0 1\n2 sum 0\n2 commit\n2 begin\n2 sum 0\n2 scan\n2 commit\n";
+const STOCK: &[u8] =
+    b"0 begin\n0 insert 1001 40 250\n0 insert 1002 15 900\n0 insert 1003 8 1200\n0 commit\n2 begin\n2 sum 0\n1 begin\n1 update 1002 14 _\n1 update 1003 6 _\n1 commit\nmerge 0 0\nmerge 0 1\n2 sum 0\n2 commit\n2 begin\n2 sum 0\n2 scan\n2 commit\n";
 
 /// What its lines are answered before the first commit, up to the second one, and behind it.
 const STOCKED: &[u8] = b"0 begun 0\n0 ok\n0 ok\n0 ok\n";
+
 const SOLD: &[u8] = b"0 committed 1\n2 begun 1\n2 sum 63\n1 begun 1\n1 ok\n1 ok\n";
-const SUMMED: &[u8] = b"1 committed 2\nmerged 5\nmerged 5\n2 sum 63\n2 ended 1\n2 begun 2\n2 sum 60\n2 rows 1001:40,250 1002:14,900 1003:6,1200\n2 ended 2\n";
+
+const SUMMED: &[u8] =
+    b"1 committed 2\nmerged 5\nmerged 5\n2 sum 63\n2 ended 1\n2 begun 2\n2 sum 60\n2 rows 1001:40,250 1002:14,900 1003:6,1200\n2 ended 2\n";
 
 /// What is recovered of it.
 const NOTHING: &[u8] = b"recovered 0\nrows\n";
+
 const STOCK_KEPT: &[u8] = b"recovered 1\nrows 1001:40,250 1002:15,900 1003:8,1200\n";
+
 const SALE_KEPT: &[u8] = b"recovered 2\nrows 1001:40,250 1002:14,900 1003:6,1200\n";
 
 /// The layout of a store where no limits are named.
@@ -51,13 +57,7 @@ fn script_of(alloc: Global, text: &[u8], limits: &Limits) -> Result<Script, Fail
 }
 
 /// The text of a run of these lines over a disk of so many bytes that stops after so many calls.
-fn crashed(
-    alloc: Global,
-    text: &[u8],
-    bytes: u32,
-    stop: u64,
-    torn: bool,
-) -> Result<Text, Fail>
+fn crashed(alloc: Global, text: &[u8], bytes: u32, stop: u64, torn: bool) -> Result<Text, Fail>
     requires { bytes ≤ most_bytes }
 {
     let layout = layout()?;
@@ -81,16 +81,31 @@ fn a_commit_is_recovered_once_its_calls_are_made(rt: HostRuntime) -> Result<(), 
     let kept = b"0 begun 0\n0 ok\n0 committed 1\nrecovered 1\nrows 7:10,20\n";
     let lost = b"0 begun 0\n0 ok\n0 stopped\nrecovered 0\nrows\n";
     let torn = b"0 begun 0\n0 ok\n0 stopped\nrecovered 1\nrows 7:10,20\n";
-    assert_eq!(rt; crashed(alloc, PUT, 65536, 5, false)?.as_bytes(), kept.as_slice());
+    assert_eq!(rt;
+        crashed(alloc, PUT, 65536, 5, false)?.as_bytes(),
+        kept.as_slice()
+    );
     for stop in 1..5 {
-        assert_eq!(rt; crashed(alloc, PUT, 65536, stop, false)?.as_bytes(), lost.as_slice());
+        assert_eq!(rt;
+            crashed(alloc, PUT, 65536, stop, false)?.as_bytes(),
+            lost.as_slice()
+        );
     }
     for stop in 1..4 {
-        assert_eq!(rt; crashed(alloc, PUT, 65536, stop, true)?.as_bytes(), lost.as_slice());
+        assert_eq!(rt;
+            crashed(alloc, PUT, 65536, stop, true)?.as_bytes(),
+            lost.as_slice()
+        );
     }
-    assert_eq!(rt; crashed(alloc, PUT, 65536, 4, true)?.as_bytes(), torn.as_slice());
+    assert_eq!(rt;
+        crashed(alloc, PUT, 65536, 4, true)?.as_bytes(),
+        torn.as_slice()
+    );
     let stopped = b"stopped\nrecovered 0\nrows\n";
-    assert_eq!(rt; crashed(alloc, PUT, 65536, 0, true)?.as_bytes(), stopped.as_slice());
+    assert_eq!(rt;
+        crashed(alloc, PUT, 65536, 0, true)?.as_bytes(),
+        stopped.as_slice()
+    );
     Ok(())
 }
 
@@ -98,7 +113,8 @@ fn a_commit_is_recovered_once_its_calls_are_made(rt: HostRuntime) -> Result<(), 
 #[test]
 fn a_full_disk_takes_no_commit(rt: HostRuntime) -> Result<(), Fail> {
     let alloc = rt.alloc();
-    let full = b"0 begun 0\n0 ok\n0 committed 1\n0 begun 1\n0 ok\n0 full journal\nrecovered 1\nrows 7:10,20\n";
+    let full =
+        b"0 begun 0\n0 ok\n0 committed 1\n0 begun 1\n0 ok\n0 full journal\nrecovered 1\nrows 7:10,20\n";
     let text = crashed(alloc, PUT_AND_DELETED, 64, 1000000, false)?;
     assert_eq!(rt; text.as_bytes(), full.as_slice());
     Ok(())

@@ -1,12 +1,14 @@
--- Words name the limits of one store at most, those of one table, one load, one time and one level at most.
+-- Words name the limits of one store at most, those of one table, one load, one time, one level and one disk at most.
 use Rattle.std.proofs.Common.{◌≡◌, List, Option, Some, codes, sym, ap, ◌∙◌}
 use Rattle.clap.specs.Words.{Text}
 use Rattle.lst_layout.specs.declared.limits.Limits.{Limits}
 use Rattle.lst_layout.specs.Limits.{default_limits}
 use Rattle.lst_options.specs.declared.as_of.AsOfOptions.{AsOfOptions}
+use Rattle.lst_options.specs.declared.crash.CrashOptions.{CrashOptions}
+use Rattle.lst_options.specs.declared.crash.DiskOptions.{DiskOptions}
 use Rattle.lst_options.specs.declared.level.LevelOptions.{LevelOptions}
 use Rattle.lst_options.specs.declared.load.LoadNumbers.{LoadNumbers}
-use Rattle.lst_options.specs.Options.{GivesAsOf, GivesLevel, GivesLimits, GivesLoad, NamesAsOf, NamesLevel, NamesLimits, NamesLoad, NamesTable, index_or}
+use Rattle.lst_options.specs.Options.{GivesAsOf, GivesCrash, GivesDisk, GivesLevel, GivesLimits, GivesLoad, NamesAsOf, NamesCrash, NamesLevel, NamesLimits, NamesLoad, NamesTable, index_or}
 
 same_value : {X : Type 0} (o : Option X) (a b : X) → o ≡ Some a → o ≡ Some b → a ≡ b
 same_value o a b first second = let same : Some a ≡ Some b = sym first ∙ second in cc
@@ -77,3 +79,21 @@ gives_one_level value a b first second = same_level a b (gives_one value a.limit
 
 pub names_one_level : (words : List Text) (a b : LevelOptions) → NamesLevel words a → NamesLevel words b → a ≡ b
 names_one_level words a b first second = gives_one_level _ a b first.gives second.gives
+
+-- ---- a disk
+
+same_disk : (a b : DiskOptions) → a.stop ≡ b.stop → a.torn ≡ b.torn → a.bytes ≡ b.bytes → a ≡ b
+same_disk a b stop torn bytes = λ i. record { stop = stop i; torn = torn i; bytes = bytes i }
+
+same_crash : (a b : CrashOptions) → a.limits ≡ b.limits → a.disk ≡ b.disk → a ≡ b
+same_crash a b limits disk = λ i. record { limits = limits i; disk = disk i }
+
+gives_one_disk : (value : Text → Option Text) (a b : DiskOptions) → GivesDisk value a → GivesDisk value b → a ≡ b
+gives_one_disk value a b first second =
+    same_disk a b (same_value _ a.stop b.stop first.stop second.stop) (same_value _ a.torn b.torn first.torn second.torn) (same_value _ a.bytes b.bytes first.bytes second.bytes)
+
+gives_one_crash : (value : Text → Option Text) (a b : CrashOptions) → GivesCrash value a → GivesCrash value b → a ≡ b
+gives_one_crash value a b first second = same_crash a b (gives_one value a.limits b.limits first.limits second.limits) (gives_one_disk value a.disk b.disk first.disk second.disk)
+
+pub names_one_crash : (words : List Text) (a b : CrashOptions) → NamesCrash words a → NamesCrash words b → a ≡ b
+names_one_crash words a b first second = gives_one_crash _ a b first.gives second.gives

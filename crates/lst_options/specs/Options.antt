@@ -1,5 +1,5 @@
 -- The options of a store, of a table and of a load on a command line: which words are taken, and which limits, numbers and levels they give.
-use Rattle.std.specs.Prelude.{◌≡◌, ℕ, ◌^◌, ◌&&◌, ◌==◌, ◌<◌, ◌≤◌, nat_le, nat_lt, List, [], ◌∷◌, Option, Some, None, option_and_then, if◌then◌else◌, codes}
+use Rattle.std.specs.Prelude.{◌≡◌, ℕ, ◌^◌, ◌&&◌, ◌==◌, ◌<◌, ◌≤◌, nat_le, nat_lt, List, [], ◌∷◌, Option, Some, None, option_and_then, option_map, if◌then◌else◌, codes}
 use Rattle.clap.specs.Words.{Text, fault_of, first_of, matches_of}
 use Rattle.lst_layout.specs.declared.limits.Limits.{Limits}
 use Rattle.lst_layout.specs.Limits.{default_limits}
@@ -7,9 +7,11 @@ use Rattle.lst_script.specs.Numbers.{number_of}
 use Rattle.lst_legal_runs.specs.declared.levels.Level.{Level}
 use Rattle.lst_legal_runs.specs.declared.levels.Level.TheVariants.{Snapshot, Serializable}
 use Rattle.lst_options.specs.declared.as_of.AsOfOptions.{AsOfOptions}
+use Rattle.lst_options.specs.declared.crash.CrashOptions.{CrashOptions}
+use Rattle.lst_options.specs.declared.crash.DiskOptions.{DiskOptions}
 use Rattle.lst_options.specs.declared.level.LevelOptions.{LevelOptions}
 use Rattle.lst_options.specs.declared.load.LoadNumbers.{LoadNumbers}
-use Rattle.lst_options.specs.Words.{as_of_options, level_options, load_options, run_options, table_options}
+use Rattle.lst_options.specs.Words.{as_of_options, crash_options, level_options, load_options, run_options, table_options}
 
 -- ---- the values
 
@@ -105,6 +107,34 @@ pub record NamesLevel (words : List Text) (options : LevelOptions) : Type 0 wher
 abbrev pub TellsLevel : List Text → Option LevelOptions → Type 0
 TellsLevel words (Some options) = NamesLevel words options
 TellsLevel words None = (options : LevelOptions) → ¬ NamesLevel words options
+
+-- ---- the options of a store, and a disk
+
+-- the value of each option gives the number of the disk's calls, whether it tears, or how many bytes it has
+pub record GivesDisk (value : Text → Option Text) (disk : DiskOptions) : Type 0 where
+  pub stop : number_or 1000000 0 1000000 (value (codes "stop")) ≡ Some disk.stop
+  pub torn : option_map (λ number. number == 1) (number_or 0 0 1 (value (codes "torn"))) ≡ Some disk.torn
+  pub bytes : number_or 65536 64 262144 (value (codes "bytes")) ≡ Some disk.bytes
+
+-- the value of each option gives its limit, or what it says of the disk
+pub record GivesCrash (value : Text → Option Text) (options : CrashOptions) : Type 0 where
+  pub limits : GivesLimits value options.limits
+  pub disk : GivesDisk value options.disk
+
+-- the words behind `crash` are taken, each option with one value and none twice, and their values give the limits and the disk
+pub record NamesCrash (words : List Text) (options : CrashOptions) : Type 0 where
+  pub taken : fault_of crash_options ([] ∷ words) ≡ []
+  pub gives : GivesCrash (λ name. first_of name (matches_of crash_options ([] ∷ words))) options
+
+-- these are the limits and the disk that the words name, or they name none
+abbrev pub TellsCrash : List Text → Option CrashOptions → Type 0
+TellsCrash words (Some options) = NamesCrash words options
+TellsCrash words None = (options : CrashOptions) → ¬ NamesCrash words options
+
+-- as many bytes as a disk may have
+pub record IsDisk (disk : DiskOptions) : Type 0 where
+  pub some : 64 ≤ disk.bytes
+  pub few : disk.bytes ≤ 262144
 
 -- ---- the options of a table
 

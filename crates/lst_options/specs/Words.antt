@@ -3,7 +3,7 @@ use Rattle.clap.specs.Simple.{on_top}
 use Rattle.clap.specs.Words.{App, Rule, Text, new_app, new_rule, with_rule}
 use Rattle.clap.specs.declared.builder.ArgAction.TheVariants.{Set}
 
--- The options of a store, with a time or a level, of a table and of a load as clap is told them, and the words that it then takes.
+-- The options of a store, with a time, a level or a disk, of a table and of a load as clap is told them, and the words that it then takes.
 -- an option with a name behind two hyphens, which takes one value
 abbrev pub option : Text → Rule
 option name = record (new_rule name) { long = Some name; action = Some Set }
@@ -23,6 +23,10 @@ as_of_options = with_rule run_options (option (codes "time"))
 -- the options of a store, and a level
 abbrev pub level_options : App
 level_options = with_rule run_options (option (codes "level"))
+
+-- the options of a store, and a disk
+abbrev pub crash_options : App
+crash_options = with_rule (with_rule (with_rule run_options (option (codes "stop"))) (option (codes "torn"))) (option (codes "bytes"))
 
 -- the options of a table
 abbrev pub table_options : App

@@ -1,4 +1,4 @@
-//! The options behind a command's name: which words are taken, and which limits they name for a store, which time or level beside them, which columns for a
+//! The options behind a command's name: which words are taken, and which limits they name for a store, which time, level or disk beside them, which columns for a
 //! table, or which numbers for a load.
 //!
 //! Words in, numbers out; nothing else is touched. Begin with `limits_of_words` in `limits.rt`, and with `specs/Options` for
@@ -6,6 +6,7 @@
 #![tactic(auto)]
 
 mod as_of;
+mod crash;
 mod laws;
 mod level;
 mod limits;
@@ -16,9 +17,10 @@ mod tests;
 mod words;
 
 pub use as_of::{AsOfOptions, as_of_of_words};
+pub use crash::{CrashOptions, DiskOptions, crash_of_words};
 pub use laws::{
-    words_name_one_level, words_name_one_load, words_name_one_store, words_name_one_table,
-    words_name_one_time,
+    words_name_one_crash, words_name_one_level, words_name_one_load, words_name_one_store,
+    words_name_one_table, words_name_one_time,
 };
 pub use level::{LevelOptions, level_of_words};
 pub use limits::limits_of_words;

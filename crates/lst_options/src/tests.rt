@@ -1,7 +1,8 @@
-//! Words of command lines, and the limits, the time, the level or the load that they name.
+//! Words of command lines, and the limits, the time, the level, the disk or the load that they name.
 
 use crate::{
-    LoadNumbers, as_of_of_words, level_of_words, limits_of_words, load_of_words, table_of_words,
+    LoadNumbers, as_of_of_words, crash_of_words, level_of_words, limits_of_words, load_of_words,
+    table_of_words,
 };
 use lst_layout::Limits;
 use lst_legal_runs::Level;
@@ -241,6 +242,42 @@ fn time_is_named_beside_limits(rt: HostRuntime) -> Result<(), Fail> {
         let found = as_of_of_words(rt.alloc(), words.as_slice())?;
         assert_eq!(rt;
             found.map(|options| (options.limits.ranges, options.time)),
+            wanted
+        );
+    }
+    Ok(())
+}
+
+#[test]
+fn a_disk_is_named_beside_limits(rt: HostRuntime) -> Result<(), Fail> {
+    for (line, wanted) in [
+        ("crash", Some((4, 1_000_000, false, 65_536))),
+        (
+            "crash --stop 4 --torn 1 --bytes 64 --ranges 2",
+            Some((2, 4, true, 64)),
+        ),
+        (
+            "crash --torn=0 --bytes=262144 --stop=0",
+            Some((4, 0, false, 262_144)),
+        ),
+        ("crash --stop 1000001", None),
+        ("crash --torn 2", None),
+        ("crash --bytes 63", None),
+        ("crash --bytes 262145", None),
+        ("crash --stop 1 --stop 1", None),
+        ("crash --torn", None),
+        ("crash --ranges 65", None),
+        ("crash --time 1", None),
+    ] {
+        let words = words_of(rt.alloc(), line)?;
+        let found = crash_of_words(rt.alloc(), words.as_slice())?;
+        assert_eq!(rt;
+            found.map(|options| (
+                options.limits.ranges,
+                options.disk.stop,
+                options.disk.torn,
+                options.disk.bytes
+            )),
             wanted
         );
     }

@@ -1,7 +1,7 @@
 //! The words of a command line, taken by options.
 ghost use Rattle.std.specs.Prelude.{◌≡◌, ◌↔◌, true, [], IfOk, IfSome, IsSome, map, option_map, string_bytes};
 ghost use Rattle.clap.specs.Words.{app_of, fault_of, first_of, found_of, is_simple, is_simple_and_free, matches_of, rows_of, with_rule};
-ghost use Rattle.lst_options.specs.Words.{option, as_of_options, bare, level_options, load_options, run_options, table_options};
+ghost use Rattle.lst_options.specs.Words.{option, as_of_options, bare, crash_options, level_options, load_options, run_options, table_options};
 
 use clap::error::ErrorKind;
 use clap::{Arg, ArgAction, ArgMatches, Command};
@@ -42,6 +42,18 @@ pub(crate) fn level_matches<'a>(
     ensures rows { IfOk result (λ found. IfSome found (λ matches. rows_of (found_of matches) ≡ matches_of level_options (map string_bytes words.entry.now))) }
 {
     parsed(level_command(alloc)?, words)
+}
+
+/// The values that the words give the options of a store and a disk, or None where they aren't taken. The first word isn't looked at.
+/// The only error is want of memory.
+pub(crate) fn crash_matches<'a>(
+    alloc: Global,
+    words: &'a [String],
+) -> Result<Option<ArgMatches<'a>>, OutOfMemory>
+    ensures taken { IfOk result (λ found. IsSome found ↔ (fault_of crash_options (map string_bytes words.entry.now) ≡ [])) }
+    ensures rows { IfOk result (λ found. IfSome found (λ matches. rows_of (found_of matches) ≡ matches_of crash_options (map string_bytes words.entry.now))) }
+{
+    parsed(crash_command(alloc)?, words)
 }
 
 /// The values that the words give the options of a table, or None where they aren't taken. The first word isn't looked at.
@@ -116,6 +128,16 @@ fn level_command<'a>(alloc: Global) -> Result<Command<'a>, AllocError>
 {
     let command = run_command(alloc)?;
     with_option(alloc, command, "level")
+}
+
+/// A command that takes the options of a store and a disk, and no flag for help or the version.
+fn crash_command<'a>(alloc: Global) -> Result<Command<'a>, AllocError>
+    ensures { IfOk result (λ command. app_of command ≡ crash_options) }
+{
+    let command = run_command(alloc)?;
+    let command = with_option(alloc, command, "stop")?;
+    let command = with_option(alloc, command, "torn")?;
+    with_option(alloc, command, "bytes")
 }
 
 /// A command that takes the options of a table, and no flag for help or the version.

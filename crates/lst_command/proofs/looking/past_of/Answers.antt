@@ -7,7 +7,7 @@ use Rattle.lst_model.specs.Soundness.{IsSound}
 use Rattle.lst_session.specs.Crews.{store_told}
 use Rattle.lst_historic.specs.Blocks.{AreWide}
 use Rattle.lst_past.specs.Past.{past_text}
-use Rattle.lst_command.proofs.Pasts.{sound_told, wide_told}
+use Rattle.lst_crash.proofs.Histories.{sound_told, wide_told}
 use Rattle.lst_command.proofs.looking.past_of.Goals as goal
 
 pub print_past-requires-clause-sound : goal.print_past-requires-clause-sound

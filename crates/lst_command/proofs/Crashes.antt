@@ -1,0 +1,38 @@
+-- A run that is crashed: its output, and why there is none.
+use Rattle.std.proofs.Common.{◌≡◌, ℕ, List, sym, subst, ◌∙◌}
+use Rattle.lst_layout.specs.declared.limits.Limits.{Limits}
+use Rattle.lst_model.specs.declared.lines.Line.{Line}
+use Rattle.lst_rule.specs.declared.store.Store.{Store}
+use Rattle.lst_session.specs.declared.crew.Crew.{Crew}
+use Rattle.lst_crash.specs.Recovering.{IsCrashed}
+use Rattle.lst_options.specs.declared.crash.DiskOptions.{DiskOptions}
+use Rattle.lst_script.specs.Scripts.{IsScript, Explains}
+use Rattle.lst_script.specs.declared.faults.ScriptFault.{ScriptFault}
+use Rattle.lst_script.specs.declared.faults.ScriptFault.TheVariants as faults
+use Rattle.lst_command.specs.declared.command.Task.TheVariants.{Crash}
+use Rattle.lst_command.specs.declared.output.Output.{Output}
+use Rattle.lst_command.specs.declared.status.Status.{Status}
+use Rattle.lst_command.specs.Outputs.{HasMade, IsOutputFor, IsRefusalFor}
+use Rattle.lst_command.specs.Statuses.{fault_status}
+
+refused : (disk : DiskOptions) (limits : Limits) (input : List ℕ) (fault : ScriptFault) → Explains limits input fault → IsRefusalFor (Crash disk) limits input (fault_status fault)
+refused disk limits input (faults.Bad line kind) is = is
+refused disk limits input faults.OutOfMemory is = tt
+
+pub crash_fault : (disk : DiskOptions) (limits : Limits) (input bytes : List ℕ) (fault : ScriptFault) (status : Status) → status ≡ fault_status fault → bytes ≡ input → Explains limits bytes fault → IsRefusalFor (Crash disk) limits input status
+crash_fault disk limits input bytes fault status same same_input is =
+    subst (IsRefusalFor (Crash disk) limits input) (sym same) (refused disk limits input fault (subst (λ (text : List ℕ). Explains limits text fault) same_input is))
+
+-- the text of a run that is crashed, with what is left, is the output
+pub crash_output : (disk : DiskOptions) (limits : Limits) (input bytes : List ℕ) (script : List Line) (text : List ℕ) (both : Store × Crew) (output : Output) → HasMade text both output
+    → bytes ≡ input → IsScript limits bytes script → IsCrashed limits disk.bytes disk.stop script text both → IsOutputFor (Crash disk) limits input output
+crash_output disk limits input bytes script text both output made same_input is_script by = (
+  record {
+    script = script;
+    is_script = subst (λ (bytes : List ℕ). IsScript limits bytes script) same_input is_script;
+    both = both;
+    is_left = made.left;
+    by = subst (λ (told : List ℕ). IsCrashed limits disk.bytes disk.stop script told both) (sym made.said) by;
+  },
+  made.ended,
+)
