@@ -123,7 +123,7 @@ fn a_full_disk_takes_no_commit(rt: HostRuntime) -> Result<(), Fail> {
 /// What is owed for the stock, by the number of the disk's calls. The opening takes one and each of the two commits four; the last of these makes a
 /// commit sure that a torn disk keeps without it.
 fn owed(alloc: Global, stop: u64, torn: bool) -> Result<Text, Fail> {
-    let kept = if torn { stop + 1 } else { stop };
+    let kept = if torn { stop.saturating_add(1) } else { stop };
     let table = if kept < 5 {
         NOTHING
     } else if kept < 9 {
