@@ -1,5 +1,5 @@
 -- The first opening, over a disk of zeros: where it fails, and where a run starts.
-use Rattle.std.proofs.Common.{◌≡◌, ℕ, zero, suc, ◌-◌, ◌≤◌, false, List, [], ◌∷◌, ◌++◌, length, replicate, codes, Some, refl, sym, ap, ◌∙◌, subst, arith}
+use Rattle.std.proofs.Common.{◌≡◌, ℕ, zero, suc, ◌-◌, ◌≤◌, false, List, [], length, replicate, codes, Some, refl, sym, ap, ◌∙◌, subst, arith}
 use Rattle.std.proofs.lemmas.List.{length-replicate}
 use Rattle.lst_layout.specs.declared.limits.Limits.{Limits}
 use Rattle.lst_model.specs.declared.commits.Commit.{Commit}
@@ -11,8 +11,8 @@ use Rattle.lst_redo.specs.Journals.{StandsFor, HasOneList}
 use Rattle.lst_redo.specs.Stores.{LastsSince}
 use Rattle.lst_journal.specs.declared.journal.Redo.{Redo}
 use Rattle.lst_journal.specs.Openings.{HasOpened}
-use Rattle.lst_crash.specs.Crashes.{most_bytes, start_of, Ending, ending_from, ending_of, AreRecovered, limits_again}
-use Rattle.lst_crash.specs.Recovering.{IsAt, IsRunning, IsRecoverable, HasEnded}
+use Rattle.lst_crash.specs.Crashes.{most_bytes, start_of, Ending, ending_from, ending_of, limits_again}
+use Rattle.lst_crash.specs.Recovering.{IsAt, IsRunning, HasEnded}
 use Rattle.lst_crash.proofs.Images.{left_now, content_kept, zeros_stand, none_need_room}
 
 module _ (limits : Limits) (disk : MemDisk) (zeros : disk_content disk ≡ replicate (length (disk_content disk)) 0) where

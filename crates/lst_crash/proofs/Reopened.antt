@@ -1,20 +1,18 @@
 -- The second opening: what it makes of the image, and the text that tells it.
-use Rattle.std.proofs.Common.{◌≡◌, ℕ, ◌≤◌, List, [], ◌∷◌, ◌++◌, length, refl, sym, ap, ◌∙◌, subst, arith}
+use Rattle.std.proofs.Common.{◌≡◌, ℕ, List, [], ◌∷◌, ◌++◌, length, refl, sym, ap, ◌∙◌, subst, arith}
 use Rattle.lst_layout.specs.declared.limits.Limits.{Limits}
 use Rattle.lst_model.specs.declared.commits.Commit.{Commit}
 use Rattle.lst_model.specs.declared.lines.Line.{Line}
 use Rattle.lst_model.specs.Soundness.{IsSound}
 use Rattle.lst_model.specs.Tables.{Rows, scan_of}
 use Rattle.lst_model.specs.Histories.{table_at}
-use Rattle.lst_machine.specs.State.{State, opening}
-use Rattle.lst_machine.specs.Machine.{state_after}
+use Rattle.lst_machine.specs.State.{State}
 use Rattle.lst_disk.specs.declared.memory.MemDisk.{MemDisk}
 use Rattle.lst_disk.specs.Memory.{disk_content, disk_images}
 use Rattle.lst_historic.specs.Blocks.{AreWide}
 use Rattle.lst_past.specs.Past.{number_line, rows_line}
 use Rattle.std.specs.Prelude.{codes}
 use Rattle.lst_redo.specs.Journals.{StandsFor, IsDamagedAt, HasOneList, DamageIsNone}
-use Rattle.lst_recovery.specs.Scripts.{lines_again}
 use Rattle.lst_replay.specs.Counts.{SameCommits}
 use Rattle.lst_replay.specs.Rests.{HasRoomFor}
 use Rattle.lst_replay.proofs.Runs.{same_tables, same_have_writes}
@@ -28,7 +26,7 @@ use Rattle.lst_journal.specs.declared.journal.Redo.{Redo}
 use Rattle.lst_journal.specs.Journals.{view_of}
 use Rattle.lst_journal.specs.Openings.{HasOpened}
 use Rattle.lst_crash.specs.Crashes.{ending_of, recovered_text, limits_again}
-use Rattle.lst_crash.specs.Recovering.{IsCrashed, IsRecoverable, HasEnded, HasRecovered, HoldsAgain}
+use Rattle.lst_crash.specs.Recovering.{IsCrashed, IsRecoverable, HasEnded, HasRecovered}
 use Rattle.lst_crash.proofs.Histories.{sound_told, wide_told}
 
 -- ---- the text

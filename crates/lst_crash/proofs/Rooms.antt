@@ -1,5 +1,5 @@
 -- A second opening has room for all that a disk holds: a write takes 19 bytes at least.
-use Rattle.std.proofs.Common.{◌≡◌, ℕ, zero, suc, ◌+◌, ◌*◌, ◌≤◌, List, [], ◌∷◌, ◌++◌, length, map, replicate, arith, length-append}
+use Rattle.std.proofs.Common.{◌≡◌, ℕ, zero, suc, ◌*◌, ◌≤◌, List, [], ◌∷◌, ◌++◌, length, map, replicate, arith, length-append}
 use Rattle.std.specs.Int.{w32, to_be_bytes}
 use Rattle.std.specs.List.{flat_map, AllByRecursion}
 use Rattle.lst_layout.specs.declared.limits.Limits.{Limits}
@@ -9,7 +9,6 @@ use Rattle.lst_model.specs.declared.acts.Write.{Write}
 use Rattle.lst_model.specs.declared.commits.Commit.{Commit}
 use Rattle.lst_model.specs.Cells.{number_of, changed_number}
 use Rattle.lst_redo.specs.Format.{word, head_of, numbers_of, write_bytes, body, record_of, journal, FitsTable, IsWrite, HasRecord}
-use Rattle.lst_redo.specs.Journals.{StandsFor}
 use Rattle.lst_replay.specs.Again.{writes_in}
 use Rattle.lst_replay.specs.Rests.{HasRoomFor, with_tails}
 use Rattle.lst_replay.proofs.Runs.{room_grows}

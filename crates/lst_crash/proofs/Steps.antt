@@ -1,7 +1,7 @@
 -- A line of a run: it is answered as the definition says, and the run stands where that says, or has ended there.
 use Rattle.std.proofs.Math.Seq.{drop-cons}
 use Rattle.std.proofs.lemmas.List.{drop_all}
-use Rattle.std.proofs.Common.{add-one, suc, drop, slice_index_or, ◌≡◌, ◌⊎◌, ◌↔◌, inl, inr, ⊎_elim, ℕ, ◌+◌, ◌-◌, ◌<◌, ◌≤◌, Bool, true, false, cond, List, [], ◌∷◌, ◌++◌, length, Option, Some, None, Result, Ok, refl, sym, ap, ◌∙◌, subst, arith, length-append}
+use Rattle.std.proofs.Common.{add-one, suc, drop, slice_index_or, ◌≡◌, ◌↔◌, inl, inr, ⊎_elim, ℕ, ◌+◌, ◌-◌, ◌<◌, ◌≤◌, Bool, true, false, cond, List, [], ◌∷◌, ◌++◌, length, Option, Some, None, Result, Ok, refl, sym, ap, ◌∙◌, subst, arith, length-append}
 use Rattle.std.specs.Prelude.{nat_lt}
 use Rattle.std.specs.List.{AllByRecursion}
 use Rattle.std.proofs.lemmas.Bool.{lt-ltb, le-ltb, ltb-true, ltb-false}
@@ -9,9 +9,7 @@ use Rattle.std.proofs.lemmas.Grind.{flat_map-append}
 use Rattle.lst_layout.specs.declared.limits.Limits.{Limits}
 use Rattle.lst_layout.specs.Limits.{IsValid}
 use Rattle.lst_model.specs.declared.commits.Commit.{Commit}
-use Rattle.lst_model.specs.declared.lines.Call.TheVariants.{Commit as CommitCall}
 use Rattle.lst_model.specs.declared.lines.Line.{Line}
-use Rattle.lst_model.specs.declared.lines.Line.TheVariants.{Call}
 use Rattle.lst_model.specs.declared.memory.OutOfMemory.{OutOfMemory}
 use Rattle.lst_model.specs.declared.replies.Reply.{Reply}
 use Rattle.lst_model.specs.declared.replies.Reply.TheVariants as reply
@@ -28,9 +26,8 @@ use Rattle.lst_replay.specs.Again.{writes_in}
 use Rattle.lst_replay.specs.Rests.{HasRoomFor, with_tails}
 use Rattle.lst_replay.proofs.Counted.{counted_has_room}
 use Rattle.lst_rule.specs.declared.view.View.{View}
-use Rattle.lst_rule.specs.Rule.{knows}
 use Rattle.lst_rule.specs.Learned.{Possible}
-use Rattle.lst_session.specs.Crews.{AnswersLine, store_told, state_told}
+use Rattle.lst_session.specs.Crews.{store_told, state_told}
 use Rattle.lst_session.proofs.Crewed.{IsCrewView, crew_view}
 use Rattle.lst_journal.specs.declared.journal.Kept.{Kept}
 use Rattle.lst_journal.specs.declared.journal.Kept.TheVariants.{Reply as Replied, JournalFull, DiskFault}

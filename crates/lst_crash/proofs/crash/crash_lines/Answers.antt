@@ -1,6 +1,6 @@
 use Rattle.std.proofs.Common.{ℕ, length, subst}
 use Rattle.std.proofs.lemmas.Result.{IfOk-weaker}
-use Rattle.lst_disk.specs.Memory.{disk_content, disk_left}
+use Rattle.lst_disk.specs.Memory.{disk_content}
 use Rattle.lst_crash.specs.Recovering.{IsStopped}
 use Rattle.lst_crash.proofs.Opening.{new_size}
 use Rattle.lst_crash.proofs.Reopened.{is_crashed}
