@@ -24,19 +24,19 @@ const THREE: Limits = Limits {
 
 /// What is said of a script that was run: its report, and whether that is legal at either level.
 #[derive(Drop)]
-struct Said {
+struct Judged {
     report: Report,
     is_legal: bool,
     is_serial: bool,
 }
 
 /// Runs a script at one level or the other, and judges its report at both.
-fn said<R: AllocGlobal + Threads + Wait + Sync>(
+fn run_judged<R: AllocGlobal + Threads + Wait + Sync>(
     rt: &R,
     limits: Limits,
     is_serial: bool,
     text: &[u8],
-) -> Result<Said, Fail> {
+) -> Result<Judged, Fail> {
     let alloc = rt.alloc();
     let Ok(layout) = limits.check() else {
         return Err(Fail::from("the limits are in range"));
@@ -53,7 +53,7 @@ fn said<R: AllocGlobal + Threads + Wait + Sync>(
     }
     let is_legal = legal(alloc, &limits, lines.as_slice(), &report)?;
     let is_serial = legal_serial(alloc, &limits, lines.as_slice(), &report)?;
-    Ok(Said {
+    Ok(Judged {
         report,
         is_legal,
         is_serial,
@@ -61,8 +61,8 @@ fn said<R: AllocGlobal + Threads + Wait + Sync>(
 }
 
 /// The report's text, compared with what is wanted.
-fn reports<R: Abort + AllocGlobal>(rt: &R, said: &Said, wanted: &[u8]) -> Result<(), Fail> {
-    let text = print_report(rt.alloc(), &said.report)?;
+fn reports<R: Abort + AllocGlobal>(rt: &R, judged: &Judged, wanted: &[u8]) -> Result<(), Fail> {
+    let text = print_report(rt.alloc(), &judged.report)?;
     assert_eq!(rt; text.as_bytes(), wanted);
     Ok(())
 }
@@ -73,7 +73,7 @@ const SKEW: &[u8] =
 
 #[test]
 fn a_skewed_write_is_stale_at_the_serializable_level_alone(rt: HostRuntime) -> Result<(), Fail> {
-    let one = said(&rt, THREE, true, SKEW)?;
+    let one = run_judged(&rt, THREE, true, SKEW)?;
     reports(
         &rt,
         &one,
@@ -81,7 +81,7 @@ fn a_skewed_write_is_stale_at_the_serializable_level_alone(rt: HostRuntime) -> R
     )?;
     assert!(rt; one.is_serial);
     assert!(rt; !one.is_legal);
-    let other = said(&rt, THREE, false, SKEW)?;
+    let other = run_judged(&rt, THREE, false, SKEW)?;
     reports(
         &rt,
         &other,
@@ -98,7 +98,7 @@ const AGAIN: &[u8] =
 
 #[test]
 fn a_stale_transaction_stays_open(rt: HostRuntime) -> Result<(), Fail> {
-    let one = said(&rt, THREE, true, AGAIN)?;
+    let one = run_judged(&rt, THREE, true, AGAIN)?;
     reports(
         &rt,
         &one,
@@ -114,7 +114,7 @@ const READS: &[u8] =
 
 #[test]
 fn a_find_without_an_index_reads_nothing(rt: HostRuntime) -> Result<(), Fail> {
-    let one = said(&rt, THREE, true, READS)?;
+    let one = run_judged(&rt, THREE, true, READS)?;
     reports(
         &rt,
         &one,
@@ -130,9 +130,9 @@ fn one_session_is_answered_alike_at_both_levels(rt: HostRuntime) -> Result<(), F
         b"0 begin\n0 insert 3 30 1\n0 commit\n0 begin\n0 update 3 31 _\n0 get 3\n0 scan\n0 commit\n0 commit\n0 begin\n0 commit\n";
     let wanted =
         b"0 begun 0\n0 ok\n0 committed 1\n0 begun 1\n0 ok\n0 row 31 1\n0 rows 3:31,1\n0 committed 2\n0 refused idle\n0 begun 2\n0 ended 2\nhistory 2\n1 0 1 0\n2 0 2 1\n";
-    let one = said(&rt, THREE, true, text)?;
+    let one = run_judged(&rt, THREE, true, text)?;
     reports(&rt, &one, wanted)?;
-    let other = said(&rt, THREE, false, text)?;
+    let other = run_judged(&rt, THREE, false, text)?;
     reports(&rt, &other, wanted)?;
     assert!(rt; one.is_legal && one.is_serial && other.is_legal && other.is_serial);
     Ok(())
@@ -197,7 +197,7 @@ fn drawn_scripts_give_serializable_reports(rt: HostRuntime) -> Result<(), Fail> 
     for seed in 0..30u64 {
         let sessions = (seed % 15) as u32 + 2;
         let text = drawn_script(rt.alloc(), seed.wrapping_add(77), sessions as u64)?;
-        let one = said(&rt, tight(sessions), true, text.as_bytes())?;
+        let one = run_judged(&rt, tight(sessions), true, text.as_bytes())?;
         assert!(rt;
             one.is_serial,
             "the report from seed {seed} is legal at the serializable level"
