@@ -33,8 +33,7 @@ use Rattle.lst_replay.specs.Puts.{ArePutsFrom, HasRoomForRows, after_one, one_co
 use Rattle.lst_script.specs.declared.scripts.Named.{Named}
 use Rattle.lst_script.specs.Scripts.{IsNamed, AnswersUnlessMemory}
 use Rattle.lst_script.proofs.Versions.{answers_named}
-use Rattle.lst_command.specs.Owed.{OwesDump, OwesTable, dump_of}
-use Rattle.lst_command.specs.Runs.{Left}
+use Rattle.lst_command.specs.Owed.{OwesTable, dump_of}
 use Rattle.lst_dumps.specs.Dumps.{DumpsAreTables, IsDumped, last_table}
 use Rattle.lst_command.specs.TablesAgain.{ComesBack, DumpsComeBack, ImportIsScript, TablesComeBack}
 
