@@ -36,11 +36,16 @@ const STOCK_KEPT: &[u8] = b"recovered 1\nrows 1001:40,250 1002:15,900 1003:8,120
 
 const SALE_KEPT: &[u8] = b"recovered 2\nrows 1001:40,250 1002:14,900 1003:6,1200\n";
 
-/// The layout of a store where no limits are named.
+/// The layout of a small store.
 fn layout() -> Result<Layout, Fail>
     ensures { IfOk result (λ layout. IsValid layout.limits) }
 {
-    match Limits::default().check() {
+    let limits = Limits {
+        ranges: 1,
+        tails: 64,
+        ..Limits::default()
+    };
+    match limits.check() {
         Ok(layout) => Ok(layout),
         Err(_) => Err("the limits are out of range".into()),
     }
@@ -82,28 +87,28 @@ fn a_commit_is_recovered_once_its_calls_are_made(rt: HostRuntime) -> Result<(), 
     let lost = b"0 begun 0\n0 ok\n0 stopped\nrecovered 0\nrows\n";
     let torn = b"0 begun 0\n0 ok\n0 stopped\nrecovered 1\nrows 7:10,20\n";
     assert_eq!(rt;
-        crashed(alloc, PUT, 65536, 5, false)?.as_bytes(),
+        crashed(alloc, PUT, 1024, 5, false)?.as_bytes(),
         kept.as_slice()
     );
     for stop in 1..5 {
         assert_eq!(rt;
-            crashed(alloc, PUT, 65536, stop, false)?.as_bytes(),
+            crashed(alloc, PUT, 1024, stop, false)?.as_bytes(),
             lost.as_slice()
         );
     }
     for stop in 1..4 {
         assert_eq!(rt;
-            crashed(alloc, PUT, 65536, stop, true)?.as_bytes(),
+            crashed(alloc, PUT, 1024, stop, true)?.as_bytes(),
             lost.as_slice()
         );
     }
     assert_eq!(rt;
-        crashed(alloc, PUT, 65536, 4, true)?.as_bytes(),
+        crashed(alloc, PUT, 1024, 4, true)?.as_bytes(),
         torn.as_slice()
     );
     let stopped = b"stopped\nrecovered 0\nrows\n";
     assert_eq!(rt;
-        crashed(alloc, PUT, 65536, 0, true)?.as_bytes(),
+        crashed(alloc, PUT, 1024, 0, true)?.as_bytes(),
         stopped.as_slice()
     );
     Ok(())
@@ -149,7 +154,7 @@ fn a_stock_is_crashed_at_each_call(rt: HostRuntime) -> Result<(), Fail> {
     for stop in 0..10 {
         for torn in [false, true] {
             let wanted = owed(alloc, stop, torn)?;
-            let text = crashed(alloc, STOCK, 65536, stop, torn)?;
+            let text = crashed(alloc, STOCK, 1024, stop, torn)?;
             assert_eq!(rt; text.as_bytes(), wanted.as_bytes());
         }
     }
