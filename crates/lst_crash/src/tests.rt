@@ -53,6 +53,7 @@ fn layout() -> Result<Layout, Fail>
 
 /// The lines of a text.
 fn script_of(alloc: Global, text: &[u8], limits: &Limits) -> Result<Script, Fail>
+    requires { IsValid limits.now }
     ensures { IfOk result (λ script. All (IsTaken limits.now) script) }
 {
     match parse(alloc, text, limits) {
