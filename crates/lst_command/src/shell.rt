@@ -67,8 +67,8 @@ const MOST_BYTES: u64 = 16_777_216;
 /// sink fails or memory is wanting.
 ///
 /// With `Done` and with `WriteFault` of a run, a look at a past table and a dump, `left` receives a store with those limits and the crew that hosts all of
-/// it, which tells the machine's state after the last line; of a crash the store and the crew that were opened last, which tell its state behind the
-/// commits that were recovered; of sessions at work the store and the crew in which they are gathered, under whose history
+/// it, which tells the machine's state after the last line; of a crash a store and its crew, which tell its state behind the lines that run
+/// the recovered commits again; of sessions at work the store and the crew in which they are gathered, under whose history
 /// the very report that was written is legal. Of a load it receives the store and the crew in which its sessions are gathered. With any other status,
 /// and of a check, a migration or an import, `left` stays as it is.
 ///

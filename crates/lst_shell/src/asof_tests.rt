@@ -16,7 +16,7 @@ const PUT_AGAIN: &str =
     "0 begin\n0 insert 7 10 20\n0 commit\n0 begin\n0 delete 7\n0 commit\n0 begin\n0 insert 7 30 40\n0 commit\n";
 
 /// A look at which nothing fails.
-fn tells(
+pub(crate) fn tells(
     rt: &(impl Abort + Threads + Wait + Sync),
     alloc: Global,
     line: &str,
@@ -75,7 +75,7 @@ fn words_and_lines_of_a_look_are_refused(rt: HostRuntime) -> Result<(), Fail> {
 }
 
 /// The bytes behind the first newline.
-fn behind_line(bytes: &[u8]) -> &[u8] {
+pub(crate) fn behind_line(bytes: &[u8]) -> &[u8] {
     match bytes.iter().position(|byte| *byte == b'\n') {
         Some(place) => &bytes[place + 1..],
         None => bytes,
@@ -83,7 +83,7 @@ fn behind_line(bytes: &[u8]) -> &[u8] {
 }
 
 /// The bytes without this last line, where they end with it.
-fn without_last<'a>(bytes: &'a [u8], line: &[u8]) -> &'a [u8] {
+pub(crate) fn without_last<'a>(bytes: &'a [u8], line: &[u8]) -> &'a [u8] {
     match bytes.strip_suffix(line) {
         Some(front) => front,
         None => bytes,
@@ -118,7 +118,7 @@ fn is_scanned(
 }
 
 /// A script of many small transactions on eight keys, drawn from a number.
-fn drawn(alloc: Global, seed: u64) -> Result<String, Fail> {
+pub(crate) fn drawn(alloc: Global, seed: u64) -> Result<String, Fail> {
     let mut script = String::new(alloc);
     script.push_str("version 2 a b\n")?;
     let mut state = seed;

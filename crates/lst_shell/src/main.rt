@@ -1,11 +1,13 @@
 //! The program `lstore`: it runs a script on the store, line by line or by all sessions side by side, and writes what is answered;
-//! it judges a report; it tells a past table; it writes a script for a table, and a table for a script; or it generates a script for its sessions.
+//! it judges a report; it tells a past table; it crashes a script's journal, and tells what is recovered; it writes a script for a table, and a table for a script; or it generates a script for its sessions.
 #![tactic(auto)]
 
 #[cfg(test)]
 mod asof_tests;
 #[cfg(test)]
 mod check_tests;
+#[cfg(test)]
+mod crash_tests;
 #[cfg(test)]
 mod drawn_tests;
 #[cfg(test)]

@@ -94,7 +94,7 @@ fn a_skewed_write_is_stale_at_the_serializable_level_alone(rt: HostRuntime) -> R
 
 /// A stale transaction stays open: it may be given up, and made anew. What it had read is forgotten then.
 const AGAIN: &[u8] =
-    b"2 begin\n2 insert 1 1 0\n2 insert 2 1 0\n2 commit\nphase\n1 begin\n1 get 2\nphase\n0 begin\n0 update 2 5 _\n0 commit\nphase\n1 update 1 0 _\n1 commit\n1 commit\n1 abort\n1 begin\n1 update 1 7 _\n1 commit\n";
+    b"2 begin\n2 insert 1 1 0\n2 insert 2 1 0\n2 commit\nphase\n1 begin\n1 get 2\nphase\n0 begin\n0 update 2 5 _\n0 commit\nphase\n1 update 1 0 _\n1 commit\n1 commit\n1 abort\n1 begin\nphase\n0 begin\n0 update 2 9 _\n0 commit\nphase\n1 update 1 7 _\n1 commit\n";
 
 #[test]
 fn a_stale_transaction_stays_open(rt: HostRuntime) -> Result<(), Fail> {
@@ -102,7 +102,7 @@ fn a_stale_transaction_stays_open(rt: HostRuntime) -> Result<(), Fail> {
     reports(
         &rt,
         &one,
-        b"2 begun 0\n2 ok\n2 ok\n2 committed 1\n1 begun 1\n1 row 1 0\n0 begun 1\n0 ok\n0 committed 2\n1 ok\n1 conflict stale 2\n1 conflict stale 2\n1 aborted\n1 begun 2\n1 ok\n1 committed 3\nhistory 3\n1 2 1 0\n2 0 1 1\n3 1 2 2\n",
+        b"2 begun 0\n2 ok\n2 ok\n2 committed 1\n1 begun 1\n1 row 1 0\n0 begun 1\n0 ok\n0 committed 2\n1 ok\n1 conflict stale 2\n1 conflict stale 2\n1 aborted\n1 begun 2\n0 begun 2\n0 ok\n0 committed 3\n1 ok\n1 committed 4\nhistory 4\n1 2 1 0\n2 0 1 1\n3 0 2 2\n4 1 2 2\n",
     )?;
     assert!(rt; one.is_serial);
     Ok(())

@@ -141,11 +141,11 @@ pub fn work<R: Threads + Wait + Sync, G: Gate + Sync>(
     work_at(rt, alloc, Level::Snapshot, layout, script, gate)
 }
 
-/// Runs a script as `work` does, by sessions at the serializable level. A commit of a transaction with writes is told stale where another commit changed
-/// what the transaction had read, and the transaction stays open.
+/// Runs a script as `work` does, by sessions at the serializable level. A commit of a transaction with writes is told stale only where another commit
+/// changed what the transaction had read, and the transaction stays open.
 ///
-/// The report is legal for the script at the serializable level: the calls of each transaction that commits are answered as if it had run alone at its
-/// commit's time, and each stale commit has its reason. The only error is want of memory. Nothing is promised of when the call returns.
+/// The report is legal for the script at the serializable level: the calls of each transaction that commits writes are answered as if it had run alone
+/// at its commit's time, and each stale commit has its reason. The only error is want of memory. Nothing is promised of when the call returns.
 pub fn work_serial<R: Threads + Wait + Sync, G: Gate + Sync>(
     rt: &R,
     alloc: Global,

@@ -4,6 +4,7 @@ ghost use Rattle.std.specs.List.{All};
 ghost use Rattle.lst_model.specs.Lines.{LineFits};
 ghost use Rattle.lst_session.specs.Parting.{IsMergerOf};
 ghost use Rattle.lst_replies.specs.Runs.{run_of};
+ghost use Rattle.lst_legal_runs.specs.declared.levels.Level.TheVariants.{Snapshot};
 ghost use Rattle.lst_work_laws.specs.Keeping.{EachEnds};
 ghost use Rattle.lst_work_laws.specs.Phases.{HaveRunThrough};
 ghost use Rattle.lst_work_laws.specs.Whole.{AreAll};
@@ -28,7 +29,7 @@ use std::thread::Threads;
 ///
 /// Answers the sessions and the replies, in the order of the script's lines. `Works` says what the replies tell, by those rules of a legal report
 /// that speak of one session or of the merger, and what the lines leave of what each of them knows; `HaveRunThrough` says of each line what its
-/// session or the merger knew before and after it. For want of memory the sessions are given up,
+/// session or the merger knew before and after it. `EachEnds` says that each session's transactions end as under snapshot isolation: none is told stale. For want of memory the sessions are given up,
 /// and what their lines did stands. A commit waits while another session commits, and a merge for the lines before it; nothing is promised of when the
 /// call returns.
 pub fn work_on<R: Threads + Wait + Sync, G: Gate + Sync>(
@@ -47,6 +48,7 @@ pub fn work_on<R: Threads + Wait + Sync, G: Gate + Sync>(
     ensures all { IfOk result (λ done. AreAll store.now done.0) }
     ensures run { IfOk result (λ done. HaveRunThrough store.now script.now sessions done.0 merger.old.seat.view merger.new.seat.view done.1) }
     ensures works { IfOk result (λ done. Works store.now script.now sessions done.0 merger.old.seat.view merger.new.seat.view done.1) }
+    ensures ends { IfOk result (λ done. EachEnds Snapshot (run_of script.now done.1) sessions done.0) }
 {
     work_on_at(
         rt,
