@@ -24,15 +24,17 @@ crash_fault disk limits input bytes fault status same same_input is =
     subst (IsRefusalFor (Crash disk) limits input) (sym same) (refused disk limits input fault (subst (λ (text : List ℕ). Explains limits text fault) same_input is))
 
 -- the text of a run that is crashed, with what is left, is the output
-pub crash_output : (disk : DiskOptions) (limits : Limits) (input bytes : List ℕ) (script : List Line) (text : List ℕ) (both : Store × Crew) (output : Output) → HasMade text both output
-    → bytes ≡ input → IsScript limits bytes script → IsCrashed limits disk.bytes disk.stop script text both → IsOutputFor (Crash disk) limits input output
-crash_output disk limits input bytes script text both output made same_input is_script by = (
-  record {
-    script = script;
-    is_script = subst (λ (bytes : List ℕ). IsScript limits bytes script) same_input is_script;
-    both = both;
-    is_left = made.left;
-    by = subst (λ (told : List ℕ). IsCrashed limits disk.bytes disk.stop script told both) (sym made.said) by;
-  },
-  made.ended,
-)
+pub crash_output : (disk : DiskOptions) (limits opened : Limits) (stop : ℕ) (input bytes : List ℕ) (script : List Line) (text : List ℕ) (both : Store × Crew) (output : Output) → HasMade text both output
+    → bytes ≡ input → IsScript limits bytes script → opened ≡ limits → stop ≡ disk.stop → IsCrashed opened disk.bytes stop script text both → IsOutputFor (Crash disk) limits input output
+crash_output disk limits opened stop input bytes script text both output made same_input is_script limited counted by =
+    let under : IsCrashed limits disk.bytes stop script text both = subst (λ (l : Limits). IsCrashed l disk.bytes stop script text both) limited by in
+    let stopped : IsCrashed limits disk.bytes disk.stop script text both = subst (λ (calls : ℕ). IsCrashed limits disk.bytes calls script text both) counted under in (
+      record {
+        script = script;
+        is_script = subst (λ (bytes : List ℕ). IsScript limits bytes script) same_input is_script;
+        both = both;
+        is_left = made.left;
+        by = subst (λ (told : List ℕ). IsCrashed limits disk.bytes disk.stop script told both) (sym made.said) stopped;
+      },
+      made.ended,
+    )

@@ -137,7 +137,7 @@ tables_come_back committed importing limits names table text valid same is =
 -- ---- what any dump owes
 
 few_rows : (limits : Limits) (rows : ℕ) → IsValid limits → rows ≤ 256 * limits.ranges → rows ≤ 16384
-few_rows limits rows valid few = arith few valid.ranges.1
+few_rows limits rows valid few = let most = valid.ranges.1 in omega (arith, few, most)
 
 pub dumps_come_back : PutsAreCommitted → DumpsAreTables → DumpsComeBack
 dumps_come_back committed tables importing limits input text left valid same owed =
