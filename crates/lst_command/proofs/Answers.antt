@@ -1,5 +1,5 @@
 -- What the statuses say, taken together.
-use Rattle.std.proofs.Common.{◌≡◌, ℕ, ◌<◌, ◌≤◌, List, ◌++◌, [], ◌∷◌, slice_index_or, true≢false, Ok, Err, length, length-append, Option, Some, None, IfSome, codes, refl, sym, ap, ◌∙◌, subst, arith, inl, inr, append-nil}
+use Rattle.std.proofs.Common.{◌≡◌, ℕ, ◌<◌, ◌≤◌, List, ◌++◌, ◌∷◌, slice_index_or, Ok, Err, length, length-append, Option, Some, None, IfSome, codes, refl, sym, ap, ◌∙◌, subst, arith, inl, inr, append-nil}
 use Rattle.lst_io.specs.Inputs.{IsWholeInput, ReadsBeyond}
 use Rattle.lst_script.specs.declared.faults.FaultKind.{FaultKind}
 use Rattle.lst_csv.specs.declared.faults.TableFault.{TableFault}
@@ -19,7 +19,7 @@ use Rattle.lst_options.specs.declared.crash.CrashOptions.{CrashOptions}
 use Rattle.lst_options.specs.declared.level.LevelOptions.{LevelOptions}
 use Rattle.lst_options.specs.declared.load.LoadNumbers.{LoadNumbers}
 use Rattle.lst_options.specs.declared.as_of.AsOfOptions.{AsOfOptions}
-use Rattle.lst_options.specs.Options.{NamesLimits, NamesLoad}
+use Rattle.lst_options.specs.Options.{NamesLoad}
 use Rattle.lst_options.proofs.OneStore.{names_one, names_one_as_of, names_one_level, names_one_load, names_one_table, names_one_crash}
 use Rattle.lst_command.specs.declared.command.Command.{Command}
 use Rattle.lst_command.specs.declared.command.Command.TheVariants.{Input, Load}

@@ -1,5 +1,5 @@
 -- A run that is crashed: its output, and why there is none.
-use Rattle.std.proofs.Common.{◌≡◌, ℕ, List, sym, subst, ◌∙◌}
+use Rattle.std.proofs.Common.{◌≡◌, ℕ, List, sym, subst}
 use Rattle.lst_layout.specs.declared.limits.Limits.{Limits}
 use Rattle.lst_model.specs.declared.lines.Line.{Line}
 use Rattle.lst_rule.specs.declared.store.Store.{Store}

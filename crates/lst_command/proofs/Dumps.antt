@@ -1,7 +1,6 @@
 -- An import, and the table that a run leaves.
 use Rattle.std.proofs.Common.{◌≡◌, ℕ, List, None, sym, subst, ◌∙◌}
 use Rattle.lst_layout.specs.declared.limits.Limits.{Limits}
-use Rattle.lst_model.specs.declared.lines.Line.{Line}
 use Rattle.lst_rule.specs.declared.store.Store.{Store}
 use Rattle.lst_session.specs.declared.crew.Crew.{Crew}
 use Rattle.lst_csv.specs.declared.faults.TableRefusal.{TableRefusal}
