@@ -3,4 +3,5 @@ pub mod Asking
 pub mod Naming
 pub mod Values
 pub mod Joining
+pub mod InOrder
 pub mod Recounting

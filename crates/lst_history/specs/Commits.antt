@@ -1,26 +1,36 @@
--- The commits with the writes of the first tails, and which commit the write of a tail is of.
-use Rattle.std.specs.Prelude.{◌≡◌, ℕ, zero, suc, ◌<◌, ◌≤◌, List, [], ◌∷◌, false, eqb}
+-- The commits with the writes of the first tails, which commit the write of a tail is of, and the order that a commit has its writes in.
+use Rattle.std.specs.Prelude.{◌≡◌, ℕ, zero, suc, ◌<◌, ◌≤◌, List, [], ◌∷◌, ◌++◌, cond, false, eqb}
+use Rattle.std.specs.List.{fold}
 use Rattle.lst_layout.specs.declared.limits.Limits.{Limits}
 use Rattle.lst_model.specs.declared.acts.Write.{Write}
 use Rattle.lst_model.specs.declared.commits.Commit.{Commit}
 use Rattle.lst_model.specs.Histories.{joined}
-use Rattle.lst_core_state.specs.Writes.{write, writes_by}
+use Rattle.lst_core_state.specs.Writes.{write}
 use Rattle.lst_core_state.specs.State.{Words, history, is_by, record_in, act_in}
-
--- the writes of the transaction x in the first n tails
-abbrev pub writes_until : Limits → Words → ℕ → ℕ → List Write
-writes_until l w n x = writes_by (is_by w.log w.cells x) (λ t. w.keys (record_in l w.cells t)) (act_in l w.cells) n
-
--- the commits, with the writes of the first n tails
-abbrev pub history_until : Limits → Words → ℕ → List Commit
-history_until l w n = history w.clock w.log w.begins (writes_until l w n)
-
-abbrev pub without_writes : Commit → Commit
-without_writes c = record c { writes = [] }
 
 -- the write of a tail
 abbrev pub write_at : Limits → Words → ℕ → Write
 write_at l w t = write (w.keys (record_in l w.cells t)) (act_in l w.cells t)
+
+-- the writes of the transaction x in the first n tails, in the order of the tails
+abbrev pub writes_until : Limits → Words → ℕ → ℕ → List Write
+writes_until l w zero x = []
+writes_until l w (suc n) x = cond (is_by w.log w.cells x (suc n)) (writes_until l w n x ++ write_at l w (suc n) ∷ []) (writes_until l w n x)
+
+-- the commits, with the writes of the first n tails in the order of the tails
+abbrev pub gathered_until : Limits → Words → ℕ → List Commit
+gathered_until l w n = history w.clock w.log w.begins (writes_until l w n)
+
+-- writes by rising key, those of one key in the order that they had
+abbrev pub by_key : List Write → List Write
+by_key ws = fold joined [] ws
+
+-- a commit with its writes in that order
+abbrev pub in_order : Commit → Commit
+in_order c = record c { writes = by_key c.writes }
+
+abbrev pub without_writes : Commit → Commit
+without_writes c = record c { writes = [] }
 
 -- the transaction x is the commit at this time, and at no other
 pub record IsCommit (clock : ℕ) (log : ℕ → ℕ) (x time : ℕ) : Type 0 where
@@ -43,11 +53,11 @@ pub record IsOfCommit (w : Words) (t time : ℕ) : Type 0 where
 abbrev pub IsOfNone : Words → ℕ → Type 0
 IsOfNone w t = (u : ℕ) → 0 < u → u ≤ w.clock → is_by w.log w.cells (w.log u) t ≡ false
 
--- a write joins those of a commit
+-- a write comes behind those of a commit
 abbrev pub with_write : Commit → Write → Commit
-with_write c x = record c { writes = joined c.writes x }
+with_write c x = record c { writes = c.writes ++ x ∷ [] }
 
--- a write joins those of the i-th commit, from 0 on
+-- a write comes behind those of the i-th commit, from 0 on
 abbrev pub entered : List Commit → ℕ → Write → List Commit
 entered [] i x = []
 entered (c ∷ cs) zero x = with_write c x ∷ cs

@@ -4,7 +4,7 @@ ghost use Rattle.lst_layout.specs.Addresses as layout;
 ghost use Rattle.lst_layout.specs.declared.place.Place.TheVariants.{BeginWord};
 ghost use Rattle.lst_core_state.specs.State as state;
 ghost use Rattle.lst_history.specs.Peeks.{words_in, IsReader, Reads};
-ghost use Rattle.lst_history.specs.Commits.{history_until};
+ghost use Rattle.lst_history.specs.Commits.{gathered_until};
 
 use crate::words::{begin_word, log_word};
 use lst_bits::{Log, unpack_begin, unpack_log};
@@ -23,7 +23,7 @@ pub(crate) fn commits_until(
     requires reader { IsReader store.now seat.old s }
     requires clock { clock ≡ (words_in seat.old.view).clock }
     ensures reads { Reads store.now seat.old seat.new s }
-    ensures ok { IfOk result (λ commits. commits.items ≡ history_until seat.old.view.limits (words_in seat.old.view) 0) }
+    ensures ok { IfOk result (λ commits. commits.items ≡ gathered_until seat.old.view.limits (words_in seat.old.view) 0) }
 {
     let mut commits = Vec::new(alloc);
     for done in 0..clock {

@@ -10,6 +10,7 @@ mod bare;
 mod commits;
 mod joins;
 mod reading;
+mod sorting;
 mod tails;
 mod words;
 

@@ -6,10 +6,11 @@ ghost use Rattle.lst_rule.specs.Rule.{knows};
 ghost use Rattle.lst_rule.specs.Stores.{IsSeatOf};
 ghost use Rattle.lst_rule.specs.Surveys.{HostsAll};
 ghost use Rattle.lst_history.specs.Peeks.{words_in, IsReader, Reads, Recounts};
-ghost use Rattle.lst_history.specs.Commits.{history_until};
+ghost use Rattle.lst_history.specs.Commits.{gathered_until};
 
 use crate::commits::commits_until;
 use crate::joins::enter;
+use crate::sorting::sort_all;
 use crate::tails::{commit_time, tail_write};
 use crate::words::clock;
 use lst_model::{Commit, History, OutOfMemory};
@@ -52,15 +53,15 @@ fn recount(alloc: Global, store: &Store, seat: &mut Seat, s: u32) -> Result<Hist
     let tails = seat.limits().tail_count();
     let mut commits = commits_until(alloc, store, seat, s, clock)?;
     for done in 0..tails {
-        enter_tail(alloc, store, seat, s, done as u32, &mut commits)?;
+        enter_tail(store, seat, s, done as u32, &mut commits)?;
     }
+    sort_all(alloc, commits.as_mut_slice())?;
     seat.consider();
     Ok(History::from_items(commits))
 }
 
-/// Puts the write of the next tail record into its commit, where it has one. `done` counts the tail records before it.
+/// Puts the write of the next tail record behind those of its commit, where it has one. `done` counts the tail records before it.
 fn enter_tail(
-    alloc: Global,
     store: &Store,
     seat: &mut Seat,
     s: u32,
@@ -69,16 +70,16 @@ fn enter_tail(
 ) -> Result<(), OutOfMemory>
     requires reader { IsReader store.now seat.old s }
     requires done { done < tail_count seat.old.view.limits }
-    requires commits { commits.old.items ≡ history_until seat.old.view.limits (words_in seat.old.view) done }
+    requires commits { commits.old.items ≡ gathered_until seat.old.view.limits (words_in seat.old.view) done }
     ensures reads { Reads store.now seat.old seat.new s }
-    ensures ok { OnOk result (commits.new.items ≡ history_until seat.old.view.limits (words_in seat.old.view) (done + 1)) }
+    ensures ok { OnOk result (commits.new.items ≡ gathered_until seat.old.view.limits (words_in seat.old.view) (done + 1)) }
 {
     seat.consider();
     let tail = done + 1;
     match commit_time(store, seat, s, tail) {
         Some(time) => {
             let write = tail_write(store, seat, s, tail);
-            enter(alloc, commits, time, write)
+            enter(commits, time, write)
         }
         None => Ok(()),
     }

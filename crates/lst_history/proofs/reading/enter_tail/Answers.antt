@@ -1,20 +1,14 @@
-use Rattle.std.proofs.Common.{ℕ, ◌≡◌, ◌+◌, ◌-◌, List, length, sym, subst, ap, ◌∙◌, arith, get_or}
+use Rattle.std.proofs.Common.{ℕ, ◌≡◌, ◌+◌, ◌-◌, length, ap, ◌∙◌, arith}
 use Rattle.lst_layout.specs.declared.limits.Limits.{Limits}
 use Rattle.lst_layout.specs.Words.{Words}
-use Rattle.lst_model.specs.declared.commits.Commit.{Commit}
-use Rattle.lst_core_state.specs.Writes.{Rising}
 use Rattle.lst_history.specs.Peeks.{words_in}
 use Rattle.lst_history.specs.Commits.{write_at, entered}
 use Rattle.lst_history.proofs.Looks.{reads_on, same_words}
-use Rattle.lst_history.proofs.Joining.{on_ok, commits_rising, length-history_until, entered_tail, passed_tail}
+use Rattle.lst_history.proofs.Joining.{on_ok, length-gathered_until, entered_tail, passed_tail}
 use Rattle.lst_history.proofs.reading.enter_tail.Goals as goal
 
 pub enter-requires-clause-time : goal.enter-requires-clause-time
-enter-requires-clause-time c = let of = c.in-Some.ensures.time in let a = of.some in let b = of.past in let wide = ap length c.requires.commits ∙ length-history_until c.args.seat.now.view.limits (words_in c.args.seat.now.view) c.args.done in (a, omega arith)
-
-pub enter-requires-clause-rising : goal.enter-requires-clause-rising
-enter-requires-clause-rising c = λ i d low. let l : Limits = c.args.seat.now.view.limits in let w : Words = words_in c.args.seat.now.view in let wide = ap length c.requires.commits ∙ length-history_until l w c.args.done in
-    subst (λ (cs : List Commit). Rising 0 (get_or cs i d).writes) (sym c.requires.commits) (commits_rising l w c.args.done i d (omega arith))
+enter-requires-clause-time c = let of = c.in-Some.ensures.time in let a = of.some in let b = of.past in let wide = ap length c.requires.commits ∙ length-gathered_until c.args.seat.now.view.limits (words_in c.args.seat.now.view) c.args.done in (a, omega arith)
 
 pub returns-in-Some-clause-reads : goal.returns-in-Some-clause-reads
 returns-in-Some-clause-reads c = reads_on c.args.store.now c.args.seat.now c.commit_time.new.seat c.tail_write-write.new.seat c.args.s c.commit_time.ensures.reads c.tail_write-write.ensures.reads

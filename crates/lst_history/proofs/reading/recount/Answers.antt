@@ -1,11 +1,12 @@
-use Rattle.std.proofs.Common.{◌+◌, subst, ◌∙◌}
+use Rattle.std.proofs.Common.{◌+◌, map, ap, subst, ◌∙◌}
 use Rattle.lst_model.specs.Histories.{Extends}
 use Rattle.lst_core_state.specs.State.{history_of}
 use Rattle.lst_core_state.proofs.Histories.{starts_trans}
 use Rattle.lst_rule.specs.Rule.{knows}
 use Rattle.lst_history.specs.Peeks.{words_in}
-use Rattle.lst_history.specs.Commits.{history_until}
+use Rattle.lst_history.specs.Commits.{gathered_until, in_order}
 use Rattle.lst_history.proofs.Looks.{reads_on, same_words, seen_grows, seen_all}
+use Rattle.lst_history.proofs.InOrder.{gathered_in_order}
 use Rattle.lst_history.proofs.reading.recount.Goals as goal
 
 pub returns-in_err-commits-clause-reads : goal.returns-in_err-commits-clause-reads
@@ -14,7 +15,7 @@ returns-in_err-commits-clause-reads c = reads_on c.args.store.now c.args.seat.no
 pub loop-done-init : goal.loop-done-init
 loop-done-init c = (
   reads_on c.args.store.now c.args.seat.now c.clock-clock.new.seat c.commits_until.new.seat c.args.s c.clock-clock.ensures.reads c.commits_until.ensures.reads,
-  c.in_ok-commits.ensures.ok ∙ (λ i. history_until (c.clock-clock.ensures.reads.limits i) (same_words c.args.store.now c.args.seat.now c.clock-clock.new.seat c.args.s c.clock-clock.ensures.reads i) 0),
+  c.in_ok-commits.ensures.ok ∙ (λ i. gathered_until (c.clock-clock.ensures.reads.limits i) (same_words c.args.store.now c.args.seat.now c.clock-clock.new.seat c.args.s c.clock-clock.ensures.reads i) 0),
   subst (Extends (knows c.commits_until.new.seat.view c.args.s).seen) c.clock-clock.ensures.seen (seen_grows c.args.store.now c.clock-clock.new.seat c.commits_until.new.seat c.args.s c.commits_until.ensures.reads),
 )
 
@@ -24,9 +25,12 @@ returns-in_err-enter_tail-clause-reads c = reads_on c.args.store.now c.args.seat
 pub loop-done-preserved : goal.loop-done-preserved
 loop-done-preserved c = (
   reads_on c.args.store.now c.args.seat.now c.loop-done.seat c.enter_tail.new.seat c.args.s c.loop-done.invariant.0 c.enter_tail.ensures.reads,
-  c.in_ok-enter_tail.ensures.ok ∙ (λ i. history_until (c.loop-done.invariant.0.limits i) (same_words c.args.store.now c.args.seat.now c.loop-done.seat c.args.s c.loop-done.invariant.0 i) (c.loop-done.done + 1)),
+  c.in_ok-enter_tail.ensures.ok ∙ (λ i. gathered_until (c.loop-done.invariant.0.limits i) (same_words c.args.store.now c.args.seat.now c.loop-done.seat c.args.s c.loop-done.invariant.0 i) (c.loop-done.done + 1)),
   starts_trans (knows c.enter_tail.new.seat.view c.args.s).seen (knows c.loop-done.seat.view c.args.s).seen (history_of c.args.seat.now.view.limits (words_in c.args.seat.now.view)) (seen_grows c.args.store.now c.loop-done.seat c.enter_tail.new.seat c.args.s c.enter_tail.ensures.reads) c.loop-done.invariant.2,
 )
+
+pub returns-clause-ok : goal.returns-clause-ok
+returns-clause-ok c = c.from_items.ensures ∙ (c.in_ok-sort_all.ensures.ok ∙ (ap (map in_order) (c.as_mut_slice.ensures.value ∙ c.loop-done.invariant.1) ∙ gathered_in_order c.args.seat.now.view.limits (words_in c.args.seat.now.view)))
 
 pub returns-clause-seen : goal.returns-clause-seen
 returns-clause-seen c = seen_all c.args.store.now c.args.seat.now c.loop-done.seat c.args.s c.loop-done.invariant.0 c.consider-2.ensures c.loop-done.invariant.2

@@ -3,8 +3,8 @@ use Rattle.lst_model.specs.Histories.{Extends}
 use Rattle.lst_core_state.specs.State.{history_of}
 use Rattle.lst_rule.specs.Rule.{knows}
 use Rattle.lst_history.specs.Peeks.{words_in, Reads}
-use Rattle.lst_history.specs.Commits.{history_until}
+use Rattle.lst_history.specs.Commits.{gathered_until}
 use Rattle.lst_history.proofs.reading.recount.Given as goal
 
 abbrev pub invariant-loop-done : goal.invariant-loop-done
-invariant-loop-done l = Reads l.store l.fn.seat l.seat l.s × (l.commits.items ≡ history_until l.fn.seat.view.limits (words_in l.fn.seat.view) l.done) × Extends (knows l.seat.view l.s).seen (history_of l.fn.seat.view.limits (words_in l.fn.seat.view))
+invariant-loop-done l = Reads l.store l.fn.seat l.seat l.s × (l.commits.items ≡ gathered_until l.fn.seat.view.limits (words_in l.fn.seat.view) l.done) × Extends (knows l.seat.view l.s).seen (history_of l.fn.seat.view.limits (words_in l.fn.seat.view))
