@@ -7,8 +7,8 @@ use Rattle.lst_history.proofs.Looks.{reads_on, same_words}
 use Rattle.lst_history.proofs.Joining.{on_ok, length-gathered_until, entered_tail, passed_tail}
 use Rattle.lst_history.proofs.reading.enter_tail.Goals as goal
 
-pub enter-requires-clause-time : goal.enter-requires-clause-time
-enter-requires-clause-time c = let of = c.in-Some.ensures.time in let a = of.some in let b = of.past in let wide = ap length c.requires.commits ∙ length-gathered_until c.args.seat.now.view.limits (words_in c.args.seat.now.view) c.args.done in (a, omega arith)
+pub enter-requires : goal.enter-requires
+enter-requires c = let of = c.in-Some.ensures.time in let a = of.some in let b = of.past in let wide = ap length c.requires.commits ∙ length-gathered_until c.args.seat.now.view.limits (words_in c.args.seat.now.view) c.args.done in record { time = (a, omega arith) }
 
 pub returns-in-Some-clause-reads : goal.returns-in-Some-clause-reads
 returns-in-Some-clause-reads c = reads_on c.args.store.now c.args.seat.now c.commit_time.new.seat c.tail_write-write.new.seat c.args.s c.commit_time.ensures.reads c.tail_write-write.ensures.reads

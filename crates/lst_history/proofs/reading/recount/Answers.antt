@@ -1,5 +1,10 @@
-use Rattle.std.proofs.Common.{◌+◌, map, ap, subst, ◌∙◌}
+use Rattle.std.proofs.Common.{rules, ◌≡◌, ℕ, ◌+◌, List, ◌++◌, length, map, take, drop, sym, ap, subst, ◌∙◌}
+use Rattle.std.proofs.Math.Seq.{take-append_seam}
+use Rattle.lst_layout.specs.declared.limits.Limits.{Limits}
+use Rattle.lst_layout.specs.Words.{Words}
+use Rattle.lst_model.specs.declared.commits.Commit.{Commit}
 use Rattle.lst_model.specs.Histories.{Extends}
+use Rattle.lst_core_state.specs.Cells.{tail_count}
 use Rattle.lst_core_state.specs.State.{history_of}
 use Rattle.lst_core_state.proofs.Histories.{starts_trans}
 use Rattle.lst_rule.specs.Rule.{knows}
@@ -30,7 +35,11 @@ loop-done-preserved c = (
 )
 
 pub returns-clause-ok : goal.returns-clause-ok
-returns-clause-ok c = c.from_items.ensures ∙ (c.in_ok-sort_all.ensures.ok ∙ (ap (map in_order) (c.as_mut_slice.ensures.value ∙ c.loop-done.invariant.1) ∙ gathered_in_order c.args.seat.now.view.limits (words_in c.args.seat.now.view)))
+returns-clause-ok c = let l : Limits = c.args.seat.now.view.limits in let w : Words = words_in c.args.seat.now.view in
+    let last : c.loop-done.done ≡ tail_count l = search rules in
+    let commits : List Commit = c.sort_all.new.commits in
+    let back = ap (λ (n : ℕ). take n (commits ++ drop (length commits) c.loop-done.commits.items)) (sym (c.sort_all.auto.commits ∙ c.as_mut_slice.ensures.len)) ∙ take-append_seam commits (drop (length commits) c.loop-done.commits.items) in
+    c.from_items.ensures ∙ (back ∙ c.in_ok-sort_all.ensures.ok ∙ (ap (map in_order) (c.as_mut_slice.ensures.value ∙ c.loop-done.invariant.1 ∙ ap (gathered_until l w) last) ∙ gathered_in_order l w))
 
 pub returns-clause-seen : goal.returns-clause-seen
 returns-clause-seen c = seen_all c.args.store.now c.args.seat.now c.loop-done.seat c.args.s c.loop-done.invariant.0 c.consider-2.ensures c.loop-done.invariant.2
