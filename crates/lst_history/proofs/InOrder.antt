@@ -17,7 +17,7 @@ use Rattle.lst_model.specs.declared.commits.Commit.{Commit}
 use Rattle.lst_model.specs.Histories.{acts_on, joined, StandFrom}
 use Rattle.lst_model.proofs.Joining.{stand_joined, acts_on-joined}
 use Rattle.lst_core_state.specs.Cells.{tail_count}
-use Rattle.lst_core_state.specs.Writes.{Rising, write, writes_by}
+use Rattle.lst_core_state.specs.Writes.{Rising, writes_by}
 use Rattle.lst_core_state.proofs.Writes.{acts_on-append, line_here, line_else, same_lines}
 use Rattle.lst_core_state.specs.State.{Words, history, history_of, commit_at, is_by, record_in, act_in}
 use Rattle.lst_history.specs.Commits.{writes_until, gathered_until, write_at, by_key, in_order}

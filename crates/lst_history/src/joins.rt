@@ -5,11 +5,7 @@ ghost use Rattle.lst_history.specs.Commits.{with_write, entered};
 use lst_model::{Commit, OutOfMemory, Write};
 
 /// Puts a write behind the others of the commit at a time, from 1 on. It answers want of memory where the commit finds none.
-pub(crate) fn enter(
-    commits: &mut Vec<Commit>,
-    time: u64,
-    write: Write,
-) -> Result<(), OutOfMemory>
+pub(crate) fn enter(commits: &mut Vec<Commit>, time: u64, write: Write) -> Result<(), OutOfMemory>
     requires time { (0 < time) × (time ≤ length commits.old.items) }
     ensures ok { OnOk result (commits.new.items ≡ entered commits.old.items (time - 1) write) }
 {

@@ -1,4 +1,4 @@
-use Rattle.std.proofs.Common.{ℕ, List, length, get_or, set, ap, ◌∙◌, arith}
+use Rattle.std.proofs.Common.{ℕ, List, get_or, set, ap, ◌∙◌, arith}
 use Rattle.lst_model.specs.declared.commits.Commit.{Commit}
 use Rattle.lst_history.specs.Commits.{in_order}
 use Rattle.lst_history.proofs.InOrder.{ordered_next, ordered_all}
