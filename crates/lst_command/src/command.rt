@@ -47,19 +47,19 @@ pub(crate) fn command_of(alloc: Global, words: &[String]) -> Result<Option<Comma
     ensures told { IfOk result (TellsCommand (map string_bytes words.now)) }
     ensures valid { IfOk result (λ command. IfSome command IsRunnable) }
 {
-    if begins_with_work(words) {
+    if begins_with(words, b"work") {
         return work_named(alloc, words);
     }
-    if begins_with_check(words) {
+    if begins_with(words, b"check") {
         return check_named(alloc, words);
     }
-    if begins_with_as_of(words) {
+    if begins_with(words, b"asof") {
         return as_of_named(alloc, words);
     }
-    if begins_with_import(words) {
+    if begins_with(words, b"import") {
         return import_named(alloc, words);
     }
-    if begins_with_crash(words) {
+    if begins_with(words, b"crash") {
         return crash_named(alloc, words);
     }
     match task_of(words) {
@@ -166,55 +166,13 @@ fn load_named(alloc: Global, words: &[String]) -> Result<Option<Command>, OutOfM
     ensures told { IfOk result (TellsCommand (map string_bytes words.now)) }
     ensures valid { IfOk result (λ command. IfSome command IsRunnable) }
 {
-    if !begins_with_load(words) {
+    if !begins_with(words, b"load") {
         return Ok(None);
     }
     match load_of_words(alloc, words)? {
         Some(numbers) => Ok(Some(Command::Load { numbers })),
         None => Ok(None),
     }
-}
-
-/// Whether the first word is that of a load.
-fn begins_with_load(words: &[String]) -> bool
-    ensures { IsTrue result ↔ (slice_get (map string_bytes words.now) 0 ≡ Some (codes "load")) }
-{
-    !words.is_empty() && is_word(&words[0], b"load")
-}
-
-/// Whether the first word is that of sessions at work.
-fn begins_with_work(words: &[String]) -> bool
-    ensures { IsTrue result ↔ (slice_get (map string_bytes words.now) 0 ≡ Some (codes "work")) }
-{
-    !words.is_empty() && is_word(&words[0], b"work")
-}
-
-/// Whether the first word is that of a check.
-fn begins_with_check(words: &[String]) -> bool
-    ensures { IsTrue result ↔ (slice_get (map string_bytes words.now) 0 ≡ Some (codes "check")) }
-{
-    !words.is_empty() && is_word(&words[0], b"check")
-}
-
-/// Whether the first word is that of a look at a past table.
-fn begins_with_as_of(words: &[String]) -> bool
-    ensures { IsTrue result ↔ (slice_get (map string_bytes words.now) 0 ≡ Some (codes "asof")) }
-{
-    !words.is_empty() && is_word(&words[0], b"asof")
-}
-
-/// Whether the first word is that of an import.
-fn begins_with_import(words: &[String]) -> bool
-    ensures { IsTrue result ↔ (slice_get (map string_bytes words.now) 0 ≡ Some (codes "import")) }
-{
-    !words.is_empty() && is_word(&words[0], b"import")
-}
-
-/// Whether the first word is that of a run that is crashed.
-fn begins_with_crash(words: &[String]) -> bool
-    ensures { IsTrue result ↔ (slice_get (map string_bytes words.now) 0 ≡ Some (codes "crash")) }
-{
-    !words.is_empty() && is_word(&words[0], b"crash")
 }
 
 /// The task that the first word names, where no other options than those of a store stand behind it.
@@ -228,24 +186,21 @@ fn task_of(words: &[String]) -> Option<Task>
     ensures some { IfSome result (λ task. slice_get (map string_bytes words.now) 0 ≡ Some (task_word task)) }
     ensures none { result ≡ None → (task : TaskNamed) → ¬ (slice_get (map string_bytes words.now) 0 ≡ Some (task_word task)) }
 {
-    if words.is_empty() {
-        return None;
-    }
-    if is_word(&words[0], b"run") {
+    if begins_with(words, b"run") {
         return Some(Task::Run);
     }
-    if is_word(&words[0], b"migrate") {
+    if begins_with(words, b"migrate") {
         return Some(Task::Migrate);
     }
-    if is_word(&words[0], b"dump") {
+    if begins_with(words, b"dump") {
         return Some(Task::Dump);
     }
     None
 }
 
-/// Whether a word is this one.
-fn is_word(word: &String, wanted: &[u8]) -> bool
-    ensures { IsTrue result ↔ (string_bytes word.now ≡ wanted.now) }
+/// Whether the first word is this one.
+fn begins_with(words: &[String], wanted: &[u8]) -> bool
+    ensures { IsTrue result ↔ (slice_get (map string_bytes words.now) 0 ≡ Some wanted.now) }
 {
-    word.as_bytes() == wanted
+    !words.is_empty() && words[0].as_bytes() == wanted
 }
