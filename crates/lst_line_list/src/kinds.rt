@@ -1,7 +1,9 @@
 //! What is kept of a line.
-ghost use Rattle.std.specs.Prelude.{◌≡◌, ◌+◌, ◌≤◌, ◌<◌, length, cond, Some, None};
+ghost use Rattle.std.specs.Prelude.{◌≡◌, ◌+◌, ◌≤◌, ◌<◌, [], length, drop, cond, Some, None};
 ghost use Rattle.lst_model.specs.Cells.{has_bit, cell_of, cells_of, patched, AreNull};
-ghost use Rattle.lst_line_list.specs.Kinds.{width, told, AreOf, own, line_of};
+ghost use Rattle.lst_model.specs.declared.lines.Line.TheVariants as lines;
+ghost use Rattle.lst_model.specs.declared.lines.Call.TheVariants as calls;
+ghost use Rattle.lst_line_list.specs.Kinds.{width, first, told, AreOf, own, line_of};
 
 use arrayvec::ArrayVec;
 use lst_model::{Call, Line, Patch, Row};
@@ -47,56 +49,144 @@ fn width(kind: Kind) -> usize
     }
 }
 
-/// The line that is kept, with its numbers among these.
-pub(crate) fn line_of(numbers: &[u64], kept: Kept) -> Line
+/// Makes this the line that is kept, with its numbers among these.
+#[inline(always)]
+pub(crate) fn put_line(numbers: &[u64], kept: Kept, line: &mut Line)
     requires within { kept.start + width kept.kind ≤ length numbers.now }
     requires are { AreOf kept.kind (own numbers.now kept) }
-    ensures { result ≡ line_of numbers.now kept }
+    ensures { line.new ≡ line_of numbers.now kept }
 {
     let start = kept.start as usize;
     let end = start + width(kept.kind);
-    told(kept.session, kept.kind, &numbers[start..end])
+    tell(kept.session, kept.kind, &numbers[start..end], line);
 }
 
-/// The line of a session and a kind with these numbers.
-fn told(session: u32, kind: Kind, numbers: &[u64]) -> Line
+/// Makes this the line of a session and a kind with these numbers. It is made where it stands: a line that is handed over by value is copied at each
+/// function that it comes through.
+#[inline(always)]
+fn tell(session: u32, kind: Kind, numbers: &[u64], line: &mut Line)
     requires wide { length numbers.now ≡ width kind }
     requires are { AreOf kind numbers.now }
-    ensures { result ≡ told session kind numbers.now }
+    ensures { line.new ≡ told session kind numbers.now }
 {
-    let call = match kind {
-        Kind::Phase => return Line::Phase,
+    match kind {
+        Kind::Phase => *line = Line::Phase,
         Kind::Merge => {
-            return Line::Merge {
+            *line = Line::Merge {
                 range: numbers[0] as u32,
                 column: numbers[1] as u32,
             };
         }
-        Kind::Begin => Call::Begin,
-        Kind::AsOf => Call::AsOf { time: numbers[0] },
-        Kind::Get => Call::Get { key: numbers[0] },
-        Kind::Insert { nulls, .. } => Call::Insert {
+        Kind::Begin => {
+            *line = Line::Call {
+                session,
+                call: Call::Begin,
+            };
+        }
+        Kind::AsOf => {
+            *line = Line::Call {
+                session,
+                call: Call::AsOf { time: numbers[0] },
+            };
+        }
+        Kind::Get => {
+            *line = Line::Call {
+                session,
+                call: Call::Get { key: numbers[0] },
+            };
+        }
+        Kind::Insert { nulls, .. } => tell_insert(session, nulls, numbers, line),
+        Kind::Update { set, nulls, .. } => tell_update(session, set, nulls, numbers, line),
+        Kind::Delete => {
+            *line = Line::Call {
+                session,
+                call: Call::Delete { key: numbers[0] },
+            };
+        }
+        Kind::Sum => {
+            *line = Line::Call {
+                session,
+                call: Call::Sum {
+                    column: numbers[0] as u32,
+                },
+            };
+        }
+        Kind::Count => {
+            *line = Line::Call {
+                session,
+                call: Call::Count,
+            };
+        }
+        Kind::Scan => {
+            *line = Line::Call {
+                session,
+                call: Call::Scan,
+            };
+        }
+        Kind::Find => {
+            *line = Line::Call {
+                session,
+                call: Call::Find {
+                    column: numbers[0] as u32,
+                    value: numbers[1],
+                },
+            };
+        }
+        Kind::Commit => {
+            *line = Line::Call {
+                session,
+                call: Call::Commit,
+            };
+        }
+        Kind::Abort => {
+            *line = Line::Call {
+                session,
+                call: Call::Abort,
+            };
+        }
+    }
+}
+
+/// Makes this the insert of a session with these numbers: a key, and one for each column. It is a function of its own, so that other lines needn't clear a
+/// row.
+#[inline(never)]
+fn tell_insert(session: u32, nulls: u8, numbers: &[u64], line: &mut Line)
+    requires some { 0 < length numbers.now }
+    requires few { length numbers.now ≤ 9 }
+    requires null { AreNull 0 nulls (drop 1 numbers.now) }
+    ensures { line.new ≡ lines.Call session (calls.Insert (first numbers.now) (cells_of nulls 0 (drop 1 numbers.now))) }
+{
+    *line = Line::Call {
+        session,
+        call: Call::Insert {
             key: numbers[0],
             row: row_of(nulls, &numbers[1..]),
         },
-        Kind::Update { set, nulls, .. } => Call::Update {
-            key: numbers[0],
-            patch: patch_of(set, nulls, &numbers[1..]),
-        },
-        Kind::Delete => Call::Delete { key: numbers[0] },
-        Kind::Sum => Call::Sum {
-            column: numbers[0] as u32,
-        },
-        Kind::Count => Call::Count,
-        Kind::Scan => Call::Scan,
-        Kind::Find => Call::Find {
-            column: numbers[0] as u32,
-            value: numbers[1],
-        },
-        Kind::Commit => Call::Commit,
-        Kind::Abort => Call::Abort,
     };
-    Line::Call { session, call }
+}
+
+/// Makes this the update of a session with these numbers: a key, and one for each column. It is a function of its own, so that other lines needn't clear a
+/// patch, which is filled where it stands.
+#[inline(never)]
+fn tell_update(session: u32, set: u8, nulls: u8, numbers: &[u64], line: &mut Line)
+    requires some { 0 < length numbers.now }
+    requires few { length numbers.now ≤ 9 }
+    ensures { line.new ≡ lines.Call session (calls.Update (first numbers.now) (patched set 0 (cells_of nulls 0 (drop 1 numbers.now)))) }
+{
+    *line = Line::Call {
+        session,
+        call: Call::Update {
+            key: numbers[0],
+            patch: Patch::of_numbers(ArrayVec::new()),
+        },
+    };
+    if let Line::Call {
+        call: Call::Update { patch, .. },
+        ..
+    } = line
+    {
+        fill(set, nulls, &numbers[1..], patch);
+    }
 }
 
 /// The row of these numbers, in the order of the columns, where those of the null bits are null. A null column's number is 0.
@@ -111,16 +201,16 @@ fn row_of(nulls: u8, numbers: &[u64]) -> Row
     Row::new(cells, nulls)
 }
 
-/// The patch that sets the columns of the mask to these numbers, or to null where the null bits say so.
-fn patch_of(set: u8, nulls: u8, numbers: &[u64]) -> Patch
-    requires { length numbers.now ≤ 8 }
-    ensures { result ≡ patched set 0 (cells_of nulls 0 numbers.now) }
+/// Makes a patch of no column the one that sets the columns of the mask to these numbers, or to null where the null bits say so.
+#[inline(always)]
+fn fill(set: u8, nulls: u8, numbers: &[u64], patch: &mut Patch)
+    requires few { length numbers.now ≤ 8 }
+    requires none { patch.old ≡ [] }
+    ensures { patch.new ≡ patched set 0 (cells_of nulls 0 numbers.now) }
 {
-    let mut patch = Patch::of_numbers(ArrayVec::new());
     for (column, number) in numbers.iter().enumerate() {
         patch.push(change(set, nulls, column as u32, *number));
     }
-    patch
 }
 
 /// What becomes of a column, where the mask has it.

@@ -5,7 +5,7 @@ ghost use Rattle.lst_model.specs.declared.lines.Call.TheVariants as call;
 ghost use Rattle.lst_line_list.specs.Kinds.{width, told, AreOf};
 
 use crate::keeping::{keep, keep_columns};
-use crate::kinds::{Kept, Kind, line_of};
+use crate::kinds::{Kept, Kind, put_line};
 use crate::packed::PackedPatch;
 use crate::parts::LineSlice;
 use lst_model::{Key, Line, OutOfMemory};
@@ -143,13 +143,24 @@ impl LineList {
     }
 
     /// The line at a place, counted from 0, made anew. It takes no memory.
-    #[tactic(auto, using(crate::proofs::Behind::kept_at, crate::proofs::Behind::told_at))]
     pub fn line(&self, place: usize) -> Line
         requires { place < length self.now }
         ensures { slice_get self.now place ≡ Some result }
     {
+        let mut line = Line::Phase;
+        self.put_line(place, &mut line);
+        line
+    }
+
+    /// Makes this the line at a place, counted from 0. It takes no memory, and unlike `line` it moves none.
+    #[tactic(auto, using(crate::proofs::Behind::kept_at, crate::proofs::Behind::told_at))]
+    #[inline(always)]
+    pub fn put_line(&self, place: usize, line: &mut Line)
+        requires { place < length self.now }
+        ensures { slice_get self.now place ≡ Some line.new }
+    {
         let one = self.kept[place];
-        line_of(&self.numbers, one)
+        put_line(&self.numbers, one, line);
     }
 
     /// All lines.

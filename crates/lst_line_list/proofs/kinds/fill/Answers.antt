@@ -3,7 +3,7 @@ use Rattle.std.proofs.lemmas.List.{length-append}
 use Rattle.std.specs.Prelude.{Some, None, slice_index}
 use Rattle.lst_model.specs.Cells.{has_bit, cell_of}
 use Rattle.lst_line_list.proofs.Values.{changes_more}
-use Rattle.lst_line_list.proofs.kinds.patch_of.Goals as goal
+use Rattle.lst_line_list.proofs.kinds.fill.Goals as goal
 
 pub loop-column-preserved : goal.loop-column-preserved
 loop-column-preserved c = let k : ℕ = c.loop-column.column in let x : ℕ = slice_index c.args.numbers.now k in
