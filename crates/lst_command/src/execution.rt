@@ -33,8 +33,10 @@ pub(crate) fn execute(alloc: Global, script: &Script, limits: &Limits) -> Result
 {
     let (store, mut crew) = open_crew(alloc, &layout(limits))?;
     let mut text = Text::new(alloc);
+    let mut line = Line::Phase;
     for place in 0..script.len() {
-        answer(alloc, &store, &mut crew, &mut text, &script.line(place))?;
+        script.put_line(place, &mut line);
+        answer(alloc, &store, &mut crew, &mut text, &line)?;
     }
     Ok(Ran {
         text,
