@@ -1,5 +1,5 @@
 //! How a line is kept.
-ghost use Rattle.std.specs.Prelude.{◌≡◌, suc, ◌+◌, ◌≤◌, [], ◌∷◌, ◌++◌, map, length, unwrap_or, vec_len, vec_capacity, IfOk, OnErr};
+ghost use Rattle.std.specs.Prelude.{◌≡◌, suc, ◌+◌, ◌≤◌, [], ◌∷◌, ◌++◌, map, length, unwrap_or, vec_len, vec_capacity, IfOk, OnOk, OnErr};
 ghost use Rattle.std.specs.List.{flat_map};
 ghost use Rattle.lst_model.specs.Cells.{bits_set, changed_number};
 ghost use Rattle.lst_model.specs.declared.lines.Line.TheVariants as line;
@@ -12,6 +12,19 @@ use lst_model::{Call, Key, Line, OutOfMemory, Patch, Row};
 /// The most numbers that a line has: a key, and one for each of eight columns.
 const MOST_NUMBERS: usize = 9;
 
+/// Makes room in a list for so many more. The test whether there is some stands here, and not in a call.
+#[inline(always)]
+pub(crate) fn make_room<T>(list: &mut Vec<T>, more: usize) -> Result<(), OutOfMemory>
+    ensures same { list.new.items ≡ list.old.items }
+    ensures room { OnOk result (vec_len list.new + more ≤ vec_capacity list.new) }
+{
+    if list.capacity() - list.len() >= more {
+        return Ok(());
+    }
+    list.reserve(more)?;
+    Ok(())
+}
+
 /// Keeps a line: its numbers behind these. Answers the rest of it. For want of memory, and where the place of its numbers has more than 32 bits, the
 /// numbers stay as they are.
 #[tactic(auto, using(crate::proofs::Behind::keeps))]
@@ -20,10 +33,11 @@ pub(crate) fn keep(line: Line, numbers: &mut Vec<u64>) -> Result<Kept, OutOfMemo
     ensures ok { IfOk result (λ kept. Keeps kept line numbers.old.items numbers.new.items) }
     ensures err { OnErr result (numbers.new.items ≡ numbers.old.items) }
 {
-    let Ok(start) = u32::try_from(numbers.len()) else {
+    if numbers.len() > u32::MAX as usize {
         return Err(OutOfMemory);
-    };
-    numbers.reserve(MOST_NUMBERS)?;
+    }
+    let start = numbers.len() as u32;
+    make_room(numbers, MOST_NUMBERS)?;
     let (session, kind) = keep_line(line, numbers);
     Ok(Kept {
         start,
@@ -48,10 +62,11 @@ pub(crate) fn keep_columns(
     ensures ok { IfOk result (λ kept. Keeps kept (told session kind (key ∷ columns.now)) numbers.old.items numbers.new.items) }
     ensures err { OnErr result (numbers.new.items ≡ numbers.old.items) }
 {
-    let Ok(start) = u32::try_from(numbers.len()) else {
+    if numbers.len() > u32::MAX as usize {
         return Err(OutOfMemory);
-    };
-    numbers.reserve(MOST_NUMBERS)?;
+    }
+    let start = numbers.len() as u32;
+    make_room(numbers, MOST_NUMBERS)?;
     numbers.push_reserved(key);
     push_columns(columns, numbers);
     Ok(Kept {

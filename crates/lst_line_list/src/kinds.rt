@@ -77,74 +77,36 @@ fn tell(session: u32, kind: Kind, numbers: &[u64], line: &mut Line)
                 column: numbers[1] as u32,
             };
         }
-        Kind::Begin => {
-            *line = Line::Call {
-                session,
-                call: Call::Begin,
-            };
-        }
-        Kind::AsOf => {
-            *line = Line::Call {
-                session,
-                call: Call::AsOf { time: numbers[0] },
-            };
-        }
-        Kind::Get => {
-            *line = Line::Call {
-                session,
-                call: Call::Get { key: numbers[0] },
-            };
-        }
+        Kind::Begin => put_call(session, Call::Begin, line),
+        Kind::AsOf => put_call(session, Call::AsOf { time: numbers[0] }, line),
+        Kind::Get => put_call(session, Call::Get { key: numbers[0] }, line),
         Kind::Insert { nulls, .. } => tell_insert(session, nulls, numbers, line),
         Kind::Update { set, nulls, .. } => tell_update(session, set, nulls, numbers, line),
-        Kind::Delete => {
-            *line = Line::Call {
-                session,
-                call: Call::Delete { key: numbers[0] },
-            };
-        }
+        Kind::Delete => put_call(session, Call::Delete { key: numbers[0] }, line),
         Kind::Sum => {
-            *line = Line::Call {
-                session,
-                call: Call::Sum {
-                    column: numbers[0] as u32,
-                },
-            };
+            let column = numbers[0] as u32;
+            put_call(session, Call::Sum { column }, line);
         }
-        Kind::Count => {
-            *line = Line::Call {
-                session,
-                call: Call::Count,
-            };
-        }
-        Kind::Scan => {
-            *line = Line::Call {
-                session,
-                call: Call::Scan,
-            };
-        }
+        Kind::Count => put_call(session, Call::Count, line),
+        Kind::Scan => put_call(session, Call::Scan, line),
         Kind::Find => {
-            *line = Line::Call {
-                session,
-                call: Call::Find {
-                    column: numbers[0] as u32,
-                    value: numbers[1],
-                },
+            let call = Call::Find {
+                column: numbers[0] as u32,
+                value: numbers[1],
             };
+            put_call(session, call, line);
         }
-        Kind::Commit => {
-            *line = Line::Call {
-                session,
-                call: Call::Commit,
-            };
-        }
-        Kind::Abort => {
-            *line = Line::Call {
-                session,
-                call: Call::Abort,
-            };
-        }
+        Kind::Commit => put_call(session, Call::Commit, line),
+        Kind::Abort => put_call(session, Call::Abort, line),
     }
+}
+
+/// Makes this a call of a session.
+#[inline(always)]
+fn put_call(session: u32, call: Call, line: &mut Line)
+    ensures { line.new ≡ lines.Call session call }
+{
+    *line = Line::Call { session, call };
 }
 
 /// Makes this the insert of a session with these numbers: a key, and one for each column. It is a function of its own, so that other lines needn't clear a

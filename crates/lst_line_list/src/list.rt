@@ -4,7 +4,7 @@ ghost use Rattle.lst_model.specs.declared.lines.Line.TheVariants as line;
 ghost use Rattle.lst_model.specs.declared.lines.Call.TheVariants as call;
 ghost use Rattle.lst_line_list.specs.Kinds.{width, told, AreOf};
 
-use crate::keeping::{keep, keep_columns};
+use crate::keeping::{keep, keep_columns, make_room};
 use crate::kinds::{Kept, Kind, put_line};
 use crate::packed::PackedPatch;
 use crate::parts::LineSlice;
@@ -74,7 +74,7 @@ impl LineList {
         ensures ok { OnOk result (self.new ≡ self.old ++ line ∷ []) }
         ensures err { OnErr result (self.new ≡ self.old) }
     {
-        self.kept.reserve(1)?;
+        make_room(&mut self.kept, 1)?;
         let one = keep(line, &mut self.numbers)?;
         self.kept.push_reserved(one);
         Ok(())
@@ -136,7 +136,7 @@ impl LineList {
         ensures ok { OnOk result (self.new ≡ self.old ++ told session kind (key ∷ columns.now) ∷ []) }
         ensures err { OnErr result (self.new ≡ self.old) }
     {
-        self.kept.reserve(1)?;
+        make_room(&mut self.kept, 1)?;
         let one = keep_columns(session, kind, key, columns, &mut self.numbers)?;
         self.kept.push_reserved(one);
         Ok(())

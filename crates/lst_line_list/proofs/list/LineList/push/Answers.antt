@@ -6,9 +6,9 @@ use Rattle.lst_line_list.proofs.list.LineList.push.Goals as goal
 
 pub invariant_of-self-2 : goal.invariant_of-self-2
 invariant_of-self-2 c = are_kept c.in_ok-one.one c.args.line c.self.inside.numbers.items _ c.in_ok-one.ensures.ok c.self.inside.kept.items _ c.self.invariant
-    (c.push_reserved.ensures.items ∙ ap (λ (ks : List Kept). ks ++ c.in_ok-one.one ∷ []) c.in_ok-reserve.ensures.items)
+    (c.push_reserved.ensures.items ∙ ap (λ (ks : List Kept). ks ++ c.in_ok-one.one ∷ []) c.in_ok-make_room.ensures.same)
 
 pub returns-clause-ok : goal.returns-clause-ok
 returns-clause-ok c = are_told c.in_ok-one.one c.args.line c.self.inside.numbers.items _ c.in_ok-one.ensures.ok c.self.inside.kept.items _ c.self.invariant
-    (c.push_reserved.ensures.items ∙ ap (λ (ks : List Kept). ks ++ c.in_ok-one.one ∷ []) c.in_ok-reserve.ensures.items)
+    (c.push_reserved.ensures.items ∙ ap (λ (ks : List Kept). ks ++ c.in_ok-one.one ∷ []) c.in_ok-make_room.ensures.same)
     ∙ ap (λ (ls : List Line). ls ++ c.args.line ∷ []) c.self.view_is
