@@ -6,8 +6,6 @@
 //! written is read again (`Laws`).
 #![tactic(auto)]
 
-#[cfg(test)]
-mod drawn_tests;
 mod faults;
 mod fields;
 mod folding;
@@ -16,8 +14,6 @@ mod inserting;
 mod keys;
 mod laws;
 mod reading;
-#[cfg(test)]
-mod tests;
 mod writing;
 
 pub use faults::{TableFault, TableRefusal};

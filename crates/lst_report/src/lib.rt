@@ -9,11 +9,7 @@ mod laws;
 #[cfg(test)]
 mod line_tests;
 #[cfg(test)]
-mod printed_tests;
-#[cfg(test)]
 mod reply_tests;
-#[cfg(test)]
-mod script_tests;
 #[cfg(test)]
 mod snapshot_tests;
 #[cfg(test)]

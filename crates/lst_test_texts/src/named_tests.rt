@@ -3,10 +3,11 @@
 
 ghost use Rattle.std.specs.Prelude.{◌<◌};
 
-use crate::{FaultKind, Named, Names, Script, ScriptFault, parse_named, print2};
+use crate::texts::{names_of, next_drawn, row, with_byte};
 use arrayvec::ArrayVec;
 use lst_layout::Limits;
 use lst_model::{Call, Line, Patch, Row, Text};
+use lst_script::{FaultKind, Named, Script, ScriptFault, parse_named, print2};
 use std::alloc::Global;
 use std::process::Abort;
 use std::test::Fail;
@@ -26,22 +27,31 @@ fn expect_text(rt: &impl Abort, alloc: Global, text: &[u8], printed: &[u8]) -> R
     Ok(())
 }
 
+/// The same of each text.
+fn expect_texts(rt: &impl Abort, alloc: Global, texts: &[(&[u8], &[u8])]) -> Result<(), Fail> {
+    for &(text, printed) in texts {
+        expect_text(rt, alloc, text, printed)?;
+    }
+    Ok(())
+}
+
 #[test]
 fn named_scripts_are_printed_and_read(rt: HostRuntime) -> Result<(), Fail> {
-    let alloc = rt.alloc();
-    expect_text(
+    expect_texts(
         &rt,
-        alloc,
-        b"0 begin\n0 insert 7 10 20\n0 update 7 _ 21\nmerge 0 1",
-        b"version 2 c0 c1\n0 begin\n0 insert 7 c0=10 c1=20\n0 update 7 c1=21\nmerge 0 c1\n",
-    )?;
-    expect_text(
-        &rt,
-        alloc,
-        b"# stock\r\n\nversion 2 qty price\n0 insert 2 price=09 qty=null\n 0 update 1 price=7 qty=null\n0 find qty 3",
-        b"version 2 qty price\n0 insert 2 price=9\n0 update 1 qty=null price=7\n0 find qty 3\n",
-    )?;
-    expect_text(&rt, alloc, b"", b"version 2 c0 c1\n")
+        rt.alloc(),
+        &[
+            (
+                b"0 begin\n0 insert 7 10 20\n0 update 7 _ 21\nmerge 0 1",
+                b"version 2 c0 c1\n0 begin\n0 insert 7 c0=10 c1=20\n0 update 7 c1=21\nmerge 0 c1\n",
+            ),
+            (
+                b"# stock\r\n\nversion 2 qty price\n0 insert 2 price=09 qty=null\n 0 update 1 price=7 qty=null\n0 find qty 3",
+                b"version 2 qty price\n0 insert 2 price=9\n0 update 1 qty=null price=7\n0 find qty 3\n",
+            ),
+            (b"", b"version 2 c0 c1\n"),
+        ],
+    )
 }
 
 /// Looks whether a text has this first faulty line.
@@ -52,59 +62,63 @@ fn expect_fault(rt: &impl Abort, alloc: Global, text: &[u8], line: u64, kind: Fa
     assert_eq!(rt; fault, ScriptFault::Bad { line, kind });
 }
 
+/// The same of each text.
+fn expect_faults(rt: &impl Abort, alloc: Global, texts: &[(&[u8], u64, FaultKind)]) {
+    for &(text, line, kind) in texts {
+        expect_fault(rt, alloc, text, line, kind);
+    }
+}
+
 #[test]
 fn a_faulty_header_is_named(rt: HostRuntime) {
-    for (text, line, kind) in [
-        (b"version 3 a b".as_slice(), 1, FaultKind::BadVersion),
-        (b"version", 1, FaultKind::BadVersion),
-        (b"version 02 a b", 1, FaultKind::BadVersion),
-        (b"version 2 a", 1, FaultKind::BadCount),
-        (b"version 2 A", 1, FaultKind::BadCount),
-        (b"version 2 a b c", 1, FaultKind::BadCount),
-        (b"version 2 a a", 1, FaultKind::BadName),
-        (b"version 2 a 1b", 1, FaultKind::BadName),
-        (b"\n# x\nversion 2 a b-c", 3, FaultKind::BadName),
-        (b"version 2 a b\nversion 2 a b", 2, FaultKind::UnknownWord),
-        (b"0 begin\nversion 2 a b", 2, FaultKind::UnknownWord),
-    ] {
-        expect_fault(&rt, rt.alloc(), text, line, kind);
-    }
+    expect_faults(
+        &rt,
+        rt.alloc(),
+        &[
+            (b"version 3 a b", 1, FaultKind::BadVersion),
+            (b"version", 1, FaultKind::BadVersion),
+            (b"version 02 a b", 1, FaultKind::BadVersion),
+            (b"version 2 a", 1, FaultKind::BadCount),
+            (b"version 2 A", 1, FaultKind::BadCount),
+            (b"version 2 a b c", 1, FaultKind::BadCount),
+            (b"version 2 a a", 1, FaultKind::BadName),
+            (b"version 2 a 1b", 1, FaultKind::BadName),
+            (b"\n# x\nversion 2 a b-c", 3, FaultKind::BadName),
+            (b"version 2 a b\nversion 2 a b", 2, FaultKind::UnknownWord),
+            (b"0 begin\nversion 2 a b", 2, FaultKind::UnknownWord),
+        ],
+    );
 }
 
 #[test]
 fn a_faulty_pair_is_named(rt: HostRuntime) {
-    for (text, kind) in [
-        (b"version 2 a b\n0 insert".as_slice(), FaultKind::BadCount),
-        (
-            b"version 2 a b\n0 insert 1 a=1 b=2 a=3",
-            FaultKind::BadCount,
-        ),
-        (b"version 2 a b\n0 insert x 5", FaultKind::BadNumber),
-        (b"version 2 a b\n0 insert 1 5", FaultKind::BadPair),
-        (b"version 2 a b\n0 insert 1 c=x", FaultKind::BadColumn),
-        (b"version 2 a b\n0 insert 1 =5", FaultKind::BadColumn),
-        (
-            b"version 2 a b\n0 insert 1 a=1 a=x",
-            FaultKind::RepeatedColumn,
-        ),
-        (b"version 2 a b\n0 insert 1 a=1=2", FaultKind::BadNumber),
-        (b"version 2 a b\n0 insert 1 a=_", FaultKind::BadNumber),
-        (b"version 2 a b\n0 update 1", FaultKind::NothingToSet),
-        (b"version 2 a b\nmerge 4 c", FaultKind::BadRange),
-        (b"version 2 a b\nmerge 0 1", FaultKind::BadColumn),
-        (b"version 2 a b\n0 find c x", FaultKind::BadNumber),
-    ] {
-        expect_fault(&rt, rt.alloc(), text, 2, kind);
-    }
-}
-
-/// A text with another byte at a place.
-fn changed(alloc: Global, text: &[u8], place: usize, byte: u8) -> Result<Text, Fail> {
-    let mut other = Text::new(alloc);
-    for (at, old) in text.iter().enumerate() {
-        other.push_bytes(&[if at == place { byte } else { *old }])?;
-    }
-    Ok(other)
+    expect_faults(
+        &rt,
+        rt.alloc(),
+        &[
+            (b"version 2 a b\n0 insert", 2, FaultKind::BadCount),
+            (
+                b"version 2 a b\n0 insert 1 a=1 b=2 a=3",
+                2,
+                FaultKind::BadCount,
+            ),
+            (b"version 2 a b\n0 insert x 5", 2, FaultKind::BadNumber),
+            (b"version 2 a b\n0 insert 1 5", 2, FaultKind::BadPair),
+            (b"version 2 a b\n0 insert 1 c=x", 2, FaultKind::BadColumn),
+            (b"version 2 a b\n0 insert 1 =5", 2, FaultKind::BadColumn),
+            (
+                b"version 2 a b\n0 insert 1 a=1 a=x",
+                2,
+                FaultKind::RepeatedColumn,
+            ),
+            (b"version 2 a b\n0 insert 1 a=1=2", 2, FaultKind::BadNumber),
+            (b"version 2 a b\n0 insert 1 a=_", 2, FaultKind::BadNumber),
+            (b"version 2 a b\n0 update 1", 2, FaultKind::NothingToSet),
+            (b"version 2 a b\nmerge 4 c", 2, FaultKind::BadRange),
+            (b"version 2 a b\nmerge 0 1", 2, FaultKind::BadColumn),
+            (b"version 2 a b\n0 find c x", 2, FaultKind::BadNumber),
+        ],
+    );
 }
 
 /// The next number that a state draws, below a limit.
@@ -112,9 +126,7 @@ fn draw(state: &mut u64, limit: u64) -> u64
     requires { 0 < limit }
     ensures { result < limit }
 {
-    *state = state
-        .wrapping_mul(6_364_136_223_846_793_005)
-        .wrapping_add(1_442_695_040_888_963_407);
+    *state = next_drawn(*state);
     (*state >> 33) % limit
 }
 
@@ -128,10 +140,9 @@ fn drawn_cell(state: &mut u64) -> Option<u64> {
 }
 
 fn drawn_row(state: &mut u64) -> Row {
-    let mut row = Row::of_numbers(ArrayVec::new());
-    row.push(drawn_cell(state));
-    row.push(drawn_cell(state));
-    row
+    let first = drawn_cell(state);
+    let second = drawn_cell(state);
+    row(first, second)
 }
 
 /// A patch that sets one column or both.
@@ -187,12 +198,7 @@ fn drawn_call(state: &mut u64) -> Call {
 
 /// A script of so many calls with the names `a` and `ab`, the first of which the second begins with.
 fn drawn_script(alloc: Global, seed: u64, count: u32) -> Result<Named, Fail> {
-    let mut names = Names::new(alloc);
-    for name in [b"a".as_slice(), b"ab"] {
-        let mut text = Text::new(alloc);
-        text.push_bytes(name)?;
-        names.push(text)?;
-    }
+    let names = names_of(alloc, &[b"a", b"ab"])?;
     let mut script = Script::new(alloc);
     let mut state = seed;
     for _line in 0..count {
@@ -245,9 +251,9 @@ fn expect_as_by_words(rt: &impl Abort, alloc: Global, text: &[u8]) -> Result<(),
 /// The same for a text with each of its bytes changed.
 fn expect_changed_as_by_words(rt: &impl Abort, alloc: Global, text: &[u8]) -> Result<(), Fail> {
     for place in 0..text.len() {
-        for byte in [b' ', b'\n', b'=', b'a', b'b', b'9', b'_', b'#'] {
-            let other = changed(alloc, text, place, byte)?;
-            expect_as_by_words(rt, alloc, other.as_bytes())?;
+        for byte in b" \n=ab9_#".as_slice() {
+            let other = with_byte(alloc, text, place, *byte)?;
+            expect_as_by_words(rt, alloc, other.as_slice())?;
         }
     }
     Ok(())
@@ -274,10 +280,10 @@ fn each_changed_byte_is_a_fault_or_printed_again(rt: HostRuntime) -> Result<(), 
     let text =
         b"version 2 a b\n0 begin\n0 insert 1 b=3\n0 update 1 a=null b=4\n1 find a 7\nmerge 1 b\n";
     for place in 0..text.len() {
-        for byte in [b' ', b'\n', b'=', b'a', b'1', b'_', b'#'] {
-            let other = changed(alloc, text, place, byte)?;
-            if let Ok(printed) = migrated(alloc, other.as_bytes()) {
-                expect_text(&rt, alloc, other.as_bytes(), printed.as_bytes())?;
+        for byte in b" \n=a1_#".as_slice() {
+            let other = with_byte(alloc, text, place, *byte)?;
+            if let Ok(printed) = migrated(alloc, other.as_slice()) {
+                expect_text(&rt, alloc, other.as_slice(), printed.as_bytes())?;
             }
         }
     }

@@ -1,6 +1,7 @@
 //! Drawn tables, whole and with each byte changed, against a plain reader.
 
-use crate::{TableFault, TableRefusal, import_text};
+use crate::texts::{next_drawn, with_byte};
+use lst_csv::{TableFault, TableRefusal, import_text};
 use lst_model::OutOfMemory;
 use std::alloc::Global;
 use std::mem::replace;
@@ -147,13 +148,6 @@ fn fault_told(alloc: Global, text: &[u8]) -> Result<Option<(u64, TableFault)>, O
     }
 }
 
-/// A number that follows another one, and looks drawn.
-fn next_drawn(drawn: u64) -> u64 {
-    drawn
-        .wrapping_mul(6_364_136_223_846_793_005)
-        .wrapping_add(1_442_695_040_888_963_407)
-}
-
 /// A cell in one of several spellings.
 fn cell_of(drawn: u64) -> &'static str {
     match (drawn >> 40) % 8 {
@@ -195,15 +189,6 @@ fn drawn_table(alloc: Global, seed: u64) -> Result<Vec<u8>, OutOfMemory> {
     Ok(text)
 }
 
-/// The text with this byte at a place.
-fn with_byte(alloc: Global, text: &[u8], place: usize, byte: u8) -> Result<Vec<u8>, OutOfMemory> {
-    let mut changed = Vec::new(alloc);
-    for (at, old) in text.iter().enumerate() {
-        changed.push(if at == place { byte } else { *old })?;
-    }
-    Ok(changed)
-}
-
 #[test]
 fn drawn_tables_have_no_fault(rt: HostRuntime) -> Result<(), Fail> {
     for seed in 0..64 {
@@ -227,8 +212,8 @@ fn drawn_tables_with_a_byte_changed_are_read_plainly(rt: HostRuntime) -> Result<
     for seed in 0..4 {
         let table = drawn_table(rt.alloc(), seed)?;
         for place in 0..table.len() {
-            for byte in [b',', b'"', b'\n', b'\r', b'0', b'5', b'a', b'A', b' ', 0xef] {
-                let text = with_byte(rt.alloc(), table.as_slice(), place, byte)?;
+            for byte in b",\"\n\r05aA \xef".as_slice() {
+                let text = with_byte(rt.alloc(), table.as_slice(), place, *byte)?;
                 let plain = plain_fault(rt.alloc(), text.as_slice())?;
                 let told = fault_told(rt.alloc(), text.as_slice())?;
                 assert_eq!(rt; told, plain, "seed {seed}, place {place}, byte {byte}");

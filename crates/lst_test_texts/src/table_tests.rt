@@ -1,9 +1,9 @@
 //! Tables of each form, read and written again, and each first faulty record.
 
-use crate::{TableFault, TableRefusal, dump_history, dump_text, import_text};
-use arrayvec::ArrayVec;
+use crate::texts::{names_of, row};
 use itoa::Buffer;
-use lst_model::{Act, Commit, History, OutOfMemory, Row, Table, Text, Write, Writes};
+use lst_csv::{TableFault, TableRefusal, dump_history, dump_text, import_text};
+use lst_model::{Act, Commit, History, OutOfMemory, Table, Text, Write, Writes};
 use lst_names::Names;
 use std::alloc::Global;
 use std::process::Abort;
@@ -39,21 +39,43 @@ fn is_refused(
     Ok(())
 }
 
-#[test]
-fn table_of_each_form_becomes_the_script(rt: HostRuntime) -> Result<(), Fail> {
-    for table in [
-        TABLE,
-        "key,qty,price\n1,5,\n2,,9",
-        "key,qty,price\r\n1,5,\r\n2,,9\r\n",
-        "key,qty,price\r1,5,\r2,,9\r",
-        "\n\nkey,qty,price\n\n\r\n1,5,\n\n2,,9\n\n",
-        "\u{feff}key,qty,price\n1,5,\n2,,9\n",
-        "\"key\",\"qty\",\"price\"\n\"1\",\"5\",\"\"\n\"2\",,\"9\"\n",
-        "key,qty,price\n01,0005,\n2,,00000000000000000009\n",
-    ] {
-        becomes(&rt, rt.alloc(), table.as_bytes(), SCRIPT)?;
+/// The same of each table.
+fn all_become(rt: &impl Abort, alloc: Global, tables: &[&str], script: &str) -> Result<(), Fail> {
+    for &table in tables {
+        becomes(rt, alloc, table.as_bytes(), script)?;
     }
     Ok(())
+}
+
+/// Each table has its first faulty record.
+fn all_are_refused(
+    rt: &impl Abort,
+    alloc: Global,
+    tables: &[(&str, u64, TableFault)],
+) -> Result<(), Fail> {
+    for &(table, place, kind) in tables {
+        is_refused(rt, alloc, table.as_bytes(), place, kind)?;
+    }
+    Ok(())
+}
+
+#[test]
+fn table_of_each_form_becomes_the_script(rt: HostRuntime) -> Result<(), Fail> {
+    all_become(
+        &rt,
+        rt.alloc(),
+        &[
+            TABLE,
+            "key,qty,price\n1,5,\n2,,9",
+            "key,qty,price\r\n1,5,\r\n2,,9\r\n",
+            "key,qty,price\r1,5,\r2,,9\r",
+            "\n\nkey,qty,price\n\n\r\n1,5,\n\n2,,9\n\n",
+            "\u{feff}key,qty,price\n1,5,\n2,,9\n",
+            "\"key\",\"qty\",\"price\"\n\"1\",\"5\",\"\"\n\"2\",,\"9\"\n",
+            "key,qty,price\n01,0005,\n2,,00000000000000000009\n",
+        ],
+        SCRIPT,
+    )
 }
 
 #[test]
@@ -68,44 +90,45 @@ fn table_without_rows_becomes_an_empty_transaction(rt: HostRuntime) -> Result<()
 
 #[test]
 fn first_faulty_record_is_named(rt: HostRuntime) -> Result<(), Fail> {
-    for (table, place, kind) in [
-        ("", 1, TableFault::BadHeader),
-        ("\n\n", 1, TableFault::BadHeader),
-        ("key,qty\n", 1, TableFault::BadHeader),
-        ("key,qty,qty\n1,5,\n", 1, TableFault::BadHeader),
-        ("Key,qty,price\n", 1, TableFault::BadHeader),
-        ("key, qty,price\n", 1, TableFault::BadHeader),
-        ("key;qty;price\n1;5;\n", 1, TableFault::BadHeader),
-        ("1,5,\n2,,9\n", 1, TableFault::BadHeader),
-        ("key,qty,price\n1,5\n", 2, TableFault::BadLength),
-        ("key,qty,price\n\"\"\n", 2, TableFault::BadLength),
-        ("key,qty,price\n1,5,6,7\n", 2, TableFault::BadLength),
-        ("key,qty,price\n1,x\n", 2, TableFault::BadLength),
-        ("key,qty,price\n1,5,\n2,\"9\n,\n", 3, TableFault::BadLength),
-        ("key,qty,price\n1,5,x\n", 2, TableFault::BadField),
-        ("key,qty,price\n,5,6\n", 2, TableFault::BadField),
-        ("key,qty,price\n1, 5,6\n", 2, TableFault::BadField),
-        ("key,qty,price\n1,-5,6\n", 2, TableFault::BadField),
-        (
-            "key,qty,price\n1,18446744073709551616,\n",
-            2,
-            TableFault::BadField,
-        ),
-        (
-            "key,qty,price\n1,5,\n2,,9\n1,6,\n",
-            4,
-            TableFault::RepeatedKey,
-        ),
-        (
-            "key,qty,price\r\n07,1,\r\n7,2,\r\n",
-            3,
-            TableFault::RepeatedKey,
-        ),
-        ("key,qty,price\n1,5,\n1,x,\n1\n", 3, TableFault::BadField),
-    ] {
-        is_refused(&rt, rt.alloc(), table.as_bytes(), place, kind)?;
-    }
-    Ok(())
+    all_are_refused(
+        &rt,
+        rt.alloc(),
+        &[
+            ("", 1, TableFault::BadHeader),
+            ("\n\n", 1, TableFault::BadHeader),
+            ("key,qty\n", 1, TableFault::BadHeader),
+            ("key,qty,qty\n1,5,\n", 1, TableFault::BadHeader),
+            ("Key,qty,price\n", 1, TableFault::BadHeader),
+            ("key, qty,price\n", 1, TableFault::BadHeader),
+            ("key;qty;price\n1;5;\n", 1, TableFault::BadHeader),
+            ("1,5,\n2,,9\n", 1, TableFault::BadHeader),
+            ("key,qty,price\n1,5\n", 2, TableFault::BadLength),
+            ("key,qty,price\n\"\"\n", 2, TableFault::BadLength),
+            ("key,qty,price\n1,5,6,7\n", 2, TableFault::BadLength),
+            ("key,qty,price\n1,x\n", 2, TableFault::BadLength),
+            ("key,qty,price\n1,5,\n2,\"9\n,\n", 3, TableFault::BadLength),
+            ("key,qty,price\n1,5,x\n", 2, TableFault::BadField),
+            ("key,qty,price\n,5,6\n", 2, TableFault::BadField),
+            ("key,qty,price\n1, 5,6\n", 2, TableFault::BadField),
+            ("key,qty,price\n1,-5,6\n", 2, TableFault::BadField),
+            (
+                "key,qty,price\n1,18446744073709551616,\n",
+                2,
+                TableFault::BadField,
+            ),
+            (
+                "key,qty,price\n1,5,\n2,,9\n1,6,\n",
+                4,
+                TableFault::RepeatedKey,
+            ),
+            (
+                "key,qty,price\r\n07,1,\r\n7,2,\r\n",
+                3,
+                TableFault::RepeatedKey,
+            ),
+            ("key,qty,price\n1,5,\n1,x,\n1\n", 3, TableFault::BadField),
+        ],
+    )
 }
 
 #[test]
@@ -151,40 +174,39 @@ fn wide_table(alloc: Global, front: &str, end: &str) -> Result<Text, OutOfMemory
     Ok(text)
 }
 
-#[test]
-fn field_of_a_megabyte_is_answered(rt: HostRuntime) -> Result<(), Fail> {
-    for (front, end, place, kind) in [
-        ("", "", 1, TableFault::BadHeader),
-        ("key,qty,", "\n1,5,\n", 1, TableFault::BadHeader),
-        ("key,qty,price\n", ",5,\n", 2, TableFault::BadField),
-        ("key,qty,price\n1,5,", "", 2, TableFault::BadField),
-        ("key,qty,price\n1,5,\"", "\"\n", 2, TableFault::BadField),
-        ("key,qty,price\n1,5,\"", "", 2, TableFault::BadField),
-        ("key,qty,price\n1,5\n", "", 2, TableFault::BadLength),
-    ] {
-        let table = wide_table(rt.alloc(), front, end)?;
-        is_refused(&rt, rt.alloc(), table.as_bytes(), place, kind)?;
+/// Each wide table, of its front and its end, has its first faulty record.
+fn wide_are_refused(
+    rt: &impl Abort,
+    alloc: Global,
+    tables: &[(&str, &str, u64, TableFault)],
+) -> Result<(), Fail> {
+    for &(front, end, place, kind) in tables {
+        let table = wide_table(alloc, front, end)?;
+        is_refused(rt, alloc, table.as_bytes(), place, kind)?;
     }
     Ok(())
 }
 
-/// The row of two cells.
-fn row(first: Option<u64>, second: Option<u64>) -> Row {
-    let mut row = Row::of_numbers(ArrayVec::new());
-    row.push(first);
-    row.push(second);
-    row
+#[test]
+fn field_of_a_megabyte_is_answered(rt: HostRuntime) -> Result<(), Fail> {
+    wide_are_refused(
+        &rt,
+        rt.alloc(),
+        &[
+            ("", "", 1, TableFault::BadHeader),
+            ("key,qty,", "\n1,5,\n", 1, TableFault::BadHeader),
+            ("key,qty,price\n", ",5,\n", 2, TableFault::BadField),
+            ("key,qty,price\n1,5,", "", 2, TableFault::BadField),
+            ("key,qty,price\n1,5,\"", "\"\n", 2, TableFault::BadField),
+            ("key,qty,price\n1,5,\"", "", 2, TableFault::BadField),
+            ("key,qty,price\n1,5\n", "", 2, TableFault::BadLength),
+        ],
+    )
 }
 
 /// The names of two columns.
 fn two_names(alloc: Global) -> Result<Names, OutOfMemory> {
-    let mut names = Names::new(alloc);
-    for name in ["qty", "price"] {
-        let mut text = Text::new(alloc);
-        text.push_bytes(name.as_bytes())?;
-        names.push(text)?;
-    }
-    Ok(names)
+    names_of(alloc, &[b"qty", b"price"])
 }
 
 #[test]
