@@ -19,8 +19,6 @@ mod records;
 mod scans;
 mod session;
 mod tails;
-#[cfg(test)]
-mod tests;
 mod versions;
 mod writes;
 

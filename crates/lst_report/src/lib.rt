@@ -11,8 +11,6 @@ mod line_tests;
 #[cfg(test)]
 mod reply_tests;
 #[cfg(test)]
-mod snapshot_tests;
-#[cfg(test)]
 mod tests;
 
 pub use claims::{Claim, read_claim};

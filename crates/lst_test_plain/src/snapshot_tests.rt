@@ -1,38 +1,10 @@
 //! Worked snapshots, and random ones beside tables that are replayed.
 
-use arrayvec::ArrayVec;
+use crate::rows::{patch, patch_of, row, row_of};
 use lst_model::{Act, Commit, History, OutOfMemory, Patch, Row, Table, Write, Writes, apply};
 use lst_snapshots::{Sight, Snapshots, Swept, snapshots_of};
 use std::alloc::Global;
 use std::test::Fail;
-
-fn row(first: u64, second: u64) -> Row {
-    let mut cells = ArrayVec::new();
-    cells.push(first);
-    cells.push(second);
-    Row::of_numbers(cells)
-}
-
-fn patch(first: Option<u64>, second: Option<u64>) -> Patch {
-    let mut cells = ArrayVec::new();
-    cells.push(first);
-    cells.push(second);
-    Patch::of_numbers(cells)
-}
-
-fn row_of(first: Option<u64>, second: Option<u64>) -> Row {
-    let mut row = Row::of_numbers(ArrayVec::new());
-    row.push(first);
-    row.push(second);
-    row
-}
-
-fn change_of(first: Option<Option<u64>>, second: Option<Option<u64>>) -> Patch {
-    let mut patch = Patch::of_numbers(ArrayVec::new());
-    patch.push(first);
-    patch.push(second);
-    patch
-}
 
 fn write(key: u64, act: Act) -> Write {
     Write { key, act }
@@ -97,7 +69,7 @@ fn null_adds_nothing_and_is_never_found(rt: HostRuntime) -> Result<(), Fail> {
     let alloc = rt.alloc();
     let mut snapshots = Snapshots::new(alloc);
     snapshots.push(commit(alloc, 0, 1, 0, write(7, Act::Put(row_of(None, Some(20)))))?)?;
-    let to_null = Act::Set(change_of(None, Some(None)));
+    let to_null = Act::Set(patch_of(None, Some(None)));
     snapshots.push(commit(alloc, 1, 1, 1, write(7, to_null))?)?;
     let swept = Swept::of(alloc, snapshots)?;
     let snapshots = swept.snapshots();
@@ -168,8 +140,8 @@ fn random_write(state: &mut u64) -> Write {
     let act = match drawn(state) % 4 {
         0 => Act::Del,
         1 => Act::Put(row_of(cell, Some(1))),
-        2 => Act::Set(change_of(Some(cell), None)),
-        _ => Act::Set(change_of(None, Some(cell))),
+        2 => Act::Set(patch_of(Some(cell), None)),
+        _ => Act::Set(patch_of(None, Some(cell))),
     };
     write(key, act)
 }

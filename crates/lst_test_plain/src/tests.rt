@@ -1,17 +1,19 @@
 //! Worked scripts: each line with its reply, by the plain engine and by the machine that runs from its definition.
 //!
 //! A script is a table of plain values, and one function asks its lines: the proof of a function grows faster than its calls.
-ghost use Rattle.std.specs.Prelude.{◌<◌, IsTrue};
+ghost use Rattle.std.specs.Prelude.{◌≡◌, ◌<◌, IsTrue};
 ghost use Rattle.lst_model.specs.Lines.{CallFits};
+ghost use Rattle.lst_plain.specs.Plains.{limits_of};
+ghost use Rattle.lst_machine.specs.Machines.{limits_of as machine_limits};
 
-use crate::Plain;
-use arrayvec::ArrayVec;
+use crate::rows::{patch, patch_of, row, row_of};
 use lst_layout::Limits;
 use lst_machine::Machine;
 use lst_model::{
     Act, Call, Cause, Key, KeyList, Line, OutOfMemory, Patch, Reply, Row, RowList, Table, Time,
     Write, apply,
 };
+use lst_plain::Plain;
 use std::alloc::Global;
 use std::process::Abort;
 use std::test::Fail;
@@ -69,34 +71,6 @@ enum Step<'a> {
     Merge(u32, u32, Told<'a>),
 }
 
-fn row(first: u64, second: u64) -> Row {
-    let mut cells = ArrayVec::new();
-    cells.push(first);
-    cells.push(second);
-    Row::of_numbers(cells)
-}
-
-fn patch(first: Option<u64>, second: Option<u64>) -> Patch {
-    let mut cells = ArrayVec::new();
-    cells.push(first);
-    cells.push(second);
-    Patch::of_numbers(cells)
-}
-
-fn row_of(cells: Cells) -> Row {
-    let mut row = Row::of_numbers(ArrayVec::new());
-    row.push(cells.0);
-    row.push(cells.1);
-    row
-}
-
-fn patch_of(changes: Changes) -> Patch {
-    let mut patch = Patch::of_numbers(ArrayVec::new());
-    patch.push(changes.0);
-    patch.push(changes.1);
-    patch
-}
-
 fn call_of(asked: Asked) -> Call {
     match asked {
         Asked::Begin => Call::Begin,
@@ -108,7 +82,7 @@ fn call_of(asked: Asked) -> Call {
         },
         Asked::InsertCells(key, cells) => Call::Insert {
             key,
-            row: row_of(cells),
+            row: row_of(cells.0, cells.1),
         },
         Asked::Update(key, first, second) => Call::Update {
             key,
@@ -116,7 +90,7 @@ fn call_of(asked: Asked) -> Call {
         },
         Asked::UpdateCells(key, changes) => Call::Update {
             key,
-            patch: patch_of(changes),
+            patch: patch_of(changes.0, changes.1),
         },
         Asked::Delete(key) => Call::Delete { key },
         Asked::Sum(column) => Call::Sum { column },
@@ -151,7 +125,9 @@ fn reply_of(alloc: Global, told: Told<'_>) -> Result<Reply, OutOfMemory> {
         Told::Row(first, second) => Reply::Row {
             row: row(first, second),
         },
-        Told::Cells(cells) => Reply::Row { row: row_of(cells) },
+        Told::Cells(cells) => Reply::Row {
+            row: row_of(cells.0, cells.1),
+        },
         Told::Absent => Reply::Absent,
         Told::Committed(time) => Reply::Committed { time },
         Told::Ended(time) => Reply::Ended { time },
@@ -186,17 +162,22 @@ fn fits(limits: &Limits, session: u32, call: &Call) -> bool
 /// The two engines of one thread, which are asked alike.
 #[derive(Drop)]
 struct Both {
+    limits: Limits,
     plain: Plain,
     machine: Machine,
+    ghost own: { (limits_of plain ≡ limits) × (machine_limits machine ≡ limits) },
 }
 
 fn opened(alloc: Global, limits: Limits) -> Result<Both, Fail> {
     let Ok(layout) = limits.check() else {
         return Err(Fail::from("the limits are in range"));
     };
+    let plain = Plain::new(alloc, &layout)?;
+    let machine = Machine::new(alloc, &layout)?;
     Ok(Both {
-        plain: Plain::new(alloc, &layout)?,
-        machine: Machine::new(alloc, &layout)?,
+        limits: layout.limits,
+        plain,
+        machine,
     })
 }
 
@@ -209,8 +190,7 @@ struct Replies {
 
 /// The replies to a session's call.
 fn call(rt: &impl Abort, both: &mut Both, session: u32, call: Call) -> Result<Replies, Fail> {
-    assert!(rt; fits(&both.plain.engine.limits, session, &call));
-    assert!(rt; fits(&both.machine.limits(), session, &call));
+    assert!(rt; fits(&both.limits, session, &call));
     let line = Line::Call { session, call };
     Ok(Replies {
         plain: both.plain.line(&line)?,
@@ -220,10 +200,7 @@ fn call(rt: &impl Abort, both: &mut Both, session: u32, call: Call) -> Result<Re
 
 /// The replies to a merge.
 fn merge(rt: &impl Abort, both: &mut Both, range: u32, column: u32) -> Result<Replies, Fail> {
-    let limits = both.plain.engine.limits;
-    assert!(rt; range < limits.ranges && column < limits.columns);
-    let limits = both.machine.limits();
-    assert!(rt; range < limits.ranges && column < limits.columns);
+    assert!(rt; range < both.limits.ranges && column < both.limits.columns);
     let line = Line::Merge { range, column };
     Ok(Replies {
         plain: both.plain.line(&line)?,
