@@ -7,7 +7,7 @@ use Rattle.lst_model.specs.Cells.{Cell}
 use Rattle.lst_model.specs.declared.lines.Line.{Line}
 use Rattle.lst_model.specs.declared.lines.Line.TheVariants as lines
 use Rattle.lst_model.specs.declared.lines.Call.TheVariants.{Begin, Commit}
-use Rattle.lst_script.specs.Canonical.{behind_spaces, canonical_line, cell_pairs, header_line, lines_text, named_text}
+use Rattle.lst_script.specs.Canonical.{canonical_line, header_line, lines_text, named_text}
 use Rattle.lst_script.specs.Columns.{named}
 use Rattle.lst_csv.specs.Importing.{insert_of, transaction_of}
 
@@ -34,22 +34,6 @@ module _ (names : List (List ℕ)) where
   -- no row is left
   pub all_lines : (rows : List (ℕ × List Cell)) (i : ℕ) (front whole : List ℕ) → length rows ≤ i → front ++ lines_from rows i ≡ whole → front ≡ whole
   all_lines rows i front whole ended so_far = sym (append-nil front) ∙ ap (λ (rest : List (ℕ × List Cell)). front ++ lines_text (named names) (map insert_of rest)) (sym (drop_all i rows ended)) ∙ so_far
-
-  -- a line is the call, the key and the pairs
-  pub insert_line : (key : ℕ) (row : List Cell) (before a b c after : List ℕ) → a ≡ before ++ codes "0 insert " → b ≡ a ++ decimal key → c ≡ b ++ behind_spaces (cell_pairs names row) → after ≡ c ++ (10 ∷ [])
-      → after ≡ before ++ line_of (key, row)
-  insert_line key row before a b c after at_call at_key at_pairs at_end =
-      let pairs = behind_spaces (cell_pairs names row) in
-      let call = codes "0 insert " in
-      at_end
-      ∙ ap (λ (text : List ℕ). text ++ (10 ∷ [])) at_pairs
-      ∙ append_assoc b pairs (10 ∷ [])
-      ∙ ap (λ (text : List ℕ). text ++ (pairs ++ (10 ∷ []))) at_key
-      ∙ append_assoc a (decimal key) (pairs ++ (10 ∷ []))
-      ∙ ap (λ (text : List ℕ). text ++ (decimal key ++ (pairs ++ (10 ∷ [])))) at_call
-      ∙ append_assoc before call (decimal key ++ (pairs ++ (10 ∷ [])))
-      ∙ ap (λ (text : List ℕ). before ++ (call ++ text)) (sym (append_assoc (decimal key) pairs (10 ∷ [])))
-      ∙ ap (λ (zero : List ℕ). before ++ ((zero ++ (codes " insert " ++ (decimal key ++ pairs))) ++ (10 ∷ []))) (sym zero_is)
 
   -- the line that begins, those of the rows, and the one that commits
   pub whole_script : (rows : List (ℕ × List Cell)) (script : List Line) (there : List (List ℕ)) (front behind after text : List ℕ) → script ≡ lines.Call 0 Begin ∷ [] → front ≡ named_text names script → there ≡ names

@@ -1,15 +1,14 @@
 //! The text of the script that makes a table. The lines of the rows are written as they are: no script is made of them first.
-ghost use Rattle.std.specs.Prelude.{◌≡◌, ◌++◌, ◌∷◌, [], IfOk, OnOk, decimal, map};
+ghost use Rattle.std.specs.Prelude.{◌≡◌, ◌++◌, ◌∷◌, [], IfOk, OnOk, map};
 ghost use Rattle.lst_model.specs.declared.lines.Line.TheVariants as lines;
 ghost use Rattle.lst_model.specs.declared.lines.Call.TheVariants.{Begin as BeginOf};
-ghost use Rattle.lst_script.specs.Canonical.{behind_spaces, canonical_line, cell_pairs, lines_text, named_text};
+ghost use Rattle.lst_script.specs.Canonical.{lines_text, named_text};
 ghost use Rattle.lst_script.specs.Columns.{named};
 ghost use Rattle.lst_csv.specs.Importing.{insert_of, transaction_of};
 
-use itoa::Buffer;
 use lst_model::{Call, Key, Line, OutOfMemory, Row, Text};
 use lst_names::Names;
-use lst_script::{Named, Script, print2};
+use lst_script::{Named, Script, print2, push_insert};
 use std::alloc::{AllocError, Global};
 
 /// The text of version 2 of the transaction that inserts rows, under these names of their columns.
@@ -59,48 +58,4 @@ fn push_inserts(bytes: &mut Vec<u8>, names: &[Text], rows: &[(Key, Row)]) -> Res
         push_insert(bytes, names, *key, row)?;
     }
     Ok(())
-}
-
-/// Puts the line that inserts a row behind a text.
-fn push_insert(bytes: &mut Vec<u8>, names: &[Text], key: Key, row: &Row) -> Result<(), AllocError>
-    ensures { OnOk result (bytes.new.items ≡ bytes.old.items ++ (canonical_line (named names.now) (insert_of (key, row.now)) ++ 10 ∷ [])) }
-{
-    bytes.extend_from_slice(b"0 insert ")?;
-    push_number(bytes, key)?;
-    push_pairs(bytes, names, row)?;
-    bytes.push(b'\n')?;
-    Ok(())
-}
-
-/// Puts the pairs of the columns that aren't null behind a text.
-fn push_pairs(bytes: &mut Vec<u8>, names: &[Text], row: &Row) -> Result<(), AllocError>
-    ensures { OnOk result (bytes.new.items ≡ bytes.old.items ++ behind_spaces (cell_pairs names.now row.now)) }
-{
-    for column in 0..names.len().min(row.len()) {
-        push_pair(bytes, names[column].as_bytes(), row.cell(column as u32))?;
-    }
-    Ok(())
-}
-
-/// Puts the pair of a column behind a text, or nothing where it is null.
-fn push_pair(bytes: &mut Vec<u8>, name: &[u8], cell: Option<u64>) -> Result<(), AllocError>
-    ensures { OnOk result (bytes.new.items ≡ bytes.old.items ++ behind_spaces (cell_pairs (name.now ∷ []) (cell ∷ []))) }
-{
-    match cell {
-        Some(number) => {
-            bytes.push(b' ')?;
-            bytes.extend_from_slice(name)?;
-            bytes.push(b'=')?;
-            push_number(bytes, number)
-        }
-        None => Ok(()),
-    }
-}
-
-/// Puts a number behind a text.
-fn push_number(bytes: &mut Vec<u8>, number: u64) -> Result<(), AllocError>
-    ensures { OnOk result (bytes.new.items ≡ bytes.old.items ++ decimal number) }
-{
-    let mut buffer = Buffer::new();
-    bytes.extend_from_slice(buffer.format(number).as_bytes())
 }

@@ -1,12 +1,11 @@
 -- The commits of a script make a table: each write that the machine has accepted or committed is of a key that has a record, and fits the table.
-use Rattle.std.proofs.Common.{◌≡◌, ℕ, zero, suc, ◌*◌, ◌<◌, ◌≤◌, ◌^◌, Bool, true, false, cond, not, List, [], ◌∷◌, ◌++◌, length, refl, sym, ap, ◌∙◌, subst, arith, inl, inr, length-append, eq-eqb}
+use Rattle.std.proofs.Common.{◌≡◌, ℕ, zero, suc, ◌*◌, ◌<◌, ◌≤◌, ◌^◌, Bool, true, false, cond, not, List, [], ◌∷◌, ◌++◌, length, refl, sym, ap, ◌∙◌, subst, arith, length-append, eq-eqb}
 use Rattle.std.proofs.lemmas.Bool.{leb-false, eqb-true}
 use Rattle.std.proofs.ByRecursion.{All-append}
 use Rattle.std.specs.Prelude.{Option, Some, None, IfSome, is_some, is_none, nat_lt, nat_le, ◌==◌, ◌&&◌, ◌||◌}
 use Rattle.std.specs.List.{AllByRecursion}
 use mathlib.Core.Logic.{dite}
 use native.Mathlib.Decide.{ℕ_discrete}
-use Rattle.std.specs.Fmt.{digits}
 use Rattle.lst_layout.specs.declared.limits.Limits.{Limits}
 use Rattle.lst_model.specs.declared.acts.Act.{Act}
 use Rattle.lst_model.specs.declared.acts.Act.TheVariants.{Put, Set, Del}
@@ -21,7 +20,6 @@ use Rattle.lst_model.specs.declared.replies.Cause.TheVariants.{ReadOnly, Missing
 use Rattle.lst_model.specs.Cells.{Cell}
 use Rattle.lst_model.specs.Tables.{Rows, row_of, scan_of}
 use Rattle.lst_model.specs.Histories.{joined}
-use Rattle.lst_names.specs.Names.{are_names}
 use Rattle.lst_machine.specs.State.{Accepted, Opened, State, Store, opening, opening_store}
 use Rattle.lst_machine.specs.Writes.{put, place_of, is_placed, with_key, range_of, conflict_of, accepted_below, gathered, own_writes, sight_of}
 use Rattle.lst_machine.specs.Calls.{first_of, where_true, begin_refusal, as_of_refusal, opened_unless, with_placed, with_accepted, with_closed, with_commit, accepted_unless, placed_unless, early_insert_refusal, late_insert_refusal, change_refusal, is_range_full, after_insert, after_change, after_commit, after_abort, store_after}
@@ -35,9 +33,7 @@ use Rattle.lst_report.proofs.Opened.{is_among, StandsAt, WriteHolds, row_stands}
 use Rattle.lst_report.proofs.Tabled.{entries_stand, few_rows}
 use Rattle.lst_csv.specs.Laws.{IsCell64, IsRow}
 use Rattle.lst_script.specs.Texts.{text_lines}
-use Rattle.lst_script.specs.Headers.{default_names}
-use Rattle.lst_script.specs.Scripts.{AreInVersion}
-use Rattle.lst_script.proofs.Versions.{version_cases}
+use Rattle.lst_script.proofs.Migrated.{ordered}
 use Rattle.lst_dumps.specs.Dumps.{store_behind, last_table, DumpsAreTables}
 
 -- ---- keys that have a record
@@ -259,32 +255,6 @@ lines_keep : (limits : Limits) (state : State) (script : List Line) → AllByRec
 lines_keep limits state [] all is = is
 lines_keep limits state (line ∷ script) all is = lines_keep limits (next limits state line) script all.1 (line_keeps limits state line all.0 is)
 
--- ---- names of the columns
-
-default_names_are : (count : ℕ) → count ≤ 8 → are_names count (default_names count) ≡ true
-unfolding digits
-default_names_are zero few = refl
-default_names_are (suc zero) few = refl
-default_names_are (suc (suc zero)) few = refl
-default_names_are (suc (suc (suc zero))) few = refl
-default_names_are (suc (suc (suc (suc zero)))) few = refl
-default_names_are (suc (suc (suc (suc (suc zero))))) few = refl
-default_names_are (suc (suc (suc (suc (suc (suc zero)))))) few = refl
-default_names_are (suc (suc (suc (suc (suc (suc (suc zero))))))) few = refl
-default_names_are (suc (suc (suc (suc (suc (suc (suc (suc zero)))))))) few = refl
-default_names_are (suc (suc (suc (suc (suc (suc (suc (suc (suc count))))))))) few = absurd (omega (arith, few))
-
-names_are : (limits : Limits) (texts names : List (List ℕ)) (script : List Line) → limits.columns ≤ 8 → AreInVersion limits texts names script → are_names limits.columns names ≡ true
-names_are limits [] names script few are = ap (are_names limits.columns) are.names_are ∙ default_names_are limits.columns few
-names_are limits (text ∷ texts) names script few are =
-    elim (version_cases limits text texts names script are) [
-      | inl skipped ↦ names_are limits texts names script few skipped.1
-      | inr read ↦ elim read.1 [
-        | inl heads ↦ heads.1.heads.names_are
-        | inr plain ↦ ap (are_names limits.columns) plain.1.names_are ∙ default_names_are limits.columns few
-      ]
-    ]
-
 -- ---- the table
 
 cell_is : (cell : Cell) → CellFits cell → IsCell64 cell
@@ -296,7 +266,7 @@ row_is columns keys entry stands = record { key = stands.0.0; width = stands.1.0
 
 pub dumps_are_tables : DumpsAreTables
 dumps_are_tables limits input named valid is = record {
-  named = names_are limits (text_lines input) named.names named.script valid.columns.1 is;
+  named = ordered limits (text_lines input) named.names named.script valid.columns.1 is;
   few = omega (arith, few_rows limits.columns store.placed table stands, holds.room);
   rows = all_map (row_is limits.columns store.placed) (scan_of table) (entries_stand limits.columns store.placed table stands);
 }

@@ -154,7 +154,7 @@ module _ (all : List (List ℕ)) where
 
 -- ---- names
 
-defaults : (count : ℕ) → count ≤ 8 → are_names count (default_names count) ≡ true
+pub defaults : (count : ℕ) → count ≤ 8 → are_names count (default_names count) ≡ true
 unfolding digits
 defaults zero few = refl
 defaults (suc zero) few = refl
@@ -167,7 +167,7 @@ defaults (suc (suc (suc (suc (suc (suc (suc zero))))))) few = refl
 defaults (suc (suc (suc (suc (suc (suc (suc (suc zero)))))))) few = refl
 defaults (suc (suc (suc (suc (suc (suc (suc (suc (suc count))))))))) few = absurd (omega (arith, few))
 
-ordered : (limits : Limits) (lines names : List (List ℕ)) (script : List Line) → limits.columns ≤ 8 → AreInVersion limits lines names script → are_names limits.columns names ≡ true
+pub ordered : (limits : Limits) (lines names : List (List ℕ)) (script : List Line) → limits.columns ≤ 8 → AreInVersion limits lines names script → are_names limits.columns names ≡ true
 ordered limits [] names script few are = ap (are_names limits.columns) are.names_are ∙ defaults limits.columns few
 ordered limits (line ∷ lines) names script few are =
     elim (version_cases limits line lines names script are) [
