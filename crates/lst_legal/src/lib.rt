@@ -19,12 +19,8 @@ mod plain_replies;
 #[cfg(test)]
 mod plain_serial;
 mod reads;
-#[cfg(test)]
-mod serial_tests;
 mod sights;
 mod stales;
-#[cfg(test)]
-mod tests;
 mod writes;
 
 pub use judging::{are_sessions_below, legal, legal_at, legal_serial};

@@ -6,12 +6,6 @@
 
 mod claims;
 mod laws;
-#[cfg(test)]
-mod line_tests;
-#[cfg(test)]
-mod reply_tests;
-#[cfg(test)]
-mod tests;
 
 pub use claims::{Claim, read_claim};
 pub use laws::{legal_report_fits, legal_report_is_claimed};

@@ -1,8 +1,8 @@
 //! Reports at the serializable level: what is legal there, and what under snapshot isolation.
 
-use crate::tests::{USUAL, read_lines};
-use crate::{are_sessions_below, legal, legal_serial};
+use crate::legal_tests::{USUAL, read_lines};
 use lst_layout::Limits;
+use lst_legal::{are_sessions_below, legal, legal_serial};
 use lst_replies::parse_report;
 use std::alloc::Global;
 use std::process::Abort;
@@ -340,20 +340,32 @@ fn is_stale_often(
     is_judged_behind(rt, alloc, rest.as_str(), replies.as_str(), wanted)
 }
 
-#[test]
-fn a_stale_commit_of_many_keys_is_explained_by_one(rt: HostRuntime) -> Result<(), Fail> {
-    let alloc = rt.alloc();
-    for (keys, wanted) in [
-        ((10, 21), SERIALIZABLE),
-        ((21, 10), SERIALIZABLE),
-        ((15, 16), SERIALIZABLE),
-        ((22, 15), NEITHER),
-        ((15, 22), NEITHER),
-        ((9, 9), NEITHER),
-    ] {
-        is_stale_often(&rt, alloc, keys, ("", ""), wanted)?;
+/// The same of each pair of keys, with nothing behind.
+fn are_stale_often(
+    rt: &impl Abort,
+    alloc: Global,
+    pairs: &[((u64, u64), Legal)],
+) -> Result<(), Fail> {
+    for &(keys, wanted) in pairs {
+        is_stale_often(rt, alloc, keys, ("", ""), wanted)?;
     }
     Ok(())
+}
+
+#[test]
+fn a_stale_commit_of_many_keys_is_explained_by_one(rt: HostRuntime) -> Result<(), Fail> {
+    are_stale_often(
+        &rt,
+        rt.alloc(),
+        &[
+            ((10, 21), SERIALIZABLE),
+            ((21, 10), SERIALIZABLE),
+            ((15, 16), SERIALIZABLE),
+            ((22, 15), NEITHER),
+            ((15, 22), NEITHER),
+            ((9, 9), NEITHER),
+        ],
+    )
 }
 
 #[test]

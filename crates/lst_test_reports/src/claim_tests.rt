@@ -1,7 +1,7 @@
 //! Texts with a script and a report, and each fault with its line.
 
-use crate::{ReportFault, legal, parse_report, read_claim};
 use lst_layout::Limits;
+use lst_report::{ReportFault, legal, parse_report, read_claim};
 use lst_script::{FaultKind, ScriptFault, parse};
 use std::alloc::Global;
 use std::process::Abort;
@@ -158,10 +158,10 @@ fn a_text_with_a_byte_changed_is_read_as_its_parts_are(rt: HostRuntime) -> Resul
     let mut claims = 0u64;
     let mut faults = 0u64;
     for place in 0..text.len() {
-        for byte in [b' ', b'9', b'\n', b'r', b'1'] {
+        for byte in b" 9\nr1".as_slice() {
             let mut changed = Vec::new(alloc);
             for (at, old) in text.as_bytes().iter().enumerate() {
-                changed.push(if at == place { byte } else { *old })?;
+                changed.push(if at == place { *byte } else { *old })?;
             }
             let read = read_claim(alloc, changed.as_slice(), &Limits::default());
             let counted = read.map(|claim| (claim.script.len(), claim.report.replies.len()));

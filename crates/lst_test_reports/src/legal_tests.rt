@@ -1,8 +1,8 @@
 //! Legal reports, and for each rule a report that breaks it.
 
-use crate::{are_sessions_below, legal};
 use arrayvec::ArrayVec;
 use lst_layout::Limits;
+use lst_legal::{are_sessions_below, legal};
 use lst_model::{Call, Line, Row};
 use lst_replies::parse_report;
 use lst_script::parse;
