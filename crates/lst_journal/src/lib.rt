@@ -8,8 +8,6 @@ mod fits;
 mod journal;
 mod lines;
 mod opening;
-#[cfg(test)]
-mod tests;
 
 pub use journal::{Kept, Redo};
 pub use opening::{OpenCause, OpenRefusal, open_redo};

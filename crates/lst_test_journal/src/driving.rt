@@ -1,0 +1,134 @@
+//! An open journal, and the lines that go through it.
+ghost use Rattle.std.specs.Prelude.{◌≡◌, false, IfOk, IsOk};
+ghost use Rattle.lst_layout.specs.Limits.{IsValid};
+ghost use Rattle.lst_model.specs.Lines.{LineFits};
+ghost use Rattle.lst_journal.specs.Journals.{IsOpenJournal};
+
+use lst_disk::Disk;
+use lst_journal::{Kept, OpenRefusal, Redo, open_redo};
+use lst_layout::{Layout, Limits};
+use lst_model::{History, Line, OutOfMemory, Reply};
+use lst_script::parse;
+use std::alloc::Global;
+use std::process::Abort;
+use std::test::Fail;
+
+/// A journal that is open until its disk fails.
+#[derive(Drop)]
+pub(crate) struct Driven<D: Disk> {
+    redo: Redo<D>,
+    ghost open: { redo.failed ≡ false → IsOpenJournal D.content D.images redo },
+}
+
+/// The layout of a store with these limits.
+fn layout_of(limits: &Limits) -> Result<Layout, Fail>
+    ensures { IsOk result → IsValid limits.now }
+{
+    match limits.check() {
+        Ok(layout) => Ok(layout),
+        Err(_) => Err("the limits are in range".into()),
+    }
+}
+
+/// A journal over a disk, or its refusal.
+pub(crate) fn tried<D: Disk + Drop>(
+    alloc: Global,
+    limits: &Limits,
+    disk: D,
+) -> Result<Result<Driven<D>, OpenRefusal<D>>, Fail> {
+    let layout = layout_of(limits)?;
+    match open_redo(alloc, &layout, disk) {
+        Ok(redo) => Ok(Ok(Driven { redo })),
+        Err(refusal) => Ok(Err(refusal)),
+    }
+}
+
+/// A journal over a disk, with the limits that a store has where none are named.
+pub(crate) fn opened<D: Disk + Drop>(alloc: Global, disk: D) -> Result<Driven<D>, Fail> {
+    match tried(alloc, &Limits::default(), disk)? {
+        Ok(driven) => Ok(driven),
+        Err(_) => Err("the disk is opened".into()),
+    }
+}
+
+/// The one line of a text.
+fn line_of(alloc: Global, limits: &Limits, text: &str) -> Result<Line, Fail>
+    requires { IsValid limits.now }
+    ensures { IfOk result (LineFits limits.now.sessions limits.now.ranges limits.now.columns) }
+{
+    let Ok(script) = parse(alloc, text.as_bytes(), limits) else {
+        return Err("the text is a script".into());
+    };
+    if script.len() != 1 {
+        return Err("the script has one line".into());
+    }
+    Ok(script.line(0))
+}
+
+impl<D: Disk> Driven<D> {
+    /// What a line is answered.
+    pub(crate) fn line(
+        &mut self,
+        alloc: Global,
+        text: &str,
+    ) -> Result<Result<Kept, OutOfMemory>, Fail> {
+        let limits = *self.redo.crew.seat.limits();
+        layout_of(&limits)?;
+        let line = line_of(alloc, &limits, text)?;
+        if self.redo.failed() {
+            return Err("no line follows a fault".into());
+        }
+        match self.redo.line(alloc, &line) {
+            Ok(kept) => Ok(Ok(kept)),
+            Err(OutOfMemory) => Ok(Err(OutOfMemory)),
+        }
+    }
+
+    /// Passes lines on, and compares what they are answered.
+    pub(crate) fn play(
+        &mut self,
+        rt: &(impl Abort + AllocGlobal),
+        lines: &[(&str, Kept)],
+    ) -> Result<(), Fail> {
+        for (line, wanted) in lines {
+            let kept = self.line(rt.alloc(), line)??;
+            assert_eq!(rt; &kept, wanted, "at {line}");
+        }
+        Ok(())
+    }
+
+    /// Its commits.
+    pub(crate) fn history(&mut self, alloc: Global) -> Result<History, Fail> {
+        if self.redo.failed() {
+            return Err("no line has met a fault".into());
+        }
+        Ok(self.redo.history(alloc)?)
+    }
+
+    /// Whether its disk has failed.
+    pub(crate) fn failed(&self) -> bool {
+        self.redo.failed()
+    }
+
+    /// Its disk.
+    pub(crate) fn close(self) -> D {
+        self.redo.close()
+    }
+}
+
+/// The machine's reply.
+pub(crate) fn told(reply: Reply) -> Kept {
+    Kept::Reply { reply }
+}
+
+pub(crate) fn begun(time: u64) -> Kept {
+    told(Reply::Begun { time })
+}
+
+pub(crate) fn done() -> Kept {
+    told(Reply::Done)
+}
+
+pub(crate) fn committed(time: u64) -> Kept {
+    told(Reply::Committed { time })
+}
