@@ -8,16 +8,8 @@
 //! `stales.rt` the two more.
 #![tactic(auto)]
 
-#[cfg(test)]
-mod drawn_tests;
 mod judging;
 mod places;
-#[cfg(test)]
-mod plain;
-#[cfg(test)]
-mod plain_replies;
-#[cfg(test)]
-mod plain_serial;
 mod reads;
 mod sights;
 mod stales;

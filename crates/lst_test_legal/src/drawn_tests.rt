@@ -2,9 +2,9 @@
 
 use crate::plain::{KEYS, Opened, Run};
 use crate::plain_replies::{count_of, holds, lacks_index, sum_of};
-use crate::{are_sessions_below, legal, legal_serial};
 use arrayvec::ArrayVec;
 use lst_layout::Limits;
+use lst_legal::{are_sessions_below, legal, legal_serial};
 use lst_legal_runs::Level;
 use lst_model::{Call, Cause, KeyList, Line, OutOfMemory, Patch, Reply, Row, RowList, Table};
 use lst_replies::{Replies, Report, ReportFault, Stamp, Stamps, parse_report, print_report};
