@@ -202,5 +202,12 @@ fn task_of(words: &[String]) -> Option<Task>
 fn begins_with(words: &[String], wanted: &[u8]) -> bool
     ensures { IsTrue result ↔ (slice_get (map string_bytes words.now) 0 ≡ Some wanted.now) }
 {
-    !words.is_empty() && words[0].as_bytes() == wanted
+    !words.is_empty() && is_word(&words[0], wanted)
+}
+
+/// Whether a word is this one.
+fn is_word(word: &String, wanted: &[u8]) -> bool
+    ensures { IsTrue result ↔ (string_bytes word.now ≡ wanted.now) }
+{
+    word.as_bytes() == wanted
 }
