@@ -1,1 +1,1 @@
-mod Driving
+mod Opened

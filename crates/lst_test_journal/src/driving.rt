@@ -1,5 +1,5 @@
 //! An open journal, and the lines that go through it.
-ghost use Rattle.std.specs.Prelude.{◌≡◌, false, IfOk, IsOk};
+ghost use Rattle.std.specs.Prelude.{◌≡◌, false, IfOk, OnOk};
 ghost use Rattle.lst_layout.specs.Limits.{IsValid};
 ghost use Rattle.lst_model.specs.Lines.{LineFits};
 ghost use Rattle.lst_journal.specs.Journals.{IsOpenJournal};
@@ -13,16 +13,15 @@ use std::alloc::Global;
 use std::process::Abort;
 use std::test::Fail;
 
-/// A journal that is open until its disk fails.
+/// A journal that lines go through. Its calls want it open until its disk fails, and leave it so.
 #[derive(Drop)]
 pub(crate) struct Driven<D: Disk> {
     redo: Redo<D>,
-    ghost open: { redo.failed ≡ false → IsOpenJournal D.content D.images redo },
 }
 
 /// The layout of a store with these limits.
-fn layout_of(limits: &Limits) -> Result<Layout, Fail>
-    ensures { IsOk result → IsValid limits.now }
+pub(crate) fn layout_of(limits: &Limits) -> Result<Layout, Fail>
+    ensures { OnOk result (IsValid limits.now) }
 {
     match limits.check() {
         Ok(layout) => Ok(layout),
@@ -33,19 +32,23 @@ fn layout_of(limits: &Limits) -> Result<Layout, Fail>
 /// A journal over a disk, or its refusal.
 pub(crate) fn tried<D: Disk + Drop>(
     alloc: Global,
-    limits: &Limits,
+    layout: &Layout,
     disk: D,
-) -> Result<Result<Driven<D>, OpenRefusal<D>>, Fail> {
-    let layout = layout_of(limits)?;
-    match open_redo(alloc, &layout, disk) {
-        Ok(redo) => Ok(Ok(Driven { redo })),
-        Err(refusal) => Ok(Err(refusal)),
+) -> Result<Driven<D>, OpenRefusal<D>>
+    ensures { IfOk result (λ driven. driven.redo.failed ≡ false → IsOpenJournal D.content D.images driven.redo) }
+{
+    match open_redo(alloc, layout, disk) {
+        Ok(redo) => Ok(Driven { redo }),
+        Err(refusal) => Err(refusal),
     }
 }
 
 /// A journal over a disk, with the limits that a store has where none are named.
-pub(crate) fn opened<D: Disk + Drop>(alloc: Global, disk: D) -> Result<Driven<D>, Fail> {
-    match tried(alloc, &Limits::default(), disk)? {
+pub(crate) fn opened<D: Disk + Drop>(alloc: Global, disk: D) -> Result<Driven<D>, Fail>
+    ensures { IfOk result (λ driven. driven.redo.failed ≡ false → IsOpenJournal D.content D.images driven.redo) }
+{
+    let layout = layout_of(&Limits::default())?;
+    match tried(alloc, &layout, disk) {
         Ok(driven) => Ok(driven),
         Err(_) => Err("the disk is opened".into()),
     }
@@ -71,7 +74,10 @@ impl<D: Disk> Driven<D> {
         &mut self,
         alloc: Global,
         text: &str,
-    ) -> Result<Result<Kept, OutOfMemory>, Fail> {
+    ) -> Result<Result<Kept, OutOfMemory>, Fail>
+        requires { self.old.redo.failed ≡ false → IsOpenJournal D.content D.images self.old.redo }
+        ensures { self.new.redo.failed ≡ false → IsOpenJournal D.content D.images self.new.redo }
+    {
         let limits = *self.redo.crew.seat.limits();
         layout_of(&limits)?;
         let line = line_of(alloc, &limits, text)?;
@@ -89,7 +95,10 @@ impl<D: Disk> Driven<D> {
         &mut self,
         rt: &(impl Abort + AllocGlobal),
         lines: &[(&str, Kept)],
-    ) -> Result<(), Fail> {
+    ) -> Result<(), Fail>
+        requires { self.old.redo.failed ≡ false → IsOpenJournal D.content D.images self.old.redo }
+        ensures { self.new.redo.failed ≡ false → IsOpenJournal D.content D.images self.new.redo }
+    {
         for (line, wanted) in lines {
             let kept = self.line(rt.alloc(), line)??;
             assert_eq!(rt; &kept, wanted, "at {line}");
@@ -98,7 +107,10 @@ impl<D: Disk> Driven<D> {
     }
 
     /// Its commits.
-    pub(crate) fn history(&mut self, alloc: Global) -> Result<History, Fail> {
+    pub(crate) fn history(&mut self, alloc: Global) -> Result<History, Fail>
+        requires { self.old.redo.failed ≡ false → IsOpenJournal D.content D.images self.old.redo }
+        ensures { self.new.redo.failed ≡ false → IsOpenJournal D.content D.images self.new.redo }
+    {
         if self.redo.failed() {
             return Err("no line has met a fault".into());
         }

@@ -1,7 +1,7 @@
 //! Disks that are opened with room for their commits, and without; one that is damaged, one that fails, and one for which memory is wanting.
 
 use crate::disks::{Cramped, blank, put};
-use crate::driving::{Driven, begun, committed, done, opened, tried};
+use crate::driving::{Driven, begun, committed, done, layout_of, opened, tried};
 use lst_disk::MemDisk;
 use lst_journal::OpenCause;
 use lst_layout::Limits;
@@ -44,7 +44,8 @@ fn recovered(
         tails,
         ..Limits::default()
     };
-    match tried(rt.alloc(), &limits, written(rt, 100)?)? {
+    let layout = layout_of(&limits)?;
+    match tried(rt.alloc(), &layout, written(rt, 100)?) {
         Ok(mut driven) => Ok(Ok(driven.history(rt.alloc())?.len())),
         Err(refusal) => Ok(Err(refusal.cause)),
     }
@@ -67,7 +68,8 @@ fn cause_of(alloc: Global, disk: MemDisk) -> Result<OpenCause, Fail> {
         sessions: 1,
         ..Limits::default()
     };
-    match tried(alloc, &limits, disk)? {
+    let layout = layout_of(&limits)?;
+    match tried(alloc, &layout, disk) {
         Ok(_) => Err("the disk is refused".into()),
         Err(refusal) => Ok(refusal.cause),
     }
@@ -129,7 +131,8 @@ fn commits_are_run_again_by_their_sessions(rt: HostRuntime) -> Result<(), Fail> 
 fn want_of_memory_hands_the_disk_back(rt: HostRuntime) -> Result<(), Fail> {
     let alloc = rt.alloc();
     let disk = Cramped::new(alloc, 64, 0)?;
-    let Err(refusal) = tried(alloc, &Limits::default(), disk)? else {
+    let layout = layout_of(&Limits::default())?;
+    let Err(refusal) = tried(alloc, &layout, disk) else {
         return Err("the opening wants memory".into());
     };
     assert_eq!(rt; refusal.cause, OpenCause::OutOfMemory);
