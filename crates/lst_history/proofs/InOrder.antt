@@ -1,77 +1,15 @@
 -- The writes of commits in order: a stable sort by key gives what joining one by one gives.
-use Rattle.std.proofs.Common.{◌≡◌, ◌≢◌, ℕ, zero, suc, ◌+◌, ◌<◌, ◌≤◌, List, [], ◌∷◌, ◌++◌, Bool, true, false, not, ◌&&◌, cond, length, map, refl, sym, ap, ◌∙◌, arith, append_assoc, append-nil, get_or, set}
-use Rattle.std.specs.List.{filter, fold}
-use Rattle.std.specs.List.Sorted.{IsNonDecreasingBy, IsStableByKey, ties}
-use Rattle.std.specs.Ordering.{nat_cmp, is_lt}
-use Rattle.std.specs.declared.cmp.Ordering.TheVariants.{Equal}
-use Rattle.std.specs.Cmp.{nat_cmp_is}
+use Rattle.std.proofs.Common.{◌≡◌, ℕ, zero, suc, ◌+◌, ◌<◌, ◌≤◌, List, [], ◌∷◌, ◌++◌, Bool, true, false, cond, length, map, refl, ap, ◌∙◌, arith, get_or, set}
 use Rattle.std.proofs.lemmas.List.{map-append}
 use Rattle.std.proofs.lemmas.List.Sums.{fold-append}
-use mathlib.Core.Logic.{dite}
-use native.Mathlib.Decide.{ℕ_discrete}
 use Rattle.lst_layout.specs.declared.limits.Limits.{Limits}
-use Rattle.lst_model.specs.declared.acts.Act.{Act}
-use Rattle.lst_model.specs.declared.acts.Act.TheVariants.{Del}
 use Rattle.lst_model.specs.declared.acts.Write.{Write}
 use Rattle.lst_model.specs.declared.commits.Commit.{Commit}
-use Rattle.lst_model.specs.Histories.{acts_on, joined, StandFrom}
-use Rattle.lst_model.proofs.Joining.{stand_joined, acts_on-joined}
+use Rattle.lst_model.specs.Histories.{by_key, joined}
 use Rattle.lst_core_state.specs.Cells.{tail_count}
-use Rattle.lst_core_state.specs.Writes.{Rising, writes_by}
-use Rattle.lst_core_state.proofs.Writes.{acts_on-append, line_here, line_else, same_lines}
+use Rattle.lst_core_state.specs.Writes.{writes_by}
 use Rattle.lst_core_state.specs.State.{Words, history, history_of, commit_at, is_by, record_in, act_in}
-use Rattle.lst_history.specs.Commits.{writes_until, gathered_until, write_at, by_key, in_order}
-
--- ---- joining one by one
-
-rising : (k : ℕ) (ws : List Write) → StandFrom k ws → Rising k ws
-rising k [] stand = tt
-rising k (w ∷ ws) stand = (stand.0, rising w.key ws stand.1)
-
-stand_fold : (before ws : List Write) → StandFrom 0 before → StandFrom 0 (fold joined before ws)
-stand_fold before [] stand = stand
-stand_fold before (w ∷ ws) stand = stand_fold (joined before w) ws (stand_joined 0 before w (omega arith) stand)
-
-acts_on-fold : (k : ℕ) (before ws : List Write) → StandFrom 0 before → acts_on k (fold joined before ws) ≡ acts_on k before ++ acts_on k ws
-acts_on-fold k before [] stand = sym (append-nil (acts_on k before))
-acts_on-fold k before (w ∷ ws) stand =
-    acts_on-fold k (joined before w) ws (stand_joined 0 before w (omega arith) stand)
-    ∙ ap (λ (l : List Act). l ++ acts_on k ws) (acts_on-joined k 0 before w stand)
-    ∙ append_assoc (acts_on k before) (acts_on k (w ∷ [])) (acts_on k ws)
-    ∙ ap (λ (l : List Act). acts_on k before ++ l) (sym (acts_on-append k (w ∷ []) ws))
-
--- ---- a stable sort
-
-rising_up : (k : ℕ) (ws : List Write) → ((i : ℕ) (d : Write) → i < length ws → k ≤ (get_or ws i d).key) → IsNonDecreasingBy (λ (w : Write). w.key) ws → Rising k ws
-rising_up k [] least rises = tt
-rising_up k (w ∷ ws) least rises = (least 0 w (omega arith), rising_up w.key ws (λ i d low. rises 0 (suc i) d (omega arith) (omega arith)) (λ i j d le low. rises (suc i) (suc j) d (omega arith) (omega arith)))
-
-abbrev on : ℕ → Write
-on k = record { key = k; act = Del }
-
-abbrev is_tied : ℕ → Write → Bool
-is_tied k = ties (λ (x y : Write). is_lt (nat_cmp x.key y.key)) (on k)
-
-tied : (k : ℕ) (w : Write) → w.key ≡ k → is_tied k w ≡ true
-tied k w e = ap (λ (n : ℕ). not (is_lt (nat_cmp k n)) && not (is_lt (nat_cmp n k))) e ∙ ap (λ o. not (is_lt o) && not (is_lt o)) (sym (nat_cmp_is k k Equal refl))
-
--- the acts on a key are those of the writes that tie with it
-acts_tied : (k : ℕ) (ws : List Write) → acts_on k (filter (is_tied k) ws) ≡ acts_on k ws
-acts_tied k [] = refl
-acts_tied k (w ∷ ws) = dite (ℕ_discrete w.key k)
-    (λ e. ap (λ (b : Bool). acts_on k (cond b (w ∷ kept) kept)) (tied k w e) ∙ line_here k w kept e ∙ ap (λ (l : List Act). w.act ∷ l) (acts_tied k ws) ∙ sym (line_here k w ws e))
-    (λ ne. other ne (is_tied k w) ∙ acts_tied k ws ∙ sym (line_else k w ws ne))
-  where
-    kept : List Write
-    kept = filter (is_tied k) ws
-
-    other : w.key ≢ k → (b : Bool) → acts_on k (cond b (w ∷ kept) kept) ≡ acts_on k kept
-    other ne true = line_else k w kept ne
-    other ne false = refl
-
-pub sorted_is : (ws sorted : List Write) → IsNonDecreasingBy (λ (w : Write). w.key) sorted → IsStableByKey (λ (w : Write). w.key) nat_cmp ws sorted → sorted ≡ by_key ws
-sorted_is ws sorted rises stable = same_lines 0 0 sorted (by_key ws) (rising_up 0 sorted (λ k d low. omega arith) rises) (rising 0 (by_key ws) (stand_fold [] ws tt))
-    (λ k. sym (acts_tied k sorted) ∙ ap (acts_on k) (stable (on k)) ∙ acts_tied k ws ∙ sym (acts_on-fold k [] ws tt))
+use Rattle.lst_history.specs.Commits.{writes_until, gathered_until, write_at, in_order}
 
 -- ---- in a list of commits
 

@@ -1,10 +1,9 @@
 -- The commits with the writes of the first tails, which commit the write of a tail is of, and the order that a commit has its writes in.
 use Rattle.std.specs.Prelude.{◌≡◌, ℕ, zero, suc, ◌<◌, ◌≤◌, List, [], ◌∷◌, ◌++◌, cond, false, eqb}
-use Rattle.std.specs.List.{fold}
 use Rattle.lst_layout.specs.declared.limits.Limits.{Limits}
 use Rattle.lst_model.specs.declared.acts.Write.{Write}
 use Rattle.lst_model.specs.declared.commits.Commit.{Commit}
-use Rattle.lst_model.specs.Histories.{joined}
+use Rattle.lst_model.specs.Histories.{by_key}
 use Rattle.lst_core_state.specs.Writes.{write}
 use Rattle.lst_core_state.specs.State.{Words, history, is_by, record_in, act_in}
 
@@ -21,11 +20,7 @@ writes_until l w (suc n) x = cond (is_by w.log w.cells x (suc n)) (writes_until 
 abbrev pub gathered_until : Limits → Words → ℕ → List Commit
 gathered_until l w n = history w.clock w.log w.begins (writes_until l w n)
 
--- writes by rising key, those of one key in the order that they had
-abbrev pub by_key : List Write → List Write
-by_key ws = fold joined [] ws
-
--- a commit with its writes in that order
+-- a commit with its writes by rising key, those of one key in the order that they had
 abbrev pub in_order : Commit → Commit
 in_order c = record c { writes = by_key c.writes }
 

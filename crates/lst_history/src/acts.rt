@@ -1,13 +1,13 @@
 //! What a tail record does to the row of its record.
-ghost use Rattle.std.specs.Prelude.{◌≡◌, ◌<◌, ◌≤◌, length, cond, Some, None};
+ghost use Rattle.std.specs.Prelude.{◌≡◌, ◌<◌, ◌≤◌};
 ghost use Rattle.lst_core_state.specs.Cells.{tail_count, listed, act_with};
-ghost use Rattle.lst_model.specs.Cells.{has_bit, cell_of, cells_of, patched};
+ghost use Rattle.lst_model.specs.Cells.{cells_of};
 ghost use Rattle.lst_bits.specs.Encodings.{kind_code};
 ghost use Rattle.lst_history.specs.Peeks.{words_in, IsReader, Reads};
 
 use crate::words::cell_word;
 use arrayvec::ArrayVec;
-use lst_bits::{Encoding, Kind, has_column};
+use lst_bits::{Encoding, Kind};
 use lst_model::{Act, Patch, Row};
 use lst_rule::{Seat, Store};
 
@@ -21,11 +21,11 @@ pub(crate) fn act(store: &Store, seat: &mut Seat, s: u32, tail: u32, encoding: E
     match encoding.kind {
         Kind::Put => {
             let values = values(store, seat, s, tail);
-            Act::Put(row(encoding.nulls, values.as_slice()))
+            Act::Put(Row::of_bits(encoding.nulls, values.as_slice()))
         }
         Kind::Set => {
             let values = values(store, seat, s, tail);
-            Act::Set(patch(encoding.mask, encoding.nulls, values.as_slice()))
+            Act::Set(Patch::of_bits(encoding.mask, encoding.nulls, values.as_slice()))
         }
         Kind::Del => Act::Del,
     }
@@ -45,52 +45,4 @@ fn values(store: &Store, seat: &mut Seat, s: u32, tail: u32) -> ArrayVec<u64, 8>
         cells.push(cell_word(store, seat, s, tail, 3 + column));
     }
     cells
-}
-
-/// The row of these numbers, where the columns of the null bits are null.
-fn row(nulls: u8, values: &[u64]) -> Row
-    requires { length values.now ≤ 8 }
-    ensures { result ≡ cells_of nulls 0 values.now }
-{
-    let mut row = Row::of_numbers(ArrayVec::new());
-    for (column, value) in values.iter().enumerate() {
-        row.push(cell(nulls, column as u32, *value));
-    }
-    row
-}
-
-/// The patch that sets the columns of the mask to these numbers, or to null where the null bits say so.
-fn patch(mask: u8, nulls: u8, values: &[u64]) -> Patch
-    requires { length values.now ≤ 8 }
-    ensures { result ≡ patched mask 0 (cells_of nulls 0 values.now) }
-{
-    let mut patch = Patch::of_numbers(ArrayVec::new());
-    for (column, value) in values.iter().enumerate() {
-        patch.push(change(mask, nulls, column as u32, *value));
-    }
-    patch
-}
-
-/// The cell of a column: its number, or null.
-fn cell(nulls: u8, column: u32, value: u64) -> Option<u64>
-    requires { column < 8 }
-    ensures { result ≡ cell_of nulls column value }
-{
-    if has_column(nulls, column) {
-        None
-    } else {
-        Some(value)
-    }
-}
-
-/// What a column becomes, where the mask has it.
-fn change(mask: u8, nulls: u8, column: u32, value: u64) -> Option<Option<u64>>
-    requires { column < 8 }
-    ensures { result ≡ cond (has_bit mask column) (Some (cell_of nulls column value)) None }
-{
-    if has_column(mask, column) {
-        Some(cell(nulls, column, value))
-    } else {
-        None
-    }
 }

@@ -21,8 +21,6 @@ pub(crate) fn sort_all(alloc: Global, commits: &mut [Commit]) -> Result<(), OutO
 fn sort(alloc: Global, commit: &mut Commit) -> Result<(), OutOfMemory>
     ensures ok { OnOk result (commit.new ≡ in_order commit.old) }
 {
-    let mut writes = mem::replace(&mut commit.writes, Writes::new(alloc)).into_items();
-    writes.sort_by_key(|write| write.key)?;
-    commit.writes = Writes::from_items(writes);
+    commit.writes = mem::replace(&mut commit.writes, Writes::new(alloc)).by_key()?;
     Ok(())
 }

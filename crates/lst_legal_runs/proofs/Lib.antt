@@ -4,7 +4,6 @@ pub mod Behind
 pub mod Placing
 pub mod Marking
 pub mod Flooring
-pub mod Sorting
 pub mod Pending
 pub mod Gathered
 pub mod Stepping

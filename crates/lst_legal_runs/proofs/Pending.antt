@@ -9,12 +9,12 @@ use Rattle.lst_model.specs.declared.lines.Line.TheVariants.{Phase, Merge, Call}
 use Rattle.lst_model.specs.declared.lines.Call.{Call as CallKind}
 use Rattle.lst_model.specs.declared.replies.Reply.{Reply}
 use Rattle.lst_model.specs.declared.replies.Reply.TheVariants.{Begun, Done, Row, Absent, Committed, Ended, Aborted, Sum, Count, Rows, Keys, Refused, Merged, NothingNew, NoFrame, Silent}
-use Rattle.lst_model.specs.Histories.{joined}
+use Rattle.lst_model.specs.Histories.{by_key, joined}
 use Rattle.lst_replies.specs.declared.states.Transaction.{Transaction}
 use Rattle.lst_replies.specs.declared.states.SessionState.{SessionState}
 use Rattle.lst_replies.specs.Runs.{Answered, answered, write_of}
 use Rattle.lst_replies.specs.States.{after_call, state_of, with_write}
-use Rattle.lst_legal_runs.specs.Gathering.{by_key, ArePending, pending_after, with_pending}
+use Rattle.lst_legal_runs.specs.Gathering.{ArePending, pending_after, with_pending}
 use Rattle.lst_legal_runs.proofs.Behind.{state_of-push}
 
 -- ---- one session's

@@ -1,12 +1,12 @@
 -- The history that the replies of a run tell, gathered line by line.
 use Rattle.std.specs.Prelude.{◌≡◌, ◌≢◌, ℕ, ◌+◌, ◌<◌, Bool, true, false, ◌≤◌, List, [], ◌∷◌, ◌++◌, map, length, slice_index_or, slice_get, Option, Some, None, IfSome, IsSomeAnd}
-use Rattle.std.specs.List.{Contains, AllPairs, fold}
+use Rattle.std.specs.List.{Contains, AllPairs}
 use Rattle.lst_model.specs.declared.acts.Write.{Write}
 use Rattle.lst_model.specs.declared.commits.Commit.{Commit}
 use Rattle.lst_model.specs.declared.lines.Call.{Call as CallKind}
 use Rattle.lst_model.specs.declared.replies.Reply.{Reply}
 use Rattle.lst_model.specs.declared.replies.Reply.TheVariants.{Begun, Done, Committed}
-use Rattle.lst_model.specs.Histories.{joined, StandByKey}
+use Rattle.lst_model.specs.Histories.{by_key, StandByKey}
 use Rattle.lst_replies.specs.declared.reports.Stamp.{Stamp}
 use Rattle.lst_replies.specs.declared.states.Transaction.{Transaction}
 use Rattle.lst_replies.specs.Runs.{Answered, AtEachCall, commit_time, commit_times, write_of, speaker_of}
@@ -26,10 +26,6 @@ pub record IsTold (run : List Answered) (stamps : List Stamp) (history : List Co
 -- a merge is not answered with a commit
 abbrev pub CommitsNothing : Answered → Type 0
 CommitsNothing one = IfMerge (λ range column reply. commit_time reply ≡ None) one.line one.reply
-
--- writes in the order of a commit, from the order of the calls
-abbrev pub by_key : List Write → List Write
-by_key writes = fold joined [] writes
 
 -- by session: the writes of the open transaction behind the front of a run, in the order of the calls
 abbrev pub ArePending : List (List Write) → List Answered → Type 0

@@ -4,7 +4,7 @@ ghost use Rattle.lst_model.specs.declared.commits.Commit.{Commit as CommitTold};
 ghost use Rattle.lst_model.specs.Histories.{AreByKey};
 ghost use Rattle.lst_replies.specs.Runs.{Answered, speaker_of, write_of, commit_time};
 ghost use Rattle.lst_legal_runs.specs.Places.{AreTraced, AreWithin, run_at, seen_at};
-ghost use Rattle.lst_legal_runs.specs.Gathering.{IsTold, CommitsNothing, by_key, ArePending, AreGathered, AreFilled, CanEnter, pending_after, IsNext, IsStep};
+ghost use Rattle.lst_legal_runs.specs.Gathering.{IsTold, CommitsNothing, ArePending, AreGathered, AreFilled, CanEnter, pending_after, IsNext, IsStep};
 ghost use Rattle.lst_replies.specs.declared.reports.Stamp.{Stamp as StampTold};
 
 use crate::outlines::OpenOutline;
@@ -142,7 +142,7 @@ fn step(
             match pend(alloc, &mut pending[session as usize], call, reply)? {
                 None => Ok(true),
                 Some((time, writes)) => {
-                    let writes = by_key(writes)?;
+                    let writes = writes.by_key()?;
                     Ok(enter(slots, stamps, session, time, &place.outline.current, writes))
                 }
             }
@@ -198,15 +198,6 @@ pub fn write_of(call: &Call) -> Option<Write>
         }),
         _ => None,
     }
-}
-
-/// Writes in the order of a commit: by rising key, and of one key in the order of the calls.
-fn by_key(writes: Writes) -> Result<Writes, OutOfMemory>
-    ensures { IfOk result (λ sorted. sorted ≡ by_key writes) }
-{
-    let mut items = writes.into_items();
-    items.sort_by_key(|write| write.key)?;
-    Ok(Writes::from_items(items))
 }
 
 /// Enters the commit of a session's open transaction at a time, and says whether it could.

@@ -1,7 +1,7 @@
 //! How a line is kept.
 ghost use Rattle.std.specs.Prelude.{◌≡◌, suc, ◌+◌, ◌≤◌, [], ◌∷◌, ◌++◌, map, length, unwrap_or, vec_len, vec_capacity, IfOk, OnOk, OnErr};
 ghost use Rattle.std.specs.List.{flat_map};
-ghost use Rattle.lst_model.specs.Cells.{bits_set, changed_number};
+ghost use Rattle.lst_model.specs.Cells.{changed_number};
 ghost use Rattle.lst_model.specs.declared.lines.Line.TheVariants as line;
 ghost use Rattle.lst_model.specs.declared.lines.Call.TheVariants as call;
 ghost use Rattle.lst_line_list.specs.Kinds.{width, told, AreOf, Keeps, KeepsCall};
@@ -170,7 +170,7 @@ fn keep_update(session: u32, key: Key, patch: Patch, numbers: &mut Vec<u64>) -> 
     push_changes(&patch, numbers);
     Kind::Update {
         cells: patch.len() as u8,
-        set: set_mask(&patch),
+        set: patch.set_bits(),
         nulls: patch.nulls(),
     }
 }
@@ -193,19 +193,4 @@ fn push_settings(changes: &[Option<u64>], numbers: &mut Vec<u64>)
     for change in changes {
         numbers.push_reserved(change.unwrap_or(0));
     }
-}
-
-/// The bits of the columns that a patch sets.
-#[inline(always)]
-fn set_mask(patch: &Patch) -> u8
-    ensures { result ≡ bits_set patch.now }
-{
-    let changes = patch.numbers();
-    let mut column = changes.len();
-    let mut mask = 0;
-    while column > 0 {
-        column -= 1;
-        mask = 2 * mask + changes[column].is_some() as u8;
-    }
-    mask
 }

@@ -1,6 +1,6 @@
 //! What is kept of a line.
-ghost use Rattle.std.specs.Prelude.{◌≡◌, ◌+◌, ◌≤◌, ◌<◌, [], length, drop, cond, Some, None};
-ghost use Rattle.lst_model.specs.Cells.{has_bit, cell_of, cells_of, patched, AreNull};
+ghost use Rattle.std.specs.Prelude.{◌≡◌, ◌+◌, ◌≤◌, ◌<◌, length, drop};
+ghost use Rattle.lst_model.specs.Cells.{cells_of, patched, AreNull};
 ghost use Rattle.lst_model.specs.declared.lines.Line.TheVariants as lines;
 ghost use Rattle.lst_model.specs.declared.lines.Call.TheVariants as calls;
 ghost use Rattle.lst_line_list.specs.Kinds.{width, first, told, AreOf, own, line_of};
@@ -147,7 +147,7 @@ fn tell_update(session: u32, set: u8, nulls: u8, numbers: &[u64], line: &mut Lin
         ..
     } = line
     {
-        fill(set, nulls, &numbers[1..], patch);
+        patch.fill(set, nulls, &numbers[1..]);
     }
 }
 
@@ -161,39 +161,4 @@ fn row_of(nulls: u8, numbers: &[u64]) -> Row
         unreachable!()
     };
     Row::new(cells, nulls)
-}
-
-/// Makes a patch of no column the one that sets the columns of the mask to these numbers, or to null where the null bits say so.
-#[inline(always)]
-fn fill(set: u8, nulls: u8, numbers: &[u64], patch: &mut Patch)
-    requires few { length numbers.now ≤ 8 }
-    requires none { patch.old ≡ [] }
-    ensures { patch.new ≡ patched set 0 (cells_of nulls 0 numbers.now) }
-{
-    for (column, number) in numbers.iter().enumerate() {
-        patch.push(change(set, nulls, column as u32, *number));
-    }
-}
-
-/// What becomes of a column, where the mask has it.
-fn change(set: u8, nulls: u8, column: u32, number: u64) -> Option<Option<u64>>
-    requires { column < 8 }
-    ensures { result ≡ cond (has_bit set column) (Some (cell_of nulls column number)) None }
-{
-    if !has_column(set, column) {
-        return None;
-    }
-    if has_column(nulls, column) {
-        Some(None)
-    } else {
-        Some(Some(number))
-    }
-}
-
-/// Whether a mask holds this column.
-fn has_column(mask: u8, column: u32) -> bool
-    requires { column < 8 }
-    ensures { result ≡ has_bit mask column }
-{
-    mask >> column & 1 == 1
 }

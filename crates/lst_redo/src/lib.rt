@@ -5,7 +5,6 @@
 //! `log.rt` and `open` in `opening.rt`.
 #![tactic(auto)]
 
-mod acts;
 #[cfg(test)]
 mod drawn_tests;
 #[cfg(test)]

@@ -1,26 +1,11 @@
 //! The words of an act in a tail.
 ghost use Rattle.std.specs.Prelude.{◌≡◌, ◌+◌, ◌<◌, ◌≤◌};
 ghost use Rattle.lst_write.specs.Cells as cells;
-ghost use Rattle.lst_model.specs.Cells.{bits_set};
 ghost use Rattle.lst_write.specs.Cells.{IsActFor};
 
 use lst_bits::{Encoding, Kind, full_mask, pack_encoding};
 use lst_model::{Act, Patch};
 use lst_rule::RecordId;
-
-/// The mask of the columns that a patch sets.
-fn patch_mask(patch: &Patch) -> u8
-    ensures { result ≡ bits_set patch.now }
-{
-    let changes = patch.numbers();
-    let mut column = changes.len();
-    let mut mask = 0;
-    while column > 0 {
-        column -= 1;
-        mask = 2 * mask + changes[column].is_some() as u8;
-    }
-    mask
-}
 
 /// The encoding word of an act on a record, with the bits of the columns that it makes null.
 pub(crate) fn encoding(columns: u32, rec: RecordId, act: &Act) -> u64
@@ -37,7 +22,7 @@ pub(crate) fn encoding(columns: u32, rec: RecordId, act: &Act) -> u64
             nulls: row.nulls(),
         }),
         Act::Set(patch) => pack_encoding(Encoding {
-            mask: patch_mask(patch),
+            mask: patch.set_bits(),
             kind: Kind::Set,
             slot,
             nulls: patch.nulls(),

@@ -1,23 +1,14 @@
-use Rattle.std.proofs.Common.{◌≡◌, List, ◌∙◌, rules, subst}
-use Rattle.std.proofs.lemmas.List.Sorted.{IsNonDecreasingBy-from_sort_by_key}
-use Rattle.std.proofs.lemmas.Fn.{always_returns_same}
-use Rattle.std.specs.List.Sorted.{IsStableByKey}
-use Rattle.std.specs.Ordering.{nat_cmp}
+use Rattle.std.proofs.Common.{◌≡◌, ap, ◌∙◌}
+use Rattle.lst_model.specs.Histories.{by_key}
 use Rattle.lst_model.specs.declared.acts.Write.{Write}
-use Rattle.lst_history.proofs.InOrder.{sorted_is}
 use Rattle.lst_history.proofs.sorting.sort.Goals as goal
 
 pub returns : goal.returns
-returns c =
-    let e = c.in_ok-sort_by_key.ensures in
-    let rises = IsNonDecreasingBy-from_sort_by_key (λ (w : Write). w.key) _ e.sorted (λ a r q k. search rules) in
-    let stable = e.stable (λ (w : Write). w.key) (always_returns_same _ (λ a r. r ≡ a.0.now.key) _ (λ a r q k. search rules)) in
-    let same = c.into_items-writes.ensures ∙ c.replace.ensures.value in
-    record {
-      ok = λ i. record {
-        session = c.args.commit.now.session;
-        number = c.args.commit.now.number;
-        begin = c.args.commit.now.begin;
-        writes = (c.from_items.ensures ∙ sorted_is c.args.commit.now.writes c.sort_by_key.new.self.items rises (subst (λ (ws : List Write). IsStableByKey (λ (w : Write). w.key) nat_cmp ws c.sort_by_key.new.self.items) same stable)) i;
-      };
-    }
+returns c = record {
+  ok = λ i. record {
+    session = c.args.commit.now.session;
+    number = c.args.commit.now.number;
+    begin = c.args.commit.now.begin;
+    writes = (c.in_ok-by_key.ensures ∙ ap by_key c.replace.ensures.value) i;
+  };
+}

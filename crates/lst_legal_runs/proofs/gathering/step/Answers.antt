@@ -3,15 +3,15 @@ use Rattle.lst_model.specs.declared.acts.Write.{Write}
 use Rattle.lst_model.specs.declared.replies.Reply.TheVariants.{Silent}
 use Rattle.lst_model.specs.declared.lines.Line.TheVariants.{Phase, Merge, Call}
 use Rattle.std.proofs.lemmas.List.{get_or_default}
-use Rattle.lst_model.specs.Histories.{StandByKey}
+use Rattle.lst_model.specs.Histories.{by_key, StandByKey}
 use Rattle.lst_replies.specs.Seen.{seen}
 use Rattle.lst_replies.specs.Runs.{Answered, answered, speaker_of, commit_time}
 use Rattle.lst_replies.specs.States.{state_of}
 use Rattle.lst_legal_runs.specs.declared.outlines.StateOutline.{StateOutline}
 use Rattle.lst_legal_runs.specs.Outlines.{outline_of}
 use Rattle.lst_legal_runs.specs.Places.{seen_at, outline_at}
-use Rattle.lst_legal_runs.specs.Gathering.{ArePending, CommitsNothing, IsStep, by_key, pending_after}
-use Rattle.lst_legal_runs.proofs.Sorting.{by_key-stands}
+use Rattle.lst_legal_runs.specs.Gathering.{ArePending, CommitsNothing, IsStep, pending_after}
+use Rattle.lst_model.proofs.InOrder.{by_key-stands}
 use Rattle.lst_legal_runs.proofs.Pending.{pending_phase, pending_merge, pending_call}
 use Rattle.lst_legal_runs.proofs.Gathered.{gathered_silent}
 use Rattle.lst_legal_runs.proofs.Stepping.{ended_none, ended_some, step_commit}

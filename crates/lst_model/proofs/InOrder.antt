@@ -8,9 +8,8 @@ use Rattle.std.proofs.lemmas.Bool.{eqb-true, ne_eqb, ltb-true, ltb-false, eq-eqb
 use Rattle.std.proofs.lemmas.List.{append-nil}
 use Rattle.lst_model.specs.declared.acts.Write.{Write}
 use Rattle.lst_model.specs.declared.acts.Act.TheVariants.{Del}
-use Rattle.lst_model.specs.Histories.{joined, StandFrom, StandByKey}
+use Rattle.lst_model.specs.Histories.{joined, by_key, StandFrom, StandByKey}
 use Rattle.lst_model.proofs.Joining.{stand_joined}
-use Rattle.lst_legal_runs.specs.Gathering.{by_key}
 
 -- ---- the writes of one key
 

@@ -4,7 +4,7 @@ use Rattle.std.proofs.Math.Nat.{pow-le-pow_right}
 use mir.Val.{bool_byte}
 use Rattle.lst_model.specs.Cells.{Cell, number_of, bits_set}
 use Rattle.lst_model.specs.CellLaws.{bits_where-below}
-use Rattle.lst_line_list.proofs.keeping.set_mask.Goals as goal
+use Rattle.lst_model.proofs.rows.Patch.set_bits.Goals as goal
 
 bits_set-numbers : (patch : List (Option Cell)) → bits_set (map (option_map number_of) patch) ≡ bits_set patch
 bits_set-numbers [] = refl
@@ -27,4 +27,4 @@ overflow_add-mask c = let h = mask_fits c.numbers-changes.result.now c.loop-colu
 
 pub returns : goal.returns
 returns c = let e = c.loop-column.invariant.1 in let z : c.loop-column.column ≡ 0 = omega (arith, c.loop-column-test.false) in
-    e ∙ (ap (λ (n : ℕ). bits_set (drop n c.numbers-changes.result.now)) z ∙ (ap (bits_set {A = ℕ}) c.numbers-changes.ensures.numbers ∙ bits_set-numbers c.args.patch.now))
+    e ∙ (ap (λ (n : ℕ). bits_set (drop n c.numbers-changes.result.now)) z ∙ (ap (bits_set {A = ℕ}) c.numbers-changes.ensures.numbers ∙ bits_set-numbers c.args.self.now))

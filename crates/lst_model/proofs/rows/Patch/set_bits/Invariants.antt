@@ -1,6 +1,6 @@
 use Rattle.std.proofs.Common.{◌≡◌, ◌≤◌, length, drop}
 use Rattle.lst_model.specs.Cells.{bits_set}
-use Rattle.lst_write.proofs.cells.patch_mask.Given as goal
+use Rattle.lst_model.proofs.rows.Patch.set_bits.Given as goal
 
 abbrev pub invariant-loop-column : goal.invariant-loop-column
 invariant-loop-column l = (l.column ≤ length l.changes) × (l.mask ≡ bits_set (drop l.column l.changes))

@@ -1,6 +1,0 @@
-use Rattle.std.proofs.Common.{◌≡◌, length, take}
-use Rattle.lst_model.specs.Cells.{cells_of, patched}
-use Rattle.lst_line_list.proofs.kinds.fill.Given as goal
-
-abbrev pub invariant-loop-column : goal.invariant-loop-column
-invariant-loop-column l = (l.patch ≡ patched l.set 0 (cells_of l.nulls 0 (take l.column l.numbers))) × (length l.patch ≡ l.column)

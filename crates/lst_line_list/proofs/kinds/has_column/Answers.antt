@@ -1,6 +1,0 @@
-use Rattle.std.proofs.Common.{◌/◌, ◌^◌, ℕ, eqb, ap}
-use Rattle.std.proofs.lemmas.Nat.{and_mask}
-use Rattle.lst_line_list.proofs.kinds.has_column.Goals as goal
-
-pub returns : goal.returns
-returns c = ap (λ (m : ℕ). eqb m 1) (and_mask (c.args.mask / 2 ^ c.args.column) 1)
