@@ -9,6 +9,6 @@ returns c = record {
     session = c.args.commit.now.session;
     number = c.args.commit.now.number;
     begin = c.args.commit.now.begin;
-    writes = (c.in_ok-by_key.ensures ∙ ap by_key c.replace.ensures.value) i;
+    writes = (c.in_ok-commit.ensures ∙ ap by_key c.replace.ensures.value) i;
   };
 }
