@@ -1,6 +1,5 @@
-use Rattle.std.proofs.Common.{◌≡◌, ap, ◌∙◌}
+use Rattle.std.proofs.Common.{ap, ◌∙◌}
 use Rattle.lst_model.specs.Histories.{by_key}
-use Rattle.lst_model.specs.declared.acts.Write.{Write}
 use Rattle.lst_history.proofs.sorting.sort.Goals as goal
 
 pub returns : goal.returns
