@@ -13,7 +13,7 @@ ghost use Rattle.lst_scan.specs.Scans.{IsCellOn, IsRowOn, IsEntryOn, entry_where
 use arrayvec::ArrayVec;
 use lst_model::{Key, Row};
 use lst_rule::{RecordId, Seat, Store, load_key};
-use lst_walk::{column_by_chain, put_row};
+use lst_walk::{column_by_chain, put_row, tails_of};
 
 /// The number in a column, 0 for null, of the row on a record, along the record's chain alone. None comes exactly where the transaction sees no row
 /// of a key that is on it. This serves a record that the column's page doesn't tell.
@@ -32,7 +32,9 @@ pub(crate) fn cell_by_chain(
     ensures cell { IsCellOn (knows seat.old.view s) rec.number c result }
     ensures saves { TellsNone seat.old.view s (rec.number / 256) c → SavesPart seat.old.view seat.new.view s c rec.number (rec.number + 1) }
 {
-    column_by_chain(store, seat, s, rec, c)
+    let tails = tails_of(store, rec.number / 256);
+    let begin = seat.begin(s);
+    column_by_chain(store, seat, s, rec, tails, begin, c)
 }
 
 /// The row on a record, put into a row that has no cells. Whether there is a row is answered.

@@ -20,3 +20,4 @@ pub mod Straight
 pub mod Newest
 pub mod Masks
 pub mod Firsts
+pub mod Ahead

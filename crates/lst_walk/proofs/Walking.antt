@@ -31,6 +31,7 @@ use Rattle.lst_rule.proofs.Keying.{one_record, recorded}
 use Rattle.lst_rule.proofs.Turns.{sights_fit}
 use Rattle.lst_rule.proofs.Watching.{watchers_keep}
 use Rattle.lst_walk.specs.Readers.{IsReader, IsAt, HasVersion, Resolves, IsResolved}
+use Rattle.lst_walk.specs.Chains.{IsTailOf}
 use Rattle.lst_walk.specs.Patches.{seen_after, cell_in, IsWide}
 use Rattle.lst_walk.specs.Pages.{touches_by, is_told, NoneTold, UsesPage}
 use Rattle.lst_walk.specs.Walks.{IsSightOf, IsRowOf, IsCellOf, IsStampedIn, Passes, WalksRow, WalksCell, UsedPage, MakeColumn, Visited, Acted, Leaves, Tells, Told, RowWalk, CellWalk}
@@ -60,6 +61,14 @@ module _ (store : Store) (seat : Sitting) (s rec n : ℕ) (reader : IsReader sto
     record { rec = rec; is = subst (λ (l : Limits). IsVersionOf l rec q.0) (sym reader.seat_of.limits) q.3; known = q.4; at = q.5 ∙ (ap (λ (k : ℕ). k * store.layout.limits.tails + n) (sym e) ∙ sym is) },
     q.7,
     q.8,
+  )
+
+  pub tail_number : (range t : ℕ) → range ≡ rec / 256 → t ≡ range * store.layout.limits.tails + n → IsTailOf seat.view s rec t
+  tail_number range t e is = let q = first.some some in (
+    q.0,
+    subst (λ (l : Limits). IsVersionOf l rec q.0) (sym reader.seat_of.limits) q.3,
+    q.4,
+    q.5 ∙ (ap (λ (k : ℕ). k * store.layout.limits.tails + n) (sym e) ∙ sym is),
   )
 
   pub version_number : (range t : ℕ) → range ≡ rec / 256 → t ≡ range * store.layout.limits.tails + n → HasVersion seat.view s t

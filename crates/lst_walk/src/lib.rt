@@ -18,7 +18,8 @@ mod stamps;
 mod whole;
 mod words;
 
-pub use columns::{column, column_by_chain};
+pub use columns::{column, column_by_chain, column_from};
+pub use placed::{TailPlaces, tails_of};
 pub use presence::has_row;
 pub use rows::{put_row, row};
 pub use stamps::stamp;

@@ -1,5 +1,5 @@
 //! The words of versions by the address of the first of them, which is made up once a version.
-ghost use Rattle.std.specs.Prelude.{◌≡◌, ◌⊎◌, ℕ, ◌+◌, ◌*◌, ◌%◌, ◌<◌, ◌≤◌, slice_index, true, IfSome, None, nat_le};
+ghost use Rattle.std.specs.Prelude.{◌≡◌, ◌⊎◌, ℕ, ◌+◌, ◌*◌, ◌/◌, ◌%◌, ◌<◌, ◌≤◌, slice_index, true, IfSome, None, nat_le};
 ghost use Rattle.lst_layout.specs.declared.place.Place.TheVariants.{CellWord};
 ghost use Rattle.lst_layout.specs.Addresses.{address};
 ghost use Rattle.lst_layout.specs.Areas.{cell_words};
@@ -13,6 +13,7 @@ ghost use Rattle.lst_rule.specs.Watching.{Watched};
 ghost use Rattle.lst_rule.specs.TailLoads.{LoadsTail};
 ghost use Rattle.lst_walk.specs.Readers.{IsReader, IsAt, HasVersion, Resolves};
 ghost use Rattle.lst_walk.specs.Stamping.{sees_by, TimedAs};
+ghost use Rattle.lst_walk.specs.Chains.{AreTailsOf};
 ghost use Rattle.lst_bits.specs.Encodings.{kind_code, encoding_of};
 ghost use Rattle.lst_model.specs.Cells.{cell_of, cells_of};
 
@@ -32,6 +33,27 @@ pub(crate) fn first_word(store: &Store, range: u32, number: u32) -> u64
         .cell_address(tail_of(store, range, number), 0)
 }
 
+/// Where the tail records of a range stand.
+#[derive(Clone, Copy)]
+pub struct TailPlaces {
+    /// The address of the first word of the first one.
+    pub start: u64,
+    /// How many words each has.
+    pub words: u64,
+}
+
+/// Where the tail records of a range stand, for walks that make no address up anew (`column_from`).
+#[inline(always)]
+pub fn tails_of(store: &Store, range: u32) -> TailPlaces
+    requires { range < store.now.layout.limits.ranges }
+    ensures { AreTailsOf store.now.layout.limits range result }
+{
+    TailPlaces {
+        start: first_word(store, range, 1),
+        words: store.layout().limits.cell_words(),
+    }
+}
+
 /// What `first_word` answers, by the address of the first word of the range's first tail record, and by how many words each has.
 #[inline(always)]
 pub(crate) fn first_after(store: &Store, range: u32, number: u32, start: u64, words: u64) -> u64
@@ -42,7 +64,7 @@ pub(crate) fn first_after(store: &Store, range: u32, number: u32, start: u64, wo
     ensures { result ≡ address store.now.layout.limits (CellWord (range * store.now.layout.limits.tails + number) 0) }
 {
     let _ = range;
-    later(store.layout().words, start, (number - 1) as u64 * words)
+    later(store.layout().words, start, (number as u64 - 1) * words)
 }
 
 /// The address so many words after another one, in a store of so many words.
@@ -241,6 +263,42 @@ fn time_from(
     let start = load_cell_from(store, seat, s, tail_of(store, range, tail), first, 0);
     seat.consider();
     time_in(start)
+}
+
+/// Whether a version's start word has a commit time of at most the open transaction's begin, which sees the version then. No says nothing of it. The tail
+/// record's first word has the address `first`.
+#[inline(always)]
+pub(crate) fn is_seen_early(
+    store: &Store,
+    seat: &mut Seat,
+    s: u32,
+    range: u32,
+    tail: u32,
+    first: u64,
+    begin: u64,
+) -> bool
+    requires reader { IsReader store.now seat.old s }
+    requires range { range < store.now.layout.limits.ranges }
+    requires tail { (0 < tail) × (tail ≤ store.now.layout.limits.tails) }
+    requires first { first ≡ address store.now.layout.limits (CellWord (range * store.now.layout.limits.tails + tail) 0) }
+    requires begin { begin ≡ (knows seat.old.view s).begin }
+    ensures reader { IsReader store.now seat.new s }
+    ensures watched { Watched seat.old.view seat.new.view s }
+    ensures loads { LoadsTail seat.old.view seat.new.view s (range * store.now.layout.limits.tails + tail) }
+    ensures seen { result ≡ true → (c : Version) → IsAt seat.old.view s (range * store.now.layout.limits.tails + tail) c → sees (knows seat.old.view s) s c.writer ≡ true }
+    ensures resolved { result ≡ true → Resolves seat.old.view seat.new.view s range tail }
+{
+    let start = load_cell_from(store, seat, s, tail_of(store, range, tail), first, 0);
+    seat.consider();
+    is_time_until(start, begin)
+}
+
+/// Whether a start word has a time that is at most this one.
+#[inline(always)]
+fn is_time_until(start: u64, begin: u64) -> bool
+    ensures { result ≡ true → (0 < start / 2) × (start ≡ 2 * (start / 2)) × (start / 2 ≤ begin) }
+{
+    start % 2 == 0 && (start / 2).wrapping_sub(1) < begin
 }
 
 /// The time that a start word has.
