@@ -84,10 +84,7 @@ impl<D: Disk> Driven<D> {
         if self.redo.failed() {
             return Err("no line follows a fault".into());
         }
-        match self.redo.line(alloc, &line) {
-            Ok(kept) => Ok(Ok(kept)),
-            Err(OutOfMemory) => Ok(Err(OutOfMemory)),
-        }
+        Ok(self.redo.line(alloc, &line))
     }
 
     /// Passes lines on, and compares what they are answered.

@@ -12,5 +12,5 @@ pack_encoding-requires c = subst (λ (m : ℕ). AreWithin c.nulls.result m) (sym
     (row_within c.args.columns c.in-Put.row (subst (λ (act : Act). IsActFor c.args.columns act) c.in-Put.is c.requires.act)))
 
 pub pack_encoding-requires-in-Set : goal.pack_encoding-requires-in-Set
-pack_encoding-requires-in-Set c = subst (λ (m : ℕ). AreWithin c.nulls-in-Set.result m) (sym c.patch_mask.ensures)
+pack_encoding-requires-in-Set c = subst (λ (m : ℕ). AreWithin c.nulls-in-Set.result m) (sym c.set_bits.ensures)
     (subst (λ (n : ℕ). AreWithin n (bits_set c.in-Set.patch)) (sym c.nulls-in-Set.ensures.nulls) (patch_within c.in-Set.patch))

@@ -10,12 +10,7 @@ line-requires-clause-fits g c = subst (λ (l : Limits). LineFits l.sessions l.ra
 pub line-requires-clause-journal : goal.line-requires-clause-journal
 line-requires-clause-journal g c = c.requires (sym c.failed.ensures ∙ c.if-failed.false)
 
-pub returns-in-Ok : goal.returns-in-Ok
-returns-in-Ok g c = λ sound.
-    stays_open g.D.Disk.content g.D.Disk.images c.args.self.now.redo c.line.new.self c.in_ok-line.line c.line.result (c.requires (sym c.failed.ensures ∙ c.if-failed.false)) c.line.ensures.journal c.line.ensures.memory_journal
-    c.line.ensures.failed sound
-
-pub returns-in-Err : goal.returns-in-Err
-returns-in-Err g c = λ sound.
+pub returns : goal.returns
+returns g c = λ sound.
     stays_open g.D.Disk.content g.D.Disk.images c.args.self.now.redo c.line.new.self c.in_ok-line.line c.line.result (c.requires (sym c.failed.ensures ∙ c.if-failed.false)) c.line.ensures.journal c.line.ensures.memory_journal
     c.line.ensures.failed sound
