@@ -1,6 +1,5 @@
-use Rattle.std.proofs.Common.{◌≡◌, ap, ◌∙◌}
+use Rattle.std.proofs.Common.{ap, ◌∙◌}
 use Rattle.lst_model.specs.Histories.{by_key}
-use Rattle.lst_model.specs.declared.acts.Write.{Write}
 use Rattle.lst_history.proofs.sorting.sort.Goals as goal
 
 pub returns : goal.returns
@@ -9,6 +8,6 @@ returns c = record {
     session = c.args.commit.now.session;
     number = c.args.commit.now.number;
     begin = c.args.commit.now.begin;
-    writes = (c.in_ok-by_key.ensures ∙ ap by_key c.replace.ensures.value) i;
+    writes = (c.in_ok-commit.ensures ∙ ap by_key c.replace.ensures.value) i;
   };
 }
