@@ -44,12 +44,14 @@ impl OwnWrites {
         self.lists[session as usize].items().len()
     }
 
-    /// Leaves a session without writes. It takes no memory.
+    /// Leaves a session without writes, and keeps the memory of those that it had for its next ones.
     pub fn clear(&mut self, alloc: Global, session: u32)
         requires { session < length self.old }
         ensures { self.new ≡ set self.old session [] }
     {
-        self.lists[session as usize] = Writes::new(alloc);
+        let mut items = self.take(alloc, session).into_items();
+        items.clear();
+        self.put(session, Writes::from_items(items));
     }
 
     /// A session's writes, which leaves it without any. It takes no memory.

@@ -8,4 +8,3 @@ mod Found
 mod Rows
 mod Scans
 mod Sizes
-mod Values
