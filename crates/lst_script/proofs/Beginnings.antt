@@ -1,11 +1,11 @@
 -- Words that a text begins with, one after the other.
-use Rattle.std.proofs.Common.{◌≡◌, ℕ, ◌+◌, ◌-◌, ◌^◌, ◌<◌, ◌≤◌, Bool, true, false, ◌&&◌, leb, List, [], ◌∷◌, ◌++◌, length, take, drop, map, Option, Some, None, option_map, is_some, Bor, Result, Ok, Err, bytes_eq, refl, sym, subst, ap, ◌∙◌, append_assoc, arith}
+use Rattle.std.proofs.Common.{◌≡◌, ℕ, ◌+◌, ◌-◌, ◌*◌, ◌^◌, ◌<◌, ◌≤◌, Bool, true, false, ◌&&◌, leb, List, [], ◌∷◌, ◌++◌, length, take, drop, map, Option, Some, None, option_map, is_some, Bor, Result, Ok, Err, bytes_eq, refl, sym, subst, ap, ◌∙◌, append_assoc, arith}
 use Rattle.std.specs.Prelude.{unwrap_or, IfOk}
 use Rattle.std.specs.List.{list_all, list_any}
 use Rattle.std.specs.Char.{is_ascii_digit}
 use Rattle.std.specs.Str.Parse.{digits_value}
 use Rattle.std.proofs.lemmas.Bool.{and_from, and_parts, le-leb, leb-true, lt-ltb, ne_eqb}
-use Rattle.std.proofs.lemmas.List.{append-nil, length-take-le, take-append-drop, take_rest, length_push, map-append}
+use Rattle.std.proofs.lemmas.List.{append-nil, length-take-le, take-append-drop, take_rest, length_push, map-append, take_all}
 use Rattle.std.proofs.lemmas.Str.Parse.{IsDigitsTest, numerals_by_value, digits_value_short}
 use Rattle.lst_layout.specs.declared.limits.Limits.{Limits}
 use Rattle.lst_model.specs.Cells.{Cell}
@@ -20,7 +20,7 @@ use Rattle.lst_model.specs.declared.lines.Line.{Line}
 use Rattle.lst_script.specs.Grammar.{form_of_call, AreArguments, IsCall, IsLine}
 use Rattle.lst_script.specs.Canonical.{behind_spaces, spaced}
 use Rattle.lst_script.specs.Fronts.{BeginsWithNumber, GoesOnWithNumber, changed, GoesOnWithChange, BeginsWithColumn, GoesOnWith, GoesOnWithOne, BeginsWith, GoesOnWithCells, GoesOnWithChanges, GoesOnWithArguments, AddsCall, AddsLine}
-use Rattle.lst_script.proofs.Digits.{AreDigits, number_of-whole}
+use Rattle.lst_script.proofs.Digits.{AreDigits, AreDigits-more, number_of-whole}
 use Rattle.lst_script.proofs.Faultless.{first_digit}
 
 -- ---- numbers
@@ -54,6 +54,30 @@ begins_with_digits text count value within some few digits =
       is_number = number_of-whole (take count text) value (omega (arith, size, some)) (omega (arith, size, few)) digits;
       parts = sym (take-append-drop count text) ∙ ap (λ (rest : List ℕ). take count text ++ rest) (sym (take_rest text count));
     }
+
+-- one digit alone
+pub one_digit : (digit : ℕ) (rest : List ℕ) → is_ascii_digit digit ≡ true → BeginsWithNumber (digit ∷ rest) (digit - 48) rest
+one_digit digit rest e =
+    let small = digit_small digit e in
+    let none : AreDigits [] 0 = record { digits = refl; value_is = refl; fits = omega arith } in
+    let one : AreDigits (digit ∷ []) (0 * 10 + (digit - 48)) = AreDigits-more (digit ∷ []) 0 0 (omega arith) e none (omega (arith, small)) in
+    record {
+      word = digit ∷ [];
+      is_number = number_of-whole (digit ∷ []) (0 * 10 + (digit - 48)) (omega arith) (omega arith) one ∙ ap (λ (n : ℕ). Some n) (let v : 0 * 10 + (digit - 48) ≡ digit - 48 = omega arith in v);
+      parts = refl;
+    }
+
+pub behind_one_space : (text rest : List ℕ) (number : ℕ) → BeginsWithNumber text number rest → GoesOnWithNumber (32 ∷ text) number rest
+behind_one_space text rest number found = record { word = found.word; is_number = found.is_number; parts = ap (λ (bytes : List ℕ). 32 ∷ bytes) found.parts }
+
+-- ---- words
+
+-- a word that was compared byte by byte
+pub word_here : (text word : List ℕ) (n : ℕ) → n ≡ length word → take n text ≡ take n word → text ≡ word ++ take (length text - n) (drop n text)
+word_here text word n all same =
+    sym (take-append-drop n text)
+    ∙ (ap (λ (front : List ℕ). front ++ drop n text) (same ∙ take_all n word (omega arith))
+    ∙ ap (λ (rest : List ℕ). word ++ rest) (sym (take_rest text n)))
 
 -- ---- arguments
 

@@ -55,15 +55,33 @@ pub fn number_behind_space(text: &[u8]) -> Option<(u64, &[u8])>
     number_in_front(behind_byte(text, b' ')?)
 }
 
-/// What follows a word that a text begins with. Where the word is a constant, the compiler makes a comparison of each of its bytes.
+/// What follows a word that a text begins with, whose length is tested once. Where the word is a constant, the compiler makes a comparison of each of its
+/// bytes.
 #[inline(always)]
 pub fn behind_word<'a>(text: &'a [u8], word: &[u8]) -> Option<&'a [u8]>
     ensures { IfSome result (λ rest. text.now ≡ word.now ++ rest.now) }
 {
-    let mut rest = text;
-    for byte in word {
-        rest = behind_byte(rest, *byte)?;
+    if text.len() < word.len() {
+        return None;
     }
+    for place in 0..word.len() {
+        if text[place] != word[place] {
+            return None;
+        }
+    }
+    Some(&text[word.len()..])
+}
+
+/// What follows a word and this byte, with which a text begins. Where the text is too short for both, nothing is compared.
+#[inline(always)]
+fn behind_ended<'a>(text: &'a [u8], word: &[u8], end: u8) -> Option<&'a [u8]>
+    ensures { IfSome result (λ rest. text.now ≡ word.now ++ end ∷ rest.now) }
+{
+    if text.len() <= word.len() {
+        return None;
+    }
+    let behind = behind_word(text, word)?;
+    let rest = behind_byte(behind, end)?;
     Some(rest)
 }
 
@@ -85,8 +103,8 @@ fn below(number: u64, limit: u32) -> Option<u32>
 fn number_behind_name<'a>(text: &'a [u8], name: &[u8]) -> Option<(u64, &'a [u8])>
     ensures { IfSome result (λ found. (arguments : List ℕ) × (text.now ≡ name.now ++ arguments) × GoesOnWithOne arguments found.0 found.1.now) }
 {
-    let arguments = behind_word(text, name)?;
-    let (number, after) = number_behind_space(arguments)?;
+    let argument = behind_ended(text, name, b' ')?;
+    let (number, after) = number_in_front(argument)?;
     let rest = behind_byte(after, b'\n')?;
     Some((number, rest))
 }
@@ -211,8 +229,7 @@ fn plain_in_front<'a>(text: &'a [u8], name: &[u8], call: Call) -> Option<(Call, 
     requires plain { (columns : Columns) → AreArguments columns call [] }
     ensures { (columns : Columns) → IfSome result (λ found. BeginsWithCall columns text.now found.0 found.1.now) }
 {
-    let after = behind_word(text, name)?;
-    let rest = behind_byte(after, b'\n')?;
+    let rest = behind_ended(text, name, b'\n')?;
     Some((call, rest))
 }
 
@@ -250,9 +267,44 @@ fn sum_in_front<'a>(text: &'a [u8], heads: Heads<'_>) -> Option<(Call, &'a [u8])
     requires proper { AreProper (columns_of heads) }
     ensures { IfSome result (λ found. BeginsWithCall (columns_of heads.entry) text.now found.0 found.1.now) }
 {
-    let arguments = behind_byte(behind_word(text, b"sum")?, b' ')?;
+    let arguments = behind_ended(text, b"sum", b' ')?;
     let (column, rest) = column_in_front(arguments, heads, b'\n')?;
     Some((Call::Sum { column }, rest))
+}
+
+/// A `commit` or a `count`.
+#[inline(always)]
+fn commit_or_count_in_front(text: &[u8]) -> Option<(Call, &[u8])>
+    ensures { (columns : Columns) → IfSome result (λ found. BeginsWithCall columns text.now found.0 found.1.now) }
+{
+    match plain_in_front(text, b"commit", Call::Commit) {
+        Some(found) => Some(found),
+        None => plain_in_front(text, b"count", Call::Count),
+    }
+}
+
+/// A `sum` or a `scan`.
+#[inline(always)]
+fn sum_or_scan_in_front<'a>(text: &'a [u8], heads: Heads<'_>) -> Option<(Call, &'a [u8])>
+    requires narrow { count_of (columns_of heads) ≤ 8 }
+    requires proper { AreProper (columns_of heads) }
+    ensures { IfSome result (λ found. BeginsWithCall (columns_of heads.entry) text.now found.0 found.1.now) }
+{
+    match sum_in_front(text, heads) {
+        Some(found) => Some(found),
+        None => plain_in_front(text, b"scan", Call::Scan),
+    }
+}
+
+/// An `abort` or an `asof`.
+#[inline(always)]
+fn abort_or_as_of_in_front(text: &[u8]) -> Option<(Call, &[u8])>
+    ensures { (columns : Columns) → IfSome result (λ found. BeginsWithCall columns text.now found.0 found.1.now) }
+{
+    match plain_in_front(text, b"abort", Call::Abort) {
+        Some(found) => Some(found),
+        None => as_of_in_front(text),
+    }
 }
 
 /// A `find`.
@@ -262,7 +314,7 @@ fn find_in_front<'a>(text: &'a [u8], heads: Heads<'_>) -> Option<(Call, &'a [u8]
     requires proper { AreProper (columns_of heads) }
     ensures { IfSome result (λ found. BeginsWithCall (columns_of heads.entry) text.now found.0 found.1.now) }
 {
-    let arguments = behind_byte(behind_word(text, b"find")?, b' ')?;
+    let arguments = behind_ended(text, b"find", b' ')?;
     let (column, word) = column_in_front(arguments, heads, b' ')?;
     let (value, after) = number_in_front(word)?;
     let rest = behind_byte(after, b'\n')?;
@@ -281,14 +333,14 @@ fn insert_in_front<'a>(
     requires none { row.old ≡ [] }
     ensures { IfSome result (λ found. BeginsWithCall (columns_of heads.entry) text.now (calls.Insert found.0 (filled row.new)) found.1.now) }
 {
-    let arguments = behind_word(text, b"insert")?;
-    let (key, middle) = number_behind_space(arguments)?;
+    let arguments = behind_ended(text, b"insert", b' ')?;
+    let (key, middle) = number_in_front(arguments)?;
     let rest = row_in_front(middle, heads, row)?;
     Some((key, rest))
 }
 
-/// Adds the `insert` that a text begins with. It is a function of its own, so that lines of other kinds needn't clear what it keeps.
-#[inline(never)]
+/// Adds the `insert` that a text begins with.
+#[inline(always)]
 fn push_insert<'a>(
     text: &'a [u8],
     heads: Heads<'_>,
@@ -319,14 +371,14 @@ fn update_in_front<'a>(
     requires none { patch.old ≡ [] }
     ensures { IfSome result (λ found. BeginsWithCall (columns_of heads.entry) text.now (calls.Update found.0 patch.new) found.1.now) }
 {
-    let arguments = behind_word(text, b"update")?;
-    let (key, middle) = number_behind_space(arguments)?;
+    let arguments = behind_ended(text, b"update", b' ')?;
+    let (key, middle) = number_in_front(arguments)?;
     let rest = patch_in_front(middle, heads, patch)?;
     Some((key, rest))
 }
 
-/// Adds the `update` that a text begins with. It is a function of its own, so that lines of other kinds needn't clear what it keeps.
-#[inline(never)]
+/// Adds the `update` that a text begins with.
+#[inline(always)]
 fn push_update<'a>(
     text: &'a [u8],
     heads: Heads<'_>,
@@ -377,34 +429,50 @@ fn push_call<'a>(
         [b'g', ..] => push_found(get_in_front(text), session, lines),
         [b'u', ..] => push_update(text, heads, session, lines),
         [b'b', ..] => push_found(plain_in_front(text, b"begin", Call::Begin), session, lines),
-        [b'c', b'o', b'm', ..] => {
-            push_found(
-                plain_in_front(text, b"commit", Call::Commit),
-                session,
-                lines,
-            )
-        }
-        [b'c', ..] => push_found(plain_in_front(text, b"count", Call::Count), session, lines),
+        [b'c', ..] => push_found(commit_or_count_in_front(text), session, lines),
         [b'i', ..] => push_insert(text, heads, session, lines),
-        [b's', b'u', ..] => push_found(sum_in_front(text, heads), session, lines),
-        [b's', ..] => push_found(plain_in_front(text, b"scan", Call::Scan), session, lines),
+        [b's', ..] => push_found(sum_or_scan_in_front(text, heads), session, lines),
         [b'f', ..] => push_found(find_in_front(text, heads), session, lines),
-        [b'a', b'b', ..] => push_found(plain_in_front(text, b"abort", Call::Abort), session, lines),
-        [b'a', ..] => push_found(as_of_in_front(text), session, lines),
+        [b'a', ..] => push_found(abort_or_as_of_in_front(text), session, lines),
         [b'd', ..] => push_found(delete_in_front(text), session, lines),
         _ => Ok(None),
     }
 }
 
-/// The session that a text begins with, below this number, and what follows the space behind it.
+/// The session of one digit that a text begins with, below this number, and what follows the space behind it.
 #[inline(always)]
-fn session_in_front(text: &[u8], sessions: u32) -> Option<(u32, &[u8])>
+fn short_session_in_front(text: &[u8], sessions: u32) -> Option<(u32, &[u8])>
+    ensures { IfSome result (λ found. (word : List ℕ) × IsNumber word found.0 × (found.0 < sessions) × (text.now ≡ word ++ 32 ∷ found.1.now)) }
+{
+    let (digit, rest) = text.split_first()?;
+    if !digit.is_ascii_digit() {
+        return None;
+    }
+    let session = below(u64::from(*digit - b'0'), sessions)?;
+    let call = behind_byte(rest, b' ')?;
+    Some((session, call))
+}
+
+/// The same of one with any number of digits.
+#[inline(always)]
+fn long_session_in_front(text: &[u8], sessions: u32) -> Option<(u32, &[u8])>
     ensures { IfSome result (λ found. (word : List ℕ) × IsNumber word found.0 × (found.0 < sessions) × (text.now ≡ word ++ 32 ∷ found.1.now)) }
 {
     let (number, rest) = number_in_front(text)?;
     let session = below(number, sessions)?;
     let call = behind_byte(rest, b' ')?;
     Some((session, call))
+}
+
+/// The session that a text begins with, below this number, and what follows the space behind it. Most have one digit, which needs no loop.
+#[inline(always)]
+fn session_in_front(text: &[u8], sessions: u32) -> Option<(u32, &[u8])>
+    ensures { IfSome result (λ found. (word : List ℕ) × IsNumber word found.0 × (found.0 < sessions) × (text.now ≡ word ++ 32 ∷ found.1.now)) }
+{
+    if let Some(found) = short_session_in_front(text, sessions) {
+        return Some(found);
+    }
+    long_session_in_front(text, sessions)
 }
 
 /// Adds the line that a text begins with, and answers what follows it; or None, and adds nothing, where this line is in another form
