@@ -1,5 +1,5 @@
 -- Scans of a range by the page of a column.
-use Rattle.std.proofs.Common.{◌≡◌, ℕ, zero, suc, ◌+◌, ◌*◌, ◌/◌, ◌%◌, ◌<◌, ◌≤◌, List, [], ◌∷◌, ◌++◌, Bool, true, false, cond, nat_le, ◌&&◌, le-leb, leb-true, length, sum, take, count_by, slice_index, slice_index_or, get_or, Fits, w64, refl, sym, subst, ap, ◌∙◌, arith, true≢false}
+use Rattle.std.proofs.Common.{◌≡◌, ℕ, zero, suc, ◌+◌, ◌-◌, ◌*◌, ◌/◌, ◌%◌, ◌<◌, ◌≤◌, List, [], ◌∷◌, ◌++◌, Bool, true, false, cond, ◌&&◌, le-leb, length, sum, take, count_by, slice_index, slice_index_or, get_or, Fits, w64, refl, sym, subst, ap, ◌∙◌, arith, true≢false}
 use Rattle.std.specs.Prelude.{Option, Some, None, unwrap_or, slice_set}
 use Rattle.std.proofs.lemmas.List.{take_more, take_all, get_or-set_same, get_or-set_other, length-set}
 use Rattle.std.proofs.lemmas.List.Sums.{sum_by-cons, sum_by-append}
@@ -13,6 +13,7 @@ use Rattle.lst_layout.specs.Areas.{frame_count}
 use Rattle.lst_layout.specs.Words.{shown}
 use Rattle.lst_layout.proofs.Functions.{get-listed, length-listed}
 use Rattle.std.proofs.lemmas.Grind.{same_number_lists}
+use Rattle.lst_bits.specs.Heads.{IsHeadWord}
 use Rattle.lst_bits.specs.Times.{time_of, is_present}
 use Rattle.lst_kernel.specs.Entries.{is_seen, seen_values, lane_of}
 use Rattle.lst_kernel.proofs.Sums.{seen_up_to, one_more, at_end, all_low}
@@ -47,15 +48,17 @@ use Rattle.lst_walk.specs.Packed.{Skims, skims_on, packed_of, packed_words}
 use Rattle.lst_walk.specs.Pages.{IsPageOf}
 use Rattle.lst_walk.specs.Patches.{cell_in}
 use Rattle.lst_walk.specs.Walks.{IsCellOf, CellWalk, Serves}
+use Rattle.lst_walk.specs.Chains.{CellAhead, CellBy}
+use Rattle.lst_walk.proofs.Ahead.{ahead_stays, ahead_low}
 use Rattle.lst_walk.proofs.Reading.{reader_on, looked_watched, looked_possible}
 use Rattle.lst_walk.proofs.Loading.{frame_skims}
 use Rattle.lst_walk.proofs.Meanings.{head_found}
-use Rattle.lst_walk.proofs.Walking.{cell_start}
+use Rattle.lst_walk.proofs.Walking.{cell_start, cell_stays}
 use Rattle.lst_walk.proofs.Paging.{page_shows, page_absent}
 use Rattle.lst_scan.specs.Scans.{table_seen, IsRowOn, IsCellOn, Places, between}
 use Rattle.lst_scan.specs.Paged.{stamps_of, IsInHand, HasPage, HasValues, entries_add}
 use Rattle.lst_scan.proofs.Loops.{Scans, scans_start, scans_next}
-use Rattle.lst_scan.proofs.Parts.{both_hold, total, total_none, total_split}
+use Rattle.lst_scan.proofs.Parts.{total, total_none, total_split}
 use Rattle.lst_scan.proofs.Seeing.{cell_on, same_table, places_stay, weight_of, total_on, number_weight, one_weight, no_weight}
 
 -- ---- many loads
@@ -164,6 +167,16 @@ module _ (store : Store) (h : Sitting) (s range column tps : ℕ) (stamps : List
   here_at zero few = subst (λ (u : View). IsHere u) (sym run.first) (p, watched_same v s, refl)
   here_at (suc i) few = let next : i + 1 ≡ suc i = omega arith in subst (λ (j : ℕ). IsHere (run.between j)) next (next_here i (omega arith) (here_at i (omega arith)))
 
+  -- from one of them to the last one the session has only looked
+  rest_watched : (n i : ℕ) → n + i ≡ RANGE_RECORDS → Watched (run.between i) w s
+  rest_watched zero i end = let here : i ≡ RANGE_RECORDS = omega arith in subst (λ (u : View). Watched (run.between i) u s) (ap run.between here ∙ run.last) (watched_same (run.between i) s)
+  rest_watched (suc n) i end = let here : IsHere (run.between i) = here_at i (omega arith) in watches_join (run.between i) (run.between (i + 1)) w s
+      (looked_watched (run.between i) (run.between (i + 1)) s (heads i) (HeadWord (record_at i)) (hosted_by v (run.between i) s here.1 reader.host) (inside i (omega arith) (run.between i) here) tt (run.each i (omega arith)))
+      (rest_watched n (i + 1) (omega arith))
+
+  end_watched : (i : ℕ) → i ≤ RANGE_RECORDS → Watched (run.between i) w s
+  end_watched i few = rest_watched (RANGE_RECORDS - i) i (omega arith)
+
   -- a seat of the store with such a view
   abbrev seat_at : View → Sitting
   seat_at u = record { table = store.table.shared.table_id; view = u; note_time = 0 }
@@ -178,7 +191,7 @@ module _ (store : Store) (h : Sitting) (s range column tps : ℕ) (stamps : List
 
   -- ---- a record whose indirection word was loaded
 
-  module _ (i : ℕ) (few : i < RANGE_RECORDS) (folded : heads i / 2 ≤ tps) (early : time_of (slice_index stamps i) ≤ (knows h.view s).begin) where
+  module _ (i : ℕ) (few : i < RANGE_RECORDS) where
     abbrev a : View
     a = run.between i
 
@@ -203,65 +216,101 @@ module _ (store : Store) (h : Sitting) (s range column tps : ℕ) (stamps : List
     abbrev walk : CellWalk store h.view (seat_at (run.between (i + 1))) s (RANGE_RECORDS * range + i) column (heads i / 2)
     walk = cell_start store v (seat_at b) s rec (heads i / 2) p reader.host reader.opened reader_b here_b.1 here_b.0 chain column
 
-    -- ---- the page, when it was
-
-    abbrev words : ℕ → ℕ
-    words = slice_index page.keeps.page.words
-
-    hand_b : hand_of (knows (run.between (i + 1)) s).pages.session page.frame ≡ Some page.keeps.page
-    hand_b = ap (λ (q : PageKnown). hand_of q.session page.frame) here_b.2 ∙ page.keeps.in_hand
-
-    readable : IsReadable (pages_in (state_over (run.between (i + 1)).limits here_b.0.words here_b.0.known here_b.0.merger)) page.frame page.keeps.page
-    readable = hand_is_readable b here_b.0.words here_b.0.known here_b.0.merger here_b.0.allowed s reader_b.host reader_b.own page.frame page.keeps.page hand_b
-
-    here_range : page.keeps.page.range ≡ range_of (RANGE_RECORDS * range + i)
-    here_range = page.keeps.names.0 ∙ (omega arith)
-
-    abbrev is_page : IsPageOf (run.between (i + 1)) (RANGE_RECORDS * range + i) column (slice_index page.keeps.page.words)
-    is_page = record {
-      now = here_b.0;
-      right = subst (λ (r : ℕ). IsRightPage column (settled_tails b.limits (shown b.limits here_b.0.words) r) words) here_range (subst (λ (c : ℕ). IsRightPage c (settled_tails b.limits (shown b.limits here_b.0.words) page.keeps.page.range) words) page.keeps.names.1 readable.right);
+    -- a walk from the number that it was found to have may begin later
+    head_ahead : (e : Sitting) → e.view ≡ w → IsReader store e s → CellAhead store h.view e s (RANGE_RECORDS * range + i) column (heads i / 2)
+    head_ahead e at here = record {
+      host = reader.host;
+      opened = reader.opened;
+      walk = cell_stays store v (seat_at b) e s rec column (heads i / 2) walk (subst (λ (u : View). Watched b u s) (sym at) (end_watched (i + 1) (omega arith))) here;
     }
 
-    slot_is : (RANGE_RECORDS * range + i) % 256 ≡ i
-    slot_is = omega arith
+    -- ---- where the page tells of it
 
-    stamp_is : slice_index stamps i ≡ stamp_in (slice_index page.keeps.page.words) ((RANGE_RECORDS * range + i) % 256)
-    stamp_is = ap (λ (xs : List ℕ). slice_index xs i) page.are ∙ (get-listed words FRAME_TIMES RANGE_RECORDS i 0 few ∙ ap (λ (n : ℕ). stamp_in words n) (sym slot_is))
+    module _ (folded : heads i / 2 ≤ tps) (early : time_of (slice_index stamps i) ≤ (knows h.view s).begin) where
+      abbrev words : ℕ → ℕ
+      words = slice_index page.keeps.page.words
 
-    abbrev serves : Serves h.view (run.between (i + 1)) s (RANGE_RECORDS * range + i) column (walk.passed ++ walk.versions) record { frame = page.frame; until = tps; is_present = is_present (slice_index stamps i) }
-    serves = record {
-      between = b;
-      before = here_b.1;
-      after = watched_same b s;
-      words = words;
-      page = is_page;
-      head = walk.passes.head;
-      copied = walk.passes.copy;
-      is = record { until = page.keeps.tps; timely = subst (λ (n : ℕ). time_of n ≤ (knows v s).begin) stamp_is early; present = ap (λ (n : ℕ). is_present n) stamp_is };
-      low = readable.frame;
-      in_hand = record { page = page.keeps.page; in_hand = hand_b; same = λ n few. refl };
-    }
+      hand_b : hand_of (knows (run.between (i + 1)) s).pages.session page.frame ≡ Some page.keeps.page
+      hand_b = ap (λ (q : PageKnown). hand_of q.session page.frame) here_b.2 ∙ page.keeps.in_hand
 
-    -- ---- what it tells
+      readable : IsReadable (pages_in (state_over (run.between (i + 1)).limits here_b.0.words here_b.0.known here_b.0.merger)) page.frame page.keeps.page
+      readable = hand_is_readable b here_b.0.words here_b.0.known here_b.0.merger here_b.0.allowed s reader_b.host reader_b.own page.frame page.keeps.page hand_b
 
-    abbrev values : List ℕ
-    values = is_page.right.entries.values
+      here_range : page.keeps.page.range ≡ range_of (RANGE_RECORDS * range + i)
+      here_range = page.keeps.names.0 ∙ (omega arith)
 
-    pub told_values : List ℕ
-    told_values = is_page.right.entries.values
+      abbrev is_page : IsPageOf (run.between (i + 1)) (RANGE_RECORDS * range + i) column (slice_index page.keeps.page.words)
+      is_page = record {
+        now = here_b.0;
+        right = subst (λ (r : ℕ). IsRightPage column (settled_tails b.limits (shown b.limits here_b.0.words) r) words) here_range (subst (λ (c : ℕ). IsRightPage c (settled_tails b.limits (shown b.limits here_b.0.words) page.keeps.page.range) words) page.keeps.names.1 readable.right);
+      }
 
-    pub told_packed : Packs (packed_in (slice_index page.keeps.page.words)) told_values
-    unfolding told_values
-    told_packed = is_page.right.entries.packed
+      slot_is : (RANGE_RECORDS * range + i) % 256 ≡ i
+      slot_is = omega arith
 
-    pub told_cell : IsCellOn (knows h.view s) (RANGE_RECORDS * range + i) column (cond (is_present (slice_index stamps i)) (Some (slice_index told_values i)) None)
-    unfolding told_values
-    told_cell = cell_on v s rec column (cond (is_present (slice_index stamps i)) (Some (slice_index values i)) None) (choose (is_present (slice_index stamps i)) refl)
-      where
-        choose : (there : Bool) → is_present (slice_index stamps i) ≡ there → IsCellOf v s rec column (cond there (Some (slice_index values i)) None)
-        choose true there = subst (λ (n : ℕ). IsCellOf v s rec column (Some (slice_index values n))) slot_is (page_shows store v (seat_at b) s rec column (heads i / 2) record { frame = page.frame; until = tps; is_present = is_present (slice_index stamps i) } reader.host reader.opened short walk serves folded there)
-        choose false there = page_absent store v (seat_at b) s rec column (heads i / 2) record { frame = page.frame; until = tps; is_present = is_present (slice_index stamps i) } reader.host reader.opened short walk serves folded there
+      stamp_is : slice_index stamps i ≡ stamp_in (slice_index page.keeps.page.words) ((RANGE_RECORDS * range + i) % 256)
+      stamp_is = ap (λ (xs : List ℕ). slice_index xs i) page.are ∙ (get-listed words FRAME_TIMES RANGE_RECORDS i 0 few ∙ ap (λ (n : ℕ). stamp_in words n) (sym slot_is))
+
+      abbrev serves : Serves h.view (run.between (i + 1)) s (RANGE_RECORDS * range + i) column (walk.passed ++ walk.versions) record { frame = page.frame; until = tps; is_present = is_present (slice_index stamps i) }
+      serves = record {
+        between = b;
+        before = here_b.1;
+        after = watched_same b s;
+        words = words;
+        page = is_page;
+        head = walk.passes.head;
+        copied = walk.passes.copy;
+        is = record { until = page.keeps.tps; timely = subst (λ (n : ℕ). time_of n ≤ (knows v s).begin) stamp_is early; present = ap (λ (n : ℕ). is_present n) stamp_is };
+        low = readable.frame;
+        in_hand = record { page = page.keeps.page; in_hand = hand_b; same = λ n few. refl };
+      }
+
+      -- ---- what it tells
+
+      abbrev values : List ℕ
+      values = is_page.right.entries.values
+
+      pub told_values : List ℕ
+      told_values = is_page.right.entries.values
+
+      pub told_packed : Packs (packed_in (slice_index page.keeps.page.words)) told_values
+      unfolding told_values
+      told_packed = is_page.right.entries.packed
+
+      pub told_cell : IsCellOn (knows h.view s) (RANGE_RECORDS * range + i) column (cond (is_present (slice_index stamps i)) (Some (slice_index told_values i)) None)
+      unfolding told_values
+      told_cell = cell_on v s rec column (cond (is_present (slice_index stamps i)) (Some (slice_index values i)) None) (choose (is_present (slice_index stamps i)) refl)
+        where
+          choose : (there : Bool) → is_present (slice_index stamps i) ≡ there → IsCellOf v s rec column (cond there (Some (slice_index values i)) None)
+          choose true there = subst (λ (n : ℕ). IsCellOf v s rec column (Some (slice_index values n))) slot_is (page_shows store v (seat_at b) s rec column (heads i / 2) record { frame = page.frame; until = tps; is_present = is_present (slice_index stamps i) } reader.host reader.opened short walk serves folded there)
+          choose false there = page_absent store v (seat_at b) s rec column (heads i / 2) record { frame = page.frame; until = tps; is_present = is_present (slice_index stamps i) } reader.host reader.opened short walk serves folded there
+
+-- ---- walks from the numbers that indirection words were found to have
+
+-- those of the range's records may begin
+abbrev pub AreAhead : (store : Store) (v : View) (seat : Sitting) (s range column : ℕ) → (ℕ → ℕ) → Type 0
+AreAhead store v seat s range column heads = (i : ℕ) → i < RANGE_RECORDS → CellAhead store v seat s (RANGE_RECORDS * range + i) column (heads i / 2)
+
+pub ahead_start : (store : Store) (h e : Sitting) (s range column tps : ℕ) (stamps : List ℕ) → Possible h.view → IsReader store h s → range < store.layout.limits.ranges → column < store.layout.limits.columns → HasPage h.view s range column tps stamps
+    → (heads : ℕ → ℕ) (w : View) → LoadsRun (Heads range) heads h.view s RANGE_RECORDS w → e.view ≡ w → IsReader store e s → AreAhead store h.view e s range column heads
+ahead_start store h e s range column tps stamps p reader low short page heads w run at here i few = head_ahead store h s range column tps stamps p reader low short page heads w run i few e at here
+
+-- after further looks they still may
+pub ahead_on : (store : Store) (v : View) (a b : Sitting) (s range column : ℕ) (heads : ℕ → ℕ) → AreAhead store v a s range column heads → Watched a.view b.view s → IsReader store b s → AreAhead store v b s range column heads
+ahead_on store v a b s range column heads ahead more reader i few = ahead_stays store v a b s (RANGE_RECORDS * range + i) column (heads i / 2) more reader (ahead i few)
+
+-- the words are packed as they should be
+pub ahead_packed : (store : Store) (v : View) (seat : Sitting) (s range column : ℕ) (heads : ℕ → ℕ) → AreAhead store v seat s range column heads → (i : ℕ) → i < RANGE_RECORDS → IsHeadWord (heads i)
+ahead_packed store v seat s range column heads ahead i few = let low = ahead_low store v seat s (RANGE_RECORDS * range + i) column (heads i / 2) (ahead i few) in let valid = store.layout.valid.tails.1 in omega arith
+
+-- a number that a word was unpacked to is where such a walk may begin
+pub ahead_at : (store : Store) (v : View) (seat : Sitting) (s range column : ℕ) (heads : ℕ → ℕ) → AreAhead store v seat s range column heads → (i n : ℕ) → i < RANGE_RECORDS → n ≡ heads i / 2 → CellAhead store v seat s (RANGE_RECORDS * range + i) column n
+ahead_at store v seat s range column heads ahead i n few is = subst (λ (m : ℕ). CellAhead store v seat s (RANGE_RECORDS * range + i) column m) (sym is) (ahead i few)
+
+-- and what it found is the cell of a row
+pub ahead_cell : (store : Store) (v w : View) (a : Sitting) (s range column : ℕ) (heads : ℕ → ℕ) → AreAhead store v a s range column heads → (i n : ℕ) → i < RANGE_RECORDS → n ≡ heads i / 2 → (found : Option ℕ)
+    → ((u : View) → CellAhead store u a s (RANGE_RECORDS * range + i) column n → CellBy u w s (RANGE_RECORDS * range + i) column found) → IsCellOn (knows v s) (RANGE_RECORDS * range + i) column found
+ahead_cell store v w a s range column heads ahead i n few is found told = cell_on v s (RANGE_RECORDS * range + i) column found (told v (ahead_at store v a s range column heads ahead i n few is)).cell
 
 -- ---- what entries add
 
@@ -416,7 +465,3 @@ covers_put v s weight low n number more begin value times puts x found short p h
 -- a place of a list that is as long once a word was put there
 pub put_short : (times puts : List ℕ) (n x : ℕ) → n < 256 → length puts ≡ 256 → puts ≡ slice_set times n x → n < length times
 put_short times puts n x few long put = let same : length puts ≡ length times = ap length put ∙ length-set times n x in omega arith
-
--- where `is_told` says so
-pub told_both : (head stamp tps begin : ℕ) (b : Bool) → b ≡ (nat_le (head / 2) tps && nat_le (time_of stamp) begin) → b ≡ true → (head / 2 ≤ tps) × (time_of stamp ≤ begin)
-told_both head stamp tps begin b is e = let both = both_hold (nat_le (head / 2) tps) (nat_le (time_of stamp) begin) (sym is ∙ e) in (leb-true (head / 2) tps both.0, leb-true (time_of stamp) begin both.1)

@@ -1,5 +1,5 @@
 -- Of a record that the page in hand doesn't tell, a read needs a tail record.
-use Rattle.std.proofs.Common.{◌≡◌, ℕ, zero, suc, ◌+◌, ◌*◌, ◌/◌, ◌%◌, ◌<◌, ◌≤◌, List, Bool, true, false, nat_le, ◌&&◌, le-leb, slice_index, refl, sym, subst, ap, ◌∙◌, arith, true≢false}
+use Rattle.std.proofs.Common.{◌≡◌, ℕ, zero, suc, ◌+◌, ◌*◌, ◌/◌, ◌%◌, ◌<◌, ◌≤◌, List, true, slice_index, refl, sym, subst, ap, ◌∙◌, arith}
 use Rattle.lst_layout.specs.declared.TheConstants.{RANGE_RECORDS}
 use Rattle.lst_layout.specs.declared.place.Place.TheVariants.{FrameWord}
 use Rattle.lst_layout.specs.Frames.{lineage_place, time_place}
@@ -101,7 +101,3 @@ saves_untold v w d s range column tps slot stamps heads few tells loads untold w
       subst (λ (n : ℕ). heads slot / 2 ≤ n) (sym both.0) (subst (λ (n : ℕ). n / 2 ≤ tps_at (words_of v).directory (words_of v).frames range column) head_is folded),
       subst (λ (n : ℕ). time_of n ≤ (knows v s).begin) (sym (both.1 slot few)) early,
     ))
-
--- where `is_told` says that it isn't
-pub not_told : (head stamp tps begin : ℕ) (b : Bool) → b ≡ (nat_le (head / 2) tps && nat_le (time_of stamp) begin) → b ≡ false → (head / 2 ≤ tps) × (time_of stamp ≤ begin) → ⊥
-not_told head stamp tps begin b is e both = true≢false (sym (λ i. le-leb (head / 2) tps both.0 i && le-leb (time_of stamp) begin both.1 i) ∙ (sym is ∙ e))

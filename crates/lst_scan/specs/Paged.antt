@@ -1,5 +1,5 @@
 -- A page, of whose words those are loaded that its form takes.
-use Rattle.std.specs.Prelude.{◌≡◌, ℕ, zero, suc, ◌+◌, ◌<◌, List, slice_index}
+use Rattle.std.specs.Prelude.{◌≡◌, ◌↔◌, ℕ, zero, suc, ◌+◌, ◌/◌, ◌^◌, ◌<◌, ◌≤◌, List, slice_index}
 use Rattle.lst_layout.specs.declared.TheConstants.{RANGE_RECORDS, FRAME_TIMES}
 use Rattle.lst_kernel.specs.Entries.{lane_of}
 use Rattle.lst_pack.specs.Forms.{Packs}
@@ -35,3 +35,7 @@ entries_add begin value times (suc n) = entries_add begin value times n + lane_o
 -- each entry adds its value, for a reader that began at this time
 abbrev pub AddsAll : ℕ → List ℕ → List ℕ → Type 0
 AddsAll begin values times = (i : ℕ) → i < RANGE_RECORDS → lane_of begin (slice_index values i) (slice_index times i) ≡ slice_index values i
+
+-- the greatest word of which half is at most this number
+abbrev pub IsLastWord : ℕ → ℕ → Type 0
+IsLastWord half last = (word : ℕ) → word < 2 ^ 64 → (word ≤ last) ↔ (word / 2 ≤ half)

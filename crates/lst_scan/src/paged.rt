@@ -1,7 +1,7 @@
 //! Sums and counts over the records of a range by the page of a column: of its words those are loaded that its form takes, and its time words by
 //! one call, and the indirection words of the range by another. The page tells of each record whose newest version is at most its TPS, where the
 //! entry's time is at most the begin. The other records are walked along their chains, without another look at the page.
-ghost use Rattle.std.specs.Prelude.{◌≡◌, ℕ, ◌+◌, ◌*◌, ◌/◌, ◌%◌, ◌^◌, ◌<◌, ◌≤◌, ◌↔◌, List, IfSome, None, length, slice_index, nat_le, ◌&&◌, true};
+ghost use Rattle.std.specs.Prelude.{◌≡◌, ℕ, ◌+◌, ◌*◌, ◌/◌, ◌%◌, ◌^◌, ◌<◌, ◌≤◌, ◌↔◌, List, IfSome, None, length, slice_index, true};
 ghost use Rattle.lst_model.specs.Tables.{sum_of, count_of};
 ghost use Rattle.lst_bits.specs.Times.{time_of};
 ghost use Rattle.lst_layout.specs.Areas.{frame_count};
@@ -13,14 +13,16 @@ ghost use Rattle.lst_walk.specs.Readers.{IsReader};
 ghost use Rattle.lst_walk.specs.Packed.{Skims, packed_words};
 ghost use Rattle.lst_scan.specs.Savings.{SavesPart, TellsFrame, TellsNone, TellsStamps};
 ghost use Rattle.lst_scan.specs.Scans.{table_seen, Places, between};
-ghost use Rattle.lst_scan.specs.Paged.{IsInHand, HasPage, HasValues, AddsAll, entries_add};
+ghost use Rattle.lst_scan.specs.Paged.{IsInHand, HasPage, HasValues, AddsAll, IsLastWord, entries_add};
 ghost use Rattle.lst_kernel.specs.Entries.{is_seen};
 
-use crate::records::cell_by_chain;
+use crate::records::tails_apart;
+use lst_bits::unpack_head;
 use lst_kernel::{count_where, sum_all, sum_where};
 use lst_layout::FRAME_VALUES;
 use lst_pack::unpack;
 use lst_rule::{RecordId, Seat, Store, load_frame, load_heads, load_times, step_look_page};
+use lst_walk::column_from;
 
 /// The greatest number that half a word can be.
 const LAST: u64 = u64::MAX / 2;
@@ -128,11 +130,19 @@ fn open_page(
     tps
 }
 
-/// Whether a page with this TPS tells of a record, by its indirection word and the time word of its entry.
-fn is_told(head: u64, stamp: u64, tps: u64, begin: u64) -> bool
-    ensures { result ≡ (nat_le (head / 2) tps && nat_le (time_of stamp) begin) }
+/// The greatest word of which half is at most this number: whether a word's half is, a comparison with it tells alone.
+fn last_word(half: u64) -> u64
+    ensures { IsLastWord half result }
 {
-    head / 2 <= tps && stamp / 2 <= begin
+    half.min(LAST) * 2 + 1
+}
+
+/// Whether a page tells of a record, by its indirection word and the time word of its entry, with the last words that `last_word` gives for the page's TPS
+/// and for the begin.
+fn is_told(head: u64, stamp: u64, last_head: u64, last_stamp: u64) -> bool
+    ensures { (tps : ℕ) (begin : ℕ) → IsLastWord tps last_head → IsLastWord begin last_stamp → (result ≡ true) ↔ ((head / 2 ≤ tps) × (time_of stamp ≤ begin)) }
+{
+    head <= last_head && stamp <= last_stamp
 }
 
 /// What is known of a range once the indirection words of its records and the time words of a page were looked at.
@@ -144,24 +154,38 @@ struct Survey {
     all_present: bool,
 }
 
-/// Looks at the indirection words of a range and the time words of a page with this TPS. Half of each word gets the room that its greatest number has below
-/// 2^63 added: one that is above comes to 2^63 or more. So all are looked at once, without a branch.
-fn surveyed(heads: &[u64; 256], times: &[u64; 256], tps: u64, begin: u64) -> Survey
-    ensures told { (result.all_told ≡ true) ↔ ((i : ℕ) → i < 256 → (slice_index heads.now i / 2 ≤ tps) × (time_of (slice_index times.now i) ≤ begin)) }
+/// Looks at the indirection words of a range and the time words of a page, with the last words that `last_word` gives for the page's TPS and for the begin.
+fn surveyed(heads: &[u64; 256], times: &[u64; 256], last_head: u64, last_stamp: u64) -> Survey
+    ensures told { (tps : ℕ) (begin : ℕ) → IsLastWord tps last_head → IsLastWord begin last_stamp → (result.all_told ≡ true) ↔ ((i : ℕ) → i < 256 → (slice_index heads.now i / 2 ≤ tps) × (time_of (slice_index times.now i) ≤ begin)) }
     ensures present { (result.all_present ≡ true) ↔ ((i : ℕ) → i < 256 → slice_index times.now i % 2 ≡ 1) }
 {
-    let head_room = LAST - tps.min(LAST);
-    let time_room = LAST - begin.min(LAST);
-    let mut late = 0;
+    Survey {
+        all_told: are_told(heads, times, last_head, last_stamp),
+        all_present: are_present(times),
+    }
+}
+
+/// Whether a page tells of all records, by the same words. No word is looked at behind the first record that it doesn't tell.
+fn are_told(heads: &[u64; 256], times: &[u64; 256], last_head: u64, last_stamp: u64) -> bool
+    ensures { (tps : ℕ) (begin : ℕ) → IsLastWord tps last_head → IsLastWord begin last_stamp → (result ≡ true) ↔ ((i : ℕ) → i < 256 → (slice_index heads.now i / 2 ≤ tps) × (time_of (slice_index times.now i) ≤ begin)) }
+{
+    for slot in 0..256 {
+        if !is_told(heads[slot], times[slot], last_head, last_stamp) {
+            return false;
+        }
+    }
+    true
+}
+
+/// Whether all entries of a page are present, by their time words.
+fn are_present(times: &[u64; 256]) -> bool
+    ensures { (result ≡ true) ↔ ((i : ℕ) → i < 256 → slice_index times.now i % 2 ≡ 1) }
+{
     let mut present = 1;
     for slot in 0..256 {
-        late |= (heads[slot] / 2 + head_room) | (times[slot] / 2 + time_room);
         present &= times[slot];
     }
-    Survey {
-        all_told: late <= LAST,
-        all_present: present % 2 == 1,
-    }
+    present % 2 == 1
 }
 
 /// What a walk of the records that a page doesn't tell came to.
@@ -254,21 +278,31 @@ fn sum_untold(
     seat.consider();
     load_heads(store, seat, s, range, heads);
     let begin = seat.begin(s);
-    let known = surveyed(heads, times, tps, begin);
+    let last_head = last_word(tps);
+    let last_stamp = last_word(begin);
+    let known = surveyed(heads, times, last_head, last_stamp);
     if known.all_told {
         return Walked {
             total: 0,
             sees_others: known.all_present,
         };
     }
+    let tails = tails_apart(store, range);
     let mut total: u128 = 0;
     for slot in 0..256 {
-        seat.consider();
-        if !is_told(heads[slot as usize], times[slot as usize], tps, begin) {
+        if !is_told(
+            heads[slot as usize],
+            times[slot as usize],
+            last_head,
+            last_stamp,
+        ) {
             times[slot as usize] = 0;
             values[slot as usize] = 0;
-            let number = 256 * range + slot;
-            let found = cell_by_chain(store, seat, s, RecordId { number }, c);
+            let rec = RecordId {
+                number: 256 * range + slot,
+            };
+            let newest = unpack_head(heads[slot as usize]).0;
+            let found = column_from(store, seat, s, rec, newest, tails, begin, c);
             total += u128::from(found.unwrap_or(0));
         }
     }
@@ -346,20 +380,30 @@ fn count_untold(
     seat.consider();
     load_heads(store, seat, s, range, heads);
     let begin = seat.begin(s);
-    let known = surveyed(heads, times, tps, begin);
+    let last_head = last_word(tps);
+    let last_stamp = last_word(begin);
+    let known = surveyed(heads, times, last_head, last_stamp);
     if known.all_told {
         return Walked {
             total: 0,
             sees_others: known.all_present,
         };
     }
+    let tails = tails_apart(store, range);
     let mut total: u64 = 0;
     for slot in 0..256 {
-        seat.consider();
-        if !is_told(heads[slot as usize], times[slot as usize], tps, begin) {
+        if !is_told(
+            heads[slot as usize],
+            times[slot as usize],
+            last_head,
+            last_stamp,
+        ) {
             times[slot as usize] = 0;
-            let number = 256 * range + slot;
-            if cell_by_chain(store, seat, s, RecordId { number }, 0).is_some() {
+            let rec = RecordId {
+                number: 256 * range + slot,
+            };
+            let newest = unpack_head(heads[slot as usize]).0;
+            if column_from(store, seat, s, rec, newest, tails, begin, 0).is_some() {
                 total += 1;
             }
         }

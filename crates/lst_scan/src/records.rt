@@ -6,6 +6,7 @@ ghost use Rattle.lst_rule.specs.Rule.{knows};
 ghost use Rattle.lst_rule.specs.Seen.{HasKey};
 ghost use Rattle.lst_rule.specs.Watching.{Watched};
 ghost use Rattle.lst_walk.specs.Readers.{IsReader};
+ghost use Rattle.lst_walk.specs.Chains.{AreTailsOf};
 ghost use Rattle.lst_walk.specs.Whole.{row_where};
 ghost use Rattle.lst_scan.specs.Savings.{SavesPart, TellsNone};
 ghost use Rattle.lst_scan.specs.Scans.{IsCellOn, IsRowOn, IsEntryOn, entry_where, IsEntryWith};
@@ -13,28 +14,41 @@ ghost use Rattle.lst_scan.specs.Scans.{IsCellOn, IsRowOn, IsEntryOn, entry_where
 use arrayvec::ArrayVec;
 use lst_model::{Key, Row};
 use lst_rule::{RecordId, Seat, Store, load_key};
-use lst_walk::{column_by_chain, put_row, tails_of};
+use lst_walk::{TailPlaces, column_by_chain, put_row, tails_of};
 
 /// The number in a column, 0 for null, of the row on a record, along the record's chain alone. None comes exactly where the transaction sees no row
-/// of a key that is on it. This serves a record that the column's page doesn't tell.
+/// of a key that is on it. This serves a record that the column's page doesn't tell. The range's tail records stand where `tails` says, and the
+/// transaction began at `begin`.
+#[inline(always)]
 pub(crate) fn cell_by_chain(
     store: &Store,
     seat: &mut Seat,
     s: u32,
     rec: RecordId,
+    tails: TailPlaces,
+    begin: u64,
     c: u32,
 ) -> Option<u64>
     requires reader { IsReader store.now seat.old s }
     requires rec { rec.number < record_count store.now.layout.limits }
+    requires tails { AreTailsOf store.now.layout.limits (rec.number / 256) tails }
+    requires begin { begin ≡ (knows seat.old.view s).begin }
     requires column { c < store.now.layout.limits.columns }
     ensures reader { IsReader store.now seat.new s }
     ensures watched { Watched seat.old.view seat.new.view s }
     ensures cell { IsCellOn (knows seat.old.view s) rec.number c result }
     ensures saves { TellsNone seat.old.view s (rec.number / 256) c → SavesPart seat.old.view seat.new.view s c rec.number (rec.number + 1) }
 {
-    let tails = tails_of(store, rec.number / 256);
-    let begin = seat.begin(s);
     column_by_chain(store, seat, s, rec, tails, begin, c)
+}
+
+/// Where the tail records of a range stand. Apart, so that a loop over its records takes the two numbers as they are, and makes up no part of them anew.
+#[inline(never)]
+pub(crate) fn tails_apart(store: &Store, range: u32) -> TailPlaces
+    requires { range < store.now.layout.limits.ranges }
+    ensures { AreTailsOf store.now.layout.limits range result }
+{
+    tails_of(store, range)
 }
 
 /// The row on a record, put into a row that has no cells. Whether there is a row is answered.

@@ -9,7 +9,7 @@ ghost use Rattle.lst_scan.specs.Savings.{SavesPart, TellsNone};
 ghost use Rattle.lst_scan.specs.Scans.{table_seen, Places, between};
 
 use crate::paged::{Sheet, count_by_page, frame_of, sum_by_page};
-use crate::records::cell_by_chain;
+use crate::records::{cell_by_chain, tails_apart};
 use lst_rule::{RecordId, Seat, Store};
 
 /// The numbers of a column, 0 for null, added over all rows that the open transaction sees. A sum has 128 bits, and never wraps: there are
@@ -78,10 +78,12 @@ fn sum_by_records(store: &Store, seat: &mut Seat, s: u32, c: u32, range: u32) ->
     ensures few { result ≤ 2 ^ 72 }
 {
     seat.consider();
+    let tails = tails_apart(store, range);
+    let begin = seat.begin(s);
     let mut total: u128 = 0;
     for number in 256 * range..256 * (range + 1) {
         seat.consider();
-        let found = cell_by_chain(store, seat, s, RecordId { number }, c);
+        let found = cell_by_chain(store, seat, s, RecordId { number }, tails, begin, c);
         total += u128::from(found.unwrap_or(0));
     }
     total
@@ -141,10 +143,12 @@ fn count_by_records(store: &Store, seat: &mut Seat, s: u32, range: u32) -> u64
     ensures few { result ≤ 256 }
 {
     seat.consider();
+    let tails = tails_apart(store, range);
+    let begin = seat.begin(s);
     let mut rows: u64 = 0;
     for number in 256 * range..256 * (range + 1) {
         seat.consider();
-        if cell_by_chain(store, seat, s, RecordId { number }, 0).is_some() {
+        if cell_by_chain(store, seat, s, RecordId { number }, tails, begin, 0).is_some() {
             rows += 1;
         }
     }

@@ -1,7 +1,9 @@
 use Rattle.std.proofs.Common.{◌≡◌, ℕ, ◌+◌, ◌*◌, ◌/◌, refl, sym, subst, ap, ◌∙◌, arith}
 use Rattle.lst_model.specs.Cells.{number_at}
 use Rattle.lst_model.specs.Tables.{sum_of}
+use Rattle.lst_core_state.specs.declared.known.Known.{Known}
 use Rattle.lst_rule.specs.Rule.{knows}
+use Rattle.lst_walk.specs.Chains.{AreTailsOf}
 use Rattle.lst_scan.specs.Scans.{table_seen, between}
 use Rattle.lst_scan.proofs.Seeing.{weight_of, number_weight}
 use Rattle.lst_scan.specs.Savings.{SavesPart, TellsNone}
@@ -42,3 +44,10 @@ returns-clause-few c = let few = c.loop-number.invariant.2 in let end = c.loop-n
 pub returns-clause-saves : goal.returns-clause-saves
 returns-clause-saves c = let invariant = c.loop-number.invariant in
     subst (λ (n : ℕ). SavesPart c.args.seat.now.view c.loop-number.seat.view c.args.s c.args.c (256 * c.args.range) n) (let t = c.loop-number-test.false in let e = c.loop-number.auto.number-end in let few = invariant.1 in omega arith) invariant.3
+
+pub cell_by_chain-found-requires-clause-tails : goal.cell_by_chain-found-requires-clause-tails
+cell_by_chain-found-requires-clause-tails c = let in_range : c.args.range ≡ c.loop-number.number / 256 = (let low = c.loop-number.invariant.0.rises in let t = c.loop-number-test.true in let e = c.loop-number.auto.number-end in omega arith) in
+    subst (λ (r : ℕ). AreTailsOf c.args.store.now.layout.limits r c.tails_apart-tails.result) in_range c.tails_apart-tails.ensures
+
+pub cell_by_chain-found-requires-clause-begin : goal.cell_by_chain-found-requires-clause-begin
+cell_by_chain-found-requires-clause-begin c = c.begin-begin.ensures ∙ sym (ap (λ (k : Known). k.begin) c.loop-number.invariant.0.scans.watched.watches.is)
