@@ -1,7 +1,7 @@
 //! A table as records.
-ghost use Rattle.std.specs.Prelude.{◌≡◌, ℕ, List, [], ◌∷◌, ◌++◌, Some, IfOk, OnOk, map, codes, decimal};
-ghost use Rattle.csv.specs.Records.{fields_of, partial_of};
-ghost use Rattle.csv.specs.Writing.{default_writer, row_text};
+ghost use Rattle.std.specs.Prelude.{◌≡◌, ℕ, List, [], ◌∷◌, ◌++◌, Some, IfOk, OnOk, map, decimal};
+ghost use Rattle.csv.specs.Records.{fields_of};
+ghost use Rattle.csv.specs.Writing.{default_writer, field_text, fields_text, row_text};
 ghost use Rattle.lst_csv.specs.Records.{text_of_records};
 ghost use Rattle.lst_csv.specs.Writing.{HasWritten, field_of_cell, header_of, record_of_row, rows_text as rows_text_of, table_text};
 
@@ -25,12 +25,20 @@ pub fn dump_text(alloc: Global, names: &Names, table: &Table) -> Result<Text, Ou
 fn rows_text(alloc: Global, names: &Names, rows: &RowList) -> Result<Text, OutOfMemory>
     ensures { IfOk result (λ text. text ≡ rows_text_of names.now rows.now) }
 {
+    let mut bytes = header_bytes(alloc, names.items())?;
+    push_rows(&mut bytes, rows.items())?;
+    Ok(Text::from_bytes(bytes))
+}
+
+/// The bytes of the header's record.
+fn header_bytes(alloc: Global, names: &[Text]) -> Result<Vec<u8>, OutOfMemory>
+    ensures { IfOk result (λ bytes. bytes.items ≡ row_text default_writer (header_of names.now)) }
+{
     let mut writer = writer_of(alloc);
     let mut fields = ByteRecord::new(alloc);
-    set_header(&mut fields, names.items())?;
+    set_header(&mut fields, names)?;
     write(&mut writer, &fields)?;
-    write_rows(&mut writer, &mut fields, rows.items())?;
-    text_in(writer)
+    bytes_in(writer)
 }
 
 /// A writer with the defaults into memory.
@@ -50,27 +58,12 @@ fn write(writer: &mut Writer<Vec<u8>>, fields: &ByteRecord) -> Result<(), OutOfM
     }
 }
 
-/// Writes the records of rows.
-fn write_rows(
-    writer: &mut Writer<Vec<u8>>,
-    fields: &mut ByteRecord,
-    rows: &[(Key, Row)],
-) -> Result<(), OutOfMemory>
-    ensures { (text : List ℕ) → HasWritten writer.old (λ bytes. Some bytes.items) text → OnOk result (HasWritten writer.new (λ bytes. Some bytes.items) (text ++ text_of_records (map record_of_row rows.now))) }
-{
-    for (key, row) in rows {
-        set_row(fields, *key, row)?;
-        write(writer, fields)?;
-    }
-    Ok(())
-}
-
-/// The text that was written.
-fn text_in(writer: Writer<Vec<u8>>) -> Result<Text, OutOfMemory>
-    ensures { IfOk result (λ text. (written : List ℕ) → HasWritten writer (λ bytes. Some bytes.items) written → text ≡ written) }
+/// The bytes that were written.
+fn bytes_in(writer: Writer<Vec<u8>>) -> Result<Vec<u8>, OutOfMemory>
+    ensures { IfOk result (λ bytes. (written : List ℕ) → HasWritten writer (λ bytes. Some bytes.items) written → bytes.items ≡ written) }
 {
     match writer.into_inner() {
-        Ok(bytes) => Ok(Text::from_bytes(bytes)),
+        Ok(bytes) => Ok(bytes),
         Err(_) => Err(OutOfMemory),
     }
 }
@@ -87,36 +80,45 @@ fn set_header(fields: &mut ByteRecord, names: &[Text]) -> Result<(), AllocError>
     Ok(())
 }
 
-/// Makes the fields those of a row.
-fn set_row(fields: &mut ByteRecord, key: Key, row: &Row) -> Result<(), AllocError>
-    ensures { OnOk result (fields_of fields.new ≡ record_of_row (key, row.now)) }
+/// Puts the records of rows behind a text, as the writer writes them: no field of theirs needs quotes.
+fn push_rows(bytes: &mut Vec<u8>, rows: &[(Key, Row)]) -> Result<(), AllocError>
+    ensures { OnOk result (bytes.new.items ≡ bytes.old.items ++ text_of_records (map record_of_row rows.now)) }
 {
-    fields.clear();
-    push_number(fields, key)?;
-    for column in 0..row.len() {
-        push_cell(fields, row.cell(column as u32))?;
+    for (key, row) in rows {
+        push_row(bytes, *key, row)?;
     }
     Ok(())
 }
 
-/// Adds a cell: a number, or the empty field for null.
-fn push_cell(fields: &mut ByteRecord, cell: Option<u64>) -> Result<(), AllocError>
-    requires { partial_of fields.old ≡ [] }
-    ensures fields { OnOk result (fields_of fields.new ≡ fields_of fields.old ++ field_of_cell cell ∷ []) }
-    ensures partial { OnOk result (partial_of fields.new ≡ []) }
+/// Puts the record of a row behind a text.
+fn push_row(bytes: &mut Vec<u8>, key: Key, row: &Row) -> Result<(), AllocError>
+    ensures { OnOk result (bytes.new.items ≡ bytes.old.items ++ row_text default_writer (record_of_row (key, row.now))) }
 {
+    push_number(bytes, key)?;
+    for column in 0..row.len() {
+        push_cell(bytes, row.cell(column as u32))?;
+    }
+    bytes.push(b'\n')?;
+    Ok(())
+}
+
+/// Puts a comma and a cell behind a text: a number, or nothing for null.
+fn push_cell(bytes: &mut Vec<u8>, cell: Option<u64>) -> Result<(), AllocError>
+    ensures { OnOk result (bytes.new.items ≡ bytes.old.items ++ fields_text default_writer (field_of_cell cell ∷ [])) }
+{
+    bytes.push(b',')?;
     match cell {
-        Some(number) => push_number(fields, number),
-        None => fields.push_field(b""),
+        Some(number) => push_number(bytes, number),
+        None => Ok(()),
     }
 }
 
-/// Adds a number.
-fn push_number(fields: &mut ByteRecord, number: u64) -> Result<(), AllocError>
-    requires { partial_of fields.old ≡ [] }
-    ensures fields { OnOk result (fields_of fields.new ≡ fields_of fields.old ++ decimal number ∷ []) }
-    ensures partial { OnOk result (partial_of fields.new ≡ []) }
+/// Puts a number behind a text, as a field.
+#[inline]
+fn push_number(bytes: &mut Vec<u8>, number: u64) -> Result<(), AllocError>
+    ensures { OnOk result (bytes.new.items ≡ bytes.old.items ++ field_text default_writer (decimal number)) }
 {
     let mut buffer = Buffer::new();
-    fields.push_field(buffer.format(number).as_bytes())
+    bytes.extend_from_slice(buffer.format(number).as_bytes())?;
+    Ok(())
 }
