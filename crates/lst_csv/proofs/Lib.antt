@@ -8,5 +8,6 @@ pub mod TableAgain
 pub mod Faultless
 pub mod ScriptAgain
 pub mod Lists
+pub mod Listed
 pub mod Inserted
 pub mod Noted

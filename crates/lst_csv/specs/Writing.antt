@@ -1,5 +1,6 @@
 -- The text of a table: the header, and the rows by rising key.
-use Rattle.std.specs.Prelude.{◌≡◌, ℕ, List, [], ◌∷◌, false, Option, Some, None, map, length, codes, decimal}
+use Rattle.std.specs.Prelude.{◌≡◌, ℕ, ◌<◌, List, [], ◌∷◌, false, Option, Some, None, map, length, codes, decimal}
+use Rattle.std.specs.List.{AllByRecursion}
 use Rattle.csv.specs.Writing.{default_writer, fields_written, has_written, text_written, writer_setup}
 use Rattle.csv.specs.declared.writer.Writer.{Writer}
 use Rattle.lst_model.specs.Cells.{Cell}
@@ -41,3 +42,7 @@ pub record HasWritten {W : Type 0} (writer : Writer W) (contents : W → Option 
   pub between : fields_written writer ≡ 0
   pub fresh : has_written writer ≡ false
   pub bytes : text_written contents writer ≡ Some text
+
+-- rows are those of a table, by rising key, and each key is below a floor
+abbrev pub IsListed : ℕ → List (ℕ × List Cell) → Rows → Type 0
+IsListed floor rows table = AllByRecursion (λ (row : ℕ × List Cell). row.0 < floor) rows × (scan_of table ≡ rows)

@@ -22,7 +22,7 @@ pub fn dump_text(alloc: Global, names: &Names, table: &Table) -> Result<Text, Ou
 }
 
 /// The text of rows: the record of the word `key` and the names, and then a record for each row, in their order. The only error is want of memory.
-fn rows_text(alloc: Global, names: &Names, rows: &RowList) -> Result<Text, OutOfMemory>
+pub(crate) fn rows_text(alloc: Global, names: &Names, rows: &RowList) -> Result<Text, OutOfMemory>
     ensures { IfOk result (λ text. text ≡ rows_text_of names.now rows.now) }
 {
     let mut bytes = header_bytes(alloc, names.items())?;
