@@ -118,7 +118,7 @@ module _ {D : Type 0} (content : D → List ℕ) (images : D → List ℕ → Ty
   -- the journal once the crew made it too
   module _ (log : Log D) (crew_now : Crew) (own : List (List Write)) (columns_stay : log.columns ≡ before.log.columns) where
     pub committed : (time : ℕ) → Keeps content images (commits ++ commit_of (view_of before) s ∷ []) log → IsCrewOf before.store crew_now → TellsState crew_now.seat.view → Answers (view_of before) crew_now.seat.view s CommitCall (reply.Committed time)
-        → Commits (view_of before) crew_now.seat.view s time → own ≡ set before.own s [] → IsJournalOf content images (commits ++ commit_of (view_of before) s ∷ []) (record before { log = log; crew = crew_now; own = own })
+        → Commits (view_of before) crew_now.seat.view s time → own ≡ before.own → IsJournalOf content images (commits ++ commit_of (view_of before) s ∷ []) (record before { log = log; crew = crew_now; own = own })
     committed time keeps of tells answers commits_so is =
         let told : store_told crew_now.seat.view ≡ after = ap (λ (st : State). st.store) answers.next in record {
           keeps = keeps;
@@ -128,8 +128,8 @@ module _ {D : Type 0} (content : D → List ℕ) (images : D → List ℕ → Ty
           tells = tells;
           same = subst (λ (st : Store). SameCommits st.history (commits ++ commit_of (view_of before) s ∷ [])) (sym told) same_after;
           counted = subst (λ (l : Limits). IsCounted l (store_told crew_now.seat.view)) (sym answers.limits) (subst (IsCounted (view_of before).limits) (sym told) counted_after);
-          own = own_kept (view_of before) crew_now.seat.view s None (reply.Begun 0) before.own own low answers.limits journal.own
-              (over (view_of before) crew_now.seat.view s None (reply.Begun 0) commits_so.called commits_so.ended.is_open) tt is;
+          own = own_kept (view_of before) crew_now.seat.view s None (reply.Committed time) before.own own low answers.limits journal.own
+              (over (view_of before) crew_now.seat.view s None (reply.Committed time) commits_so.called commits_so.ended.is_open) tt (is ∙ sym (set-get_or before.own s []));
         }
 
 -- ---- the log is another, or the lists were put back

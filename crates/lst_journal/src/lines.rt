@@ -130,24 +130,23 @@ impl<D: Disk> Redo<D> {
             begin: self.crew.seat.begin(session),
             writes: self.own.take(alloc, session),
         };
-        match self.log.append(alloc, &commit) {
+        let appended = self.log.append(alloc, &commit);
+        self.own.put(session, commit.writes);
+        match appended {
             Ok(()) => match self.crew.commit(&self.store, session) {
                 Ok(Outcome::Committed { time }) => Ok(Kept::Reply {
                     reply: Reply::Committed { time },
                 }),
                 _ => unreachable!(),
             },
-            Err(fault) => {
-                self.own.put(session, commit.writes);
-                match fault {
-                    AppendFault::JournalFull => Ok(Kept::JournalFull),
-                    AppendFault::Disk => {
-                        self.failed = true;
-                        Ok(Kept::DiskFault)
-                    }
-                    AppendFault::OutOfMemory => Err(OutOfMemory),
+            Err(fault) => match fault {
+                AppendFault::JournalFull => Ok(Kept::JournalFull),
+                AppendFault::Disk => {
+                    self.failed = true;
+                    Ok(Kept::DiskFault)
                 }
-            }
+                AppendFault::OutOfMemory => Err(OutOfMemory),
+            },
         }
     }
 
