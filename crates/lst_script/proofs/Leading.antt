@@ -4,7 +4,7 @@ use Rattle.std.specs.List.{AllByRecursion, list_all, slice_split}
 use Rattle.std.specs.Char.{is_ascii_digit}
 use Rattle.std.specs.Str.Lines.{strip_carriage_return}
 use Rattle.std.proofs.lemmas.Bool.{and_parts, leb-true, ne_eqb}
-use Rattle.std.proofs.lemmas.List.{length-append}
+use Rattle.std.proofs.lemmas.List.{length-append, length_push}
 use Rattle.std.proofs.lemmas.List.Splits.{slice_split_at, length-slice_split}
 use Rattle.lst_layout.specs.declared.limits.Limits.{Limits}
 use Rattle.lst_model.specs.declared.lines.Line.{Line}
@@ -140,6 +140,20 @@ IsSoFar-front limits columns narrow proper text rest after start number script l
     (ap is_skipped again ∙ front.not_skipped)
     (subst (λ (ws : List (List ℕ)). IsLine limits columns ws line) (sym again) begins.are)
 
--- where nothing was added, all is as before
-pub IsSoFar-same : (limits : Limits) (columns : Columns) (text rest : List ℕ) (start number : ℕ) (script same : List Line) → IsSoFar limits columns text rest start number script → same ≡ script → IsSoFar limits columns text rest start number same
-IsSoFar-same limits columns text rest start number script same so_far is = rw is so_far
+-- the lines that were read are counted by the script, and those that were skipped beside it
+module _ (limits : Limits) (columns : Columns) (text rest : List ℕ) (start skipped : ℕ) (script : List Line) where
+  -- where nothing was added, all is as before
+  pub IsSoFar-same : (same : List Line) → IsSoFar limits columns text rest start (length script + skipped) script → same ≡ script → IsSoFar limits columns text rest start (length same + skipped) same
+  IsSoFar-same same so_far is = rw is so_far
+
+  -- one line more of the script
+  pub IsSoFar-longer : (line : Line) → IsSoFar limits columns text rest start (length script + skipped + 1) (script ++ line ∷ []) → IsSoFar limits columns text rest start (length (script ++ line ∷ []) + skipped) (script ++ line ∷ [])
+  IsSoFar-longer line so_far =
+      let number : length script + skipped + 1 ≡ length (script ++ line ∷ []) + skipped = omega (arith, length_push script line) in
+      subst (λ n. IsSoFar limits columns text rest start n (script ++ line ∷ [])) number so_far
+
+  -- one line more that is skipped
+  pub IsSoFar-over : IsSoFar limits columns text rest start (length script + skipped + 1) script → IsSoFar limits columns text rest start (length script + (skipped + 1)) script
+  IsSoFar-over so_far =
+      let number : length script + skipped + 1 ≡ length script + (skipped + 1) = omega arith in
+      subst (λ n. IsSoFar limits columns text rest start n script) number so_far

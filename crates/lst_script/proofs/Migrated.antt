@@ -154,7 +154,7 @@ module _ (all : List (List ℕ)) where
 
 -- ---- names
 
-pub defaults : (count : ℕ) → count ≤ 8 → are_names count (default_names count) ≡ true
+defaults : (count : ℕ) → count ≤ 8 → are_names count (default_names count) ≡ true
 unfolding digits
 defaults zero few = refl
 defaults (suc zero) few = refl

@@ -1,6 +1,7 @@
 //! Lines of sessions in their plainest form, read as their bytes are met: one space between each two words, and a newline at once behind
 //! the last. A line in any other form, or with a fault, is left to the reader of words.
-ghost use Rattle.std.specs.Prelude.{◌≡◌, ◌≤◌, ◌<◌, [], ◌∷◌, ◌++◌, ℕ, List, Some, IfOk, IfSome, length};
+ghost use Rattle.std.specs.Prelude.{◌≡◌, ◌≤◌, ◌<◌, ◌-◌, [], ◌∷◌, ◌++◌, ℕ, List, Some, true, IfOk, IfSome, length};
+ghost use Rattle.std.specs.Char.{is_ascii_digit};
 ghost use Rattle.lst_model.specs.declared.lines.Call.TheVariants as calls;
 ghost use Rattle.lst_script.specs.Columns.{Columns, numbered, count_of, AreProper};
 ghost use Rattle.lst_script.specs.Heads.{columns_of};
@@ -18,6 +19,15 @@ use lst_model::{Call, Line, OutOfMemory};
 /// The most digits of a number that is read here: each such number fits 64 bits.
 const FEW_DIGITS: usize = 19;
 
+/// The digit that a byte is, or a number above 9 where it is none: by one subtraction, which a loop compares once.
+#[inline(always)]
+fn digit_of(byte: u8) -> u64
+    ensures digit { result < 10 → is_ascii_digit byte ≡ true }
+    ensures value { is_ascii_digit byte ≡ true → result ≡ byte - 48 }
+{
+    u64::from(byte).wrapping_sub(u64::from(b'0'))
+}
+
 /// The number that a text begins with, and what follows it.
 #[inline(always)]
 pub fn number_in_front(text: &[u8]) -> Option<(u64, &[u8])>
@@ -26,8 +36,8 @@ pub fn number_in_front(text: &[u8]) -> Option<(u64, &[u8])>
     let end = text.len().min(FEW_DIGITS);
     let mut value: u64 = 0;
     let mut count: usize = 0;
-    while count < end && text[count].is_ascii_digit() {
-        value = value * 10 + u64::from(text[count] - b'0');
+    while count < end && digit_of(text[count]) < 10 {
+        value = value * 10 + digit_of(text[count]);
         count += 1;
     }
     if count == 0 {
@@ -439,16 +449,20 @@ fn push_call<'a>(
     }
 }
 
-/// The session of one digit that a text begins with, below this number, and what follows the space behind it.
+/// The session of one digit that a text begins with, below this number, and what follows the space behind it. Where nothing follows, no line is read here.
 #[inline(always)]
 fn short_session_in_front(text: &[u8], sessions: u32) -> Option<(u32, &[u8])>
     ensures { IfSome result (λ found. (word : List ℕ) × IsNumber word found.0 × (found.0 < sessions) × (text.now ≡ word ++ 32 ∷ found.1.now)) }
 {
-    let (digit, rest) = text.split_first()?;
-    if !digit.is_ascii_digit() {
+    if text.len() < 3 {
         return None;
     }
-    let session = below(u64::from(*digit - b'0'), sessions)?;
+    let (byte, rest) = text.split_first()?;
+    let digit = digit_of(*byte);
+    if digit >= 10 {
+        return None;
+    }
+    let session = below(digit, sessions)?;
     let call = behind_byte(rest, b' ')?;
     Some((session, call))
 }

@@ -12,16 +12,17 @@ overflow_mul-value c =
 pub overflow_add-value : goal.overflow_add-value
 overflow_add-value c =
     let small = few_small c.args.text.now c.loop-count.count c.loop-count.value (omega (arith, c.loop-count.invariant.1, c.loop-count-test.true, c.min-end.ensures)) (omega (arith, c.loop-count-test.true, c.min-end.ensures)) c.loop-count.invariant.0 in
-    let e : is_ascii_digit (get_or c.args.text.now c.loop-count.count 0) ≡ true = search rules in
-    let digit = digit_small (get_or c.args.text.now c.loop-count.count 0) e in
-    omega (arith, small, digit, c.from.ensures)
+    let is_digit : is_ascii_digit (get_or c.args.text.now c.loop-count.count 0) ≡ true = search rules in
+    let digit = digit_small (get_or c.args.text.now c.loop-count.count 0) is_digit in
+    omega (arith, small, digit, c.digit_of-in-loop-count.ensures.value is_digit)
 
 pub loop-count-preserved : goal.loop-count-preserved
 loop-count-preserved c =
     let text = c.args.text.now in
     let i = c.loop-count.count in
-    let e : is_ascii_digit (get_or text i 0) ≡ true = search rules in
-    (rw c.from.ensures (AreDigits-more text i c.loop-count.value (omega (arith, c.loop-count-test.true, c.min-end.ensures)) e c.loop-count.invariant.0 (omega (arith, digit_small (get_or text i 0) e, few_small text i c.loop-count.value (omega (arith, c.loop-count-test.true, c.min-end.ensures)) (omega (arith, c.loop-count-test.true, c.min-end.ensures)) c.loop-count.invariant.0))), omega (arith, c.loop-count-test.true))
+    let is_digit : is_ascii_digit (get_or text i 0) ≡ true = search rules in
+    let small = few_small text i c.loop-count.value (omega (arith, c.loop-count-test.true, c.min-end.ensures)) (omega (arith, c.loop-count-test.true, c.min-end.ensures)) c.loop-count.invariant.0 in
+    (rw (c.digit_of-in-loop-count.ensures.value is_digit) (AreDigits-more text i c.loop-count.value (omega (arith, c.loop-count-test.true, c.min-end.ensures)) is_digit c.loop-count.invariant.0 (omega (arith, digit_small (get_or text i 0) is_digit, small))), omega (arith, c.loop-count-test.true))
 
 pub returns : goal.returns
 returns c = begins_with_digits c.args.text.now c.loop-count.count c.loop-count.value (omega (arith, c.loop-count.invariant.1, c.min-end.ensures)) (omega (arith, c.if-count-eq0.false)) (omega (arith, c.loop-count.invariant.1, c.min-end.ensures)) c.loop-count.invariant.0
