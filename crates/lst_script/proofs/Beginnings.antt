@@ -11,7 +11,7 @@ use Rattle.lst_layout.specs.declared.limits.Limits.{Limits}
 use Rattle.lst_model.specs.Cells.{Cell}
 use Rattle.lst_model.specs.declared.lines.Line.TheVariants as lines
 use Rattle.lst_script.specs.Numbers.{number_of, keeps_column, cell_of, change_of}
-use Rattle.lst_script.specs.Columns.{Columns, numbered, column_read}
+use Rattle.lst_script.specs.Columns.{Columns, numbered}
 use Rattle.lst_script.specs.Pairs.{filled}
 use Rattle.lst_script.specs.Table.{session_forms, form_named}
 use Rattle.lst_model.specs.declared.lines.Call.{Call}

@@ -1,16 +1,16 @@
 -- Columns by their names, and pairs, that a text begins with.
-use Rattle.std.proofs.Common.{◌≡◌, ℕ, zero, suc, ◌+◌, ◌<◌, ◌≤◌, Bool, true, false, not, ◌&&◌, cond, List, [], ◌∷◌, ◌++◌, length, map, take, drop, replicate, get_or, is_some, position, Option, Some, None, option_map, codes, bytes_eq, refl, sym, ap, subst, ◌∙◌, append_assoc, add-one, drop-cons, arith}
-use Rattle.std.specs.List.{AllByRecursion, list_all, list_any}
-use Rattle.std.proofs.lemmas.Bool.{and_parts, and_from, eqb-true, leb-true, false≢true}
+use Rattle.std.proofs.Common.{◌≡◌, ℕ, zero, suc, ◌+◌, ◌<◌, ◌≤◌, Bool, true, false, not, cond, List, [], ◌∷◌, ◌++◌, length, take, drop, get_or, is_some, position, Option, Some, None, option_map, codes, bytes_eq, refl, sym, ap, subst, ◌∙◌, append_assoc, add-one, drop-cons, arith}
+use Rattle.std.specs.List.{list_all, list_any}
+use Rattle.std.proofs.lemmas.Bool.{and_parts, and_from, eqb-true, false≢true}
 use Rattle.std.proofs.lemmas.List.{length-set, length-replicate, take-append-drop}
 use Rattle.std.proofs.lemmas.List.Quantifiers.{position-Some}
-use Rattle.std.proofs.lemmas.Option.{none-some, cond_some}
+use Rattle.std.proofs.lemmas.Option.{none-some}
 use Rattle.std.proofs.lemmas.Slice.Eq.{bytes_eq-Decides}
 use Rattle.lst_model.specs.Cells.{Cell}
-use Rattle.lst_names.specs.Names.{is_name, are_different, are_names}
+use Rattle.lst_names.specs.Names.{is_name, are_names}
 use Rattle.lst_script.specs.Numbers.{number_of}
 use Rattle.lst_script.specs.Columns.{named, column_named}
-use Rattle.lst_script.specs.Pairs.{Setting, is_equals, has_equals, pair_name, pair_value, cell_of_value, setting_from, pair_of, is_set, set_by, are_apart, all_set, nothing_set, filled}
+use Rattle.lst_script.specs.Pairs.{Setting, is_equals, pair_name, pair_value, cell_of_value, setting_from, pair_of, is_set, set_by, are_apart, all_set, nothing_set, filled}
 use Rattle.lst_script.specs.Canonical.{behind_spaces}
 use Rattle.lst_script.specs.Headers.{IsHeader}
 use Rattle.lst_script.specs.Fronts.{BeginsWithNumber, BeginsWithColumn, BeginsWithValue, GoesOnWithPair, GoesOnWithPairs, GoesOnWithCells, GoesOnWithChanges}

@@ -19,7 +19,7 @@ use lst_model::{Call, Line, OutOfMemory};
 /// The most digits of a number that is read here: each such number fits 64 bits.
 const FEW_DIGITS: usize = 19;
 
-/// The digit that a byte is, or a number above 9 where it is none: by one subtraction, which a loop compares once.
+/// The digit that a byte is, or a number above 9 where it is none.
 #[inline(always)]
 fn digit_of(byte: u8) -> u64
     ensures digit { result < 10 → is_ascii_digit byte ≡ true }

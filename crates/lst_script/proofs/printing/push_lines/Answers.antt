@@ -1,4 +1,4 @@
-use Rattle.std.proofs.Common.{◌≡◌, ◌++◌, ◌∷◌, [], ℕ, List, ap, ◌∙◌, append_assoc}
+use Rattle.std.proofs.Common.{◌++◌, ◌∷◌, [], ℕ, List, ap, ◌∙◌, append_assoc}
 use Rattle.lst_model.specs.declared.lines.Line.{Line}
 use Rattle.lst_script.specs.Heads.{columns_of}
 use Rattle.lst_script.specs.Canonical.{canonical_line, lines_text}
