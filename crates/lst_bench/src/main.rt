@@ -4,6 +4,7 @@
 ghost use Rattle.std.specs.Prelude.{◌<◌, IfSome};
 
 mod engines;
+mod journals;
 mod levels;
 mod making;
 mod packs;
@@ -15,6 +16,7 @@ mod sums;
 mod works;
 
 use engines::engine;
+use journals::{journals, keeping_of};
 use levels::{course_of, levels};
 use lst_layout::{Layout, Limits};
 use lst_legal::Level;
@@ -74,6 +76,9 @@ fn answer<R: Threads + Wait + Sync + Clock>(
     }
     if let Some(course) = course_of(kind) {
         return levels(alloc, course, count).ok();
+    }
+    if let Some(keeping) = keeping_of(kind) {
+        return journals(alloc, keeping, count).ok();
     }
     match kind.split_once('_') {
         Some(("rows", forms)) => return gets(alloc, forms, true, count).ok(),
