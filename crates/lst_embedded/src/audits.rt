@@ -62,7 +62,8 @@ pub(crate) fn audit_all<R: Threads + Sync>(
     let mut audits = Vec::new(alloc);
     for round in 0..AUDITS {
         let _ = round;
-        audits.push(make_audit(rt, store, auditors)?)?;
+        let audit = make_audit(rt, store, auditors)?;
+        audits.push(audit).or(Err(Stop::Close))?;
         merger.merge(store, 0, 0);
     }
     Ok(audits)
