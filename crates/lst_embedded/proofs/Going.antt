@@ -152,6 +152,11 @@ pub on_or : {A E D : Type 0} (P : Type 0) (result : Result A E) (d : D) (x : A) 
 on_or P (Ok y) d x is p = p
 on_or P (Err e) d x is p = absurd cc
 
+-- a transaction that was begun
+pub begun_or : {E D : Type 0} (a b : Session) → b.number ≡ a.number → (result : Result ℕ E) (d : D) (clock : ℕ) → Ok clock ≡ result_or result (Err d)
+    → IfOk result (λ (t : ℕ). Begins a.seat.view b.seat.view a.number t t false) → HasStarted a b
+begun_or a b e result d clock is begun = started_by a b clock e (if_or (λ (t : ℕ). Begins a.seat.view b.seat.view a.number t t false) result d clock is begun)
+
 module _ (P : List Commit → Commit → Type 0) (lasts : Lasts P) where
   pub made_none : (a : Session) → HasMade P a a 0
   made_none a = record { more = []; added = added_none a; count = refl; each = tt }
