@@ -1,7 +1,7 @@
 -- What the calls of a session leave of it, one after another.
 use Rattle.std.proofs.Common.{◌≡◌, ◌≢◌, ℕ, ◌+◌, ◌<◌, ◌≤◌, Bool, false, true, cond, List, [], ◌∷◌, ◌++◌, length, refl, sym, ap, ◌∙◌, subst, arith, append-nil, append_assoc, length-append}
 use Rattle.std.specs.Prelude.{Some, Option, Result, Ok, Err, IfOk, OnOk, OnErr, nat_lt}
-use Rattle.std.specs.Result.{result_or}
+use Rattle.std.specs.Result.{is_ok, result_or}
 use Rattle.lst_model.specs.declared.acts.Act.{Act}
 use Rattle.lst_model.specs.declared.acts.Act.TheVariants.{Put, Set}
 use Rattle.lst_model.specs.declared.acts.Write.{Write}
@@ -134,7 +134,7 @@ module _ (a b : Session) (e : b.number ≡ a.number) where
   pub committed_if : (result : Result Outcome CommitRefusal) → 0 < length (known_by a).own → ((time : ℕ) → result ≡ Ok (Committed time) → Commits a.seat.view b.seat.view a.number time)
       → ((time : ℕ) → result ≡ Ok (Ended time) → (time ≡ (known_by a).begin) × ((known_by a).own ≡ []) × Ends a.seat.view b.seat.view a.number) → OnOk result (HasAdded a b (commit_of a ∷ []))
   committed_if (Ok (Committed time)) wrote committed ended = committed_by a b time e (committed time refl)
-  committed_if (Ok (Ended time)) wrote committed ended = absurd (let none = ap length (ended time refl).1.0 in omega (arith, none, wrote))
+  committed_if (Ok (Ended time)) wrote committed ended = absurd (let none = ap length (ended time refl).1 in omega (arith, none, wrote))
   committed_if (Err refusal) wrote committed ended = tt
 
   pub busy_if : (result : Result Outcome CommitRefusal) → (result ≡ Err Busy → FindsHeld a.seat.view b.seat.view a.number) → (result ≡ Err Idle → b.seat.view ≡ a.seat.view) → OnErr result (HasAdded a b [])
@@ -151,6 +151,15 @@ if_or P (Err e) d x is p = absurd cc
 pub on_or : {A E D : Type 0} (P : Type 0) (result : Result A E) (d : D) (x : A) → Ok x ≡ result_or result (Err d) → OnOk result P → P
 on_or P (Ok y) d x is p = p
 on_or P (Err e) d x is p = absurd cc
+
+pub err_or : {A E D : Type 0} (P : Type 0) (result : Result A E) (d stop : D) → Err stop ≡ result_or result (Err d) → OnErr result P → P
+err_or P (Ok x) d stop is p = absurd cc
+err_or P (Err e) d stop is p = p
+
+-- what is so where the result is Ok
+pub kept_or : {A E D B : Type 0} (result : Result A E) (d : D) (x : A) (now one other : B) → Ok x ≡ result_or result (Err d) → now ≡ cond (is_ok result) one other → now ≡ one
+kept_or (Ok y) d x now one other is e = e
+kept_or (Err y) d x now one other is e = absurd cc
 
 -- a transaction that was begun
 pub begun_or : {E D : Type 0} (a b : Session) → b.number ≡ a.number → (result : Result ℕ E) (d : D) (clock : ℕ) → Ok clock ≡ result_or result (Err d)
@@ -301,6 +310,6 @@ pub when_ok : {A E : Type 0} (P Q : Type 0) → (P → Q) → (result : Result A
 when_ok P Q f (Ok x) p = f p
 when_ok P Q f (Err x) p = tt
 
-pub when_err : {A E : Type 0} (P Q : Type 0) → (P → Q) → (result : Result A E) → OnErr result P → OnErr result Q
-when_err P Q f (Ok x) p = tt
-when_err P Q f (Err x) p = f p
+pub so_err : {A E : Type 0} (P : Type 0) → P → (result : Result A E) → OnErr result P
+so_err P p (Ok x) = tt
+so_err P p (Err x) = p
