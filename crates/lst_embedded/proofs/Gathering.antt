@@ -31,7 +31,6 @@ use Rattle.lst_work_laws.proofs.Owners.{AreOwned, commits_owned}
 use Rattle.lst_work_laws.proofs.Telling.{extends_on}
 use Rattle.lst_accounts.proofs.Lasting.{same_table}
 use Rattle.lst_accounts.specs.Books.{total}
-use Rattle.lst_embedded.specs.declared.audits.Audit.{Audit}
 use Rattle.lst_embedded.specs.declared.bank.Books.{Books}
 use Rattle.lst_embedded.specs.declared.bank.Staff.{Staff}
 use Rattle.lst_embedded.specs.Deeds.{IsOpening, IsMove, Lasts}

@@ -9,7 +9,7 @@ use Rattle.lst_model.specs.declared.commits.Commit.{Commit}
 use Rattle.lst_model.specs.Cells.{Cell}
 use Rattle.lst_model.specs.Tables.{row_of}
 use Rattle.lst_model.specs.Histories.{Extends, table_at, snapshot, joined}
-use Rattle.lst_core_state.specs.Writes.{write, commit}
+use Rattle.lst_core_state.specs.Writes.{write}
 use Rattle.lst_core_state.specs.declared.known.Known.{Known}
 use Rattle.lst_core_state.specs.State.{mine}
 use Rattle.lst_rule.specs.declared.view.View.{View}
@@ -108,9 +108,6 @@ added_on a b c xs ys x y = record {
   mine = subst (λ (n : ℕ). mine n (known_by c) ≡ mine n (known_by b) ++ ys) x.number y.mine ∙ (ap (λ (cs : List Commit). cs ++ ys) x.mine ∙ append_assoc (mine a.number (known_by a)) xs ys);
 }
 
-pub goes_none : (a : Session) → GoesOn a a (known_by a).own
-goes_none a = record { added = added_none a; transaction = record { number = refl; begin = refl; read_only = refl; is_open = refl }; own_is = refl }
-
 pub goes_on : (a b c : Session) (one other : List Write) → GoesOn a b one → GoesOn b c other → GoesOn a c other
 goes_on a b c one other x y = record {
   added = added_on a b c [] [] x.added y.added;
@@ -167,9 +164,6 @@ pub begun_or : {E D : Type 0} (a b : Session) → b.number ≡ a.number → (res
 begun_or a b e result d clock is begun = started_by a b clock e (if_or (λ (t : ℕ). Begins a.seat.view b.seat.view a.number t t false) result d clock is begun)
 
 module _ (P : List Commit → Commit → Type 0) (lasts : Lasts P) where
-  pub made_none : (a : Session) → HasMade P a a 0
-  made_none a = record { more = []; added = added_none a; count = refl; each = tt }
-
   pub made_on : (a b c : Session) (m n : ℕ) → HasMade P a b m → HasMade P b c n → HasMade P a c (m + n)
   made_on a b c m n x y = record {
     more = x.more ++ y.more;

@@ -198,15 +198,6 @@ staff_worked_and items store a b x (Ok one) worked (Ok audits) audited = staff_w
 staff_worked_and items store a b x (Ok one) worked (Err e) audited = tt
 staff_worked_and items store a b x (Err e) worked next audited = tt
 
-pub on_and : {A B E : Type 0} (P Q : Type 0) (one : Result A E) (next : Result B E) → OnOk one P → OnOk next Q → OnOk (result_and one next) (P × Q)
-on_and P Q (Ok x) (Ok y) p q = (p, q)
-on_and P Q (Ok x) (Err e) p q = tt
-on_and P Q (Err e) next p q = tt
-
-pub if_and : {A B E : Type 0} (Q : B → Type 0) (one : Result A E) (next : Result B E) → IfOk next Q → IfOk (result_and one next) Q
-if_and Q (Ok x) next q = q
-if_and Q (Err e) next q = tt
-
 -- ---- the limits that a session knows are the store's
 
 pub columns_one : (store : Store) (session : Session) → IsBank store → IsReady store session → session.seat.view.limits.columns ≡ 1

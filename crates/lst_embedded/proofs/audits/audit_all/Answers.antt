@@ -1,5 +1,4 @@
 use Rattle.std.proofs.Common.{◌≡◌, ◌+◌, ◌<◌, List, ◌∷◌, [], ◌++◌, length, get_or, arith, sym, subst, rules}
-use Rattle.lst_session.specs.declared.session.Session.{Session}
 use Rattle.std.specs.Prelude.{Ok, Err}
 use Rattle.std.specs.Result.{result_or}
 use Rattle.lst_embedded.specs.declared.audits.Audit.{Audit}

@@ -1,5 +1,5 @@
-use Rattle.std.proofs.Common.{◌≡◌, sym, subst, rules}
-use Rattle.std.specs.Prelude.{Result, IfOk, OnOk}
+use Rattle.std.proofs.Common.{sym, subst, rules}
+use Rattle.std.specs.Prelude.{IfOk, OnOk}
 use Rattle.lst_embedded.specs.declared.bank.Staff.{Staff}
 use Rattle.lst_embedded.specs.Deeds.{IsMove}
 use Rattle.lst_embedded.specs.Doing.{HasDone, HaveAudited}
