@@ -1,7 +1,8 @@
 -- The store is gathered: what each session did is in the history, and nothing else is.
-use Rattle.std.proofs.Common.{◌≡◌, ℕ, ◌<◌, true, List, ◌∷◌, length, get_or, sym, ap, ◌∙◌, subst, arith}
-use Rattle.std.specs.Prelude.{Result, Ok, Err, IfOk}
-use Rattle.std.specs.List.{All, AllByRecursion}
+use Rattle.std.proofs.Common.{◌≡◌, ℕ, ◌<◌, true, cond, List, ◌∷◌, length, get_or, sym, ap, ◌∙◌, subst, arith}
+use Rattle.std.specs.List.{All, AllByRecursion, insert}
+use Rattle.std.specs.Prelude.{Result, Ok, Err}
+use Rattle.std.specs.Result.{is_ok, result_or}
 use Rattle.std.proofs.lemmas.List.{nil_from_length}
 use Rattle.std.proofs.lemmas.List.Elements.{All-cons}
 use Rattle.lst_layout.specs.declared.limits.Limits.{Limits}
@@ -30,15 +31,14 @@ use Rattle.lst_work_laws.proofs.Owners.{AreOwned, commits_owned}
 use Rattle.lst_work_laws.proofs.Telling.{extends_on}
 use Rattle.lst_accounts.proofs.Lasting.{same_table}
 use Rattle.lst_accounts.specs.Books.{total}
-use Rattle.lst_embedded.specs.declared.audits.Audit.{Audit}
 use Rattle.lst_embedded.specs.declared.bank.Books.{Books}
 use Rattle.lst_embedded.specs.declared.bank.Staff.{Staff}
-use Rattle.lst_embedded.specs.declared.transactions.Stop.{Stop}
 use Rattle.lst_embedded.specs.Deeds.{IsOpening, IsMove, Lasts}
 use Rattle.lst_embedded.specs.Doing.{IsBank, IsRead}
 use Rattle.lst_embedded.specs.Staffs.{HasInAll, IsStaffed, sessions_of}
 use Rattle.lst_embedded.specs.Kept.{IsKept}
 use Rattle.lst_embedded.proofs.Adding.{all_last, openings_last, moves_last}
+use Rattle.lst_embedded.proofs.Going.{kept_or}
 use Rattle.lst_embedded.proofs.Looking.{reads_still, all_pass}
 use Rattle.lst_embedded.proofs.Closing.{AreOurs, is_kept}
 
@@ -108,12 +108,16 @@ module _ (store : Store) (crew : Crew) (m : View) (staff : Staff) (bank : IsBank
   sound : IsSound history
   sound = subst IsSound seen_zero (seen_is_sound w 0 possible (crew_of.hosted 0 (let e = sessions_are in omega (arith, e))) (let e = sessions_are in omega (arith, e)))
 
-  pub books_kept : (books : Books) (audits : List Audit) → books.history ≡ history → books.audits.items ≡ audits → length audits ≡ 10 → ((none : Session) → AllByRecursion (IsRead (seen_at staff.auditors 0 none)) audits) → books.total ≡ total books.history → IsKept books
-  books_kept books audits is same ten reads table = is_kept history ours sound books is (ap length same ∙ ten)
-      (subst (AllByRecursion (IsRead history)) (sym same) (reads_still history (known_by banker).seen seen_banker.grows audits (reads staff.first)))
-      (table ∙ ap total is)
+  pub books_kept : (books : Books) → books.history ≡ history → length books.audits.items ≡ 10 → ((none : Session) → AllByRecursion (IsRead (seen_at staff.auditors 0 none)) books.audits.items) → books.total ≡ total books.history → IsKept books
+  books_kept books is ten reads table = is_kept history ours sound books is ten (reads_still history (known_by banker).seen seen_banker.grows books.audits.items (reads staff.first)) (table ∙ ap total is)
 
 -- ---- the sessions together
+
+-- the tellers are put before the auditors, where there is memory
+pub together : {A E D : Type 0} (d : D) (x : A) (staff : Staff) (v one two sessions : List Session) (first second : Result A E) → v ≡ staff.auditors → Ok x ≡ result_or first (Err d) → one ≡ cond (is_ok first) (insert v 0 staff.second) v
+    → Ok x ≡ result_or second (Err d) → two ≡ cond (is_ok second) (insert one 0 staff.first) one → sessions ≡ two → sessions ≡ sessions_of staff
+together d x staff v one two sessions first second auditors done one_is made two_is is =
+    is ∙ (kept_or second d x two _ _ made two_is ∙ ap (λ (xs : List Session). staff.first ∷ xs) (kept_or first d x one _ _ done one_is ∙ ap (λ (xs : List Session). staff.second ∷ xs) auditors))
 
 pub ready_together : (store : Store) (n : ℕ) (staff : Staff) → IsStaffed store n staff → All (IsReady store) (sessions_of staff)
 ready_together store n staff x = All-cons (IsReady store) staff.first (staff.second ∷ staff.auditors) x.first_ready (All-cons (IsReady store) staff.second staff.auditors x.second_ready x.auditors.ready)
@@ -145,8 +149,12 @@ module _ (v w x : View) (history : List Commit) (clock : ℕ) (whole : v.whole �
 pub session_zero : (store : Store) (crew : Crew) → IsBank store → IsCrewOf store crew → 0 < crew.seat.view.limits.sessions
 session_zero store crew bank crew_of = let same : crew.seat.view.limits.sessions ≡ 4 = ap (λ (l : Limits). l.sessions) crew_of.seat_of.limits ∙ bank.sessions in omega (arith, same)
 
--- ---- what is so of the books if there are any
+-- ---- the books
 
-pub books_if_closed : (P Q R S : Books → Type 0) → ((books : Books) → P books → Q books → R books → S books) → (result : Result Books Stop) → IfOk result P → IfOk result Q → IfOk result R → IfOk result S
-books_if_closed P Q R S f (Ok books) p q r = f books p q r
-books_if_closed P Q R S f (Err stop) p q r = tt
+pub books_closed : (store : Store) (crew : Crew) (m : View) (staff : Staff) → IsBank store → IsCrewOf store crew → Possible crew.seat.view → IsGathered (sessions_of staff) m crew.seat.view → IsStaffed store 25 staff
+    → (w x : View) (history : List Commit) (clock : ℕ) → (crew.seat.view.whole ≡ true → state_told w ≡ state_told crew.seat.view) → history ≡ (store_told w).history → TakesStock crew.seat.view w 0 → Begins w x 0 clock (length history) true
+    → (books : Books) → books.history ≡ history → length books.audits.items ≡ 10 → ((none : Session) → AllByRecursion (IsRead (seen_at staff.auditors 0 none)) books.audits.items) → books.total ≡ sum_of (table_seen (knows x 0)) 0 → IsKept books
+books_closed store crew m staff bank crew_of possible gathered done w x history clock told is stock begins books same ten reads sum =
+    let v = crew.seat.view in let all = seen_zero store crew m staff bank crew_of possible gathered done in
+    books_kept store crew m staff bank crew_of possible gathered done books (same ∙ history_is v w x history clock gathered.whole all told is stock begins) ten reads
+    (total_is v w x history clock gathered.whole all told is stock begins books.total sum ∙ ap total (sym same))

@@ -1,26 +1,32 @@
 -- What the calls of a session leave of it, one after another.
 use Rattle.std.proofs.Common.{◌≡◌, ◌≢◌, ℕ, ◌+◌, ◌<◌, ◌≤◌, Bool, false, true, cond, List, [], ◌∷◌, ◌++◌, length, refl, sym, ap, ◌∙◌, subst, arith, append-nil, append_assoc, length-append}
-use Rattle.std.specs.Prelude.{Some, Result, Ok, Err, OnOk, OnErr, nat_lt}
+use Rattle.std.specs.Prelude.{Some, Option, Result, Ok, Err, IfOk, OnOk, OnErr, nat_lt}
+use Rattle.std.specs.Result.{is_ok, result_or}
 use Rattle.lst_model.specs.declared.acts.Act.{Act}
-use Rattle.lst_model.specs.declared.acts.Act.TheVariants.{Put}
+use Rattle.lst_model.specs.declared.acts.Act.TheVariants.{Put, Set}
 use Rattle.lst_model.specs.declared.acts.Write.{Write}
 use Rattle.lst_model.specs.declared.commits.Commit.{Commit}
+use Rattle.lst_model.specs.Cells.{Cell}
 use Rattle.lst_model.specs.Tables.{row_of}
 use Rattle.lst_model.specs.Histories.{Extends, table_at, snapshot, joined}
-use Rattle.lst_core_state.specs.Writes.{write, commit}
+use Rattle.lst_core_state.specs.Writes.{write}
 use Rattle.lst_core_state.specs.declared.known.Known.{Known}
 use Rattle.lst_core_state.specs.State.{mine}
 use Rattle.lst_rule.specs.declared.view.View.{View}
 use Rattle.lst_rule.specs.Rule.{knows}
 use Rattle.lst_rule.specs.declared.store.Store.{Store}
 use Rattle.lst_refinement.specs.Effects.{SameTransactions}
+use Rattle.lst_session.specs.declared.kinds.CommitRefusal.{CommitRefusal}
+use Rattle.lst_session.specs.declared.kinds.CommitRefusal.TheVariants.{Idle, Busy}
+use Rattle.lst_session.specs.declared.kinds.Outcome.{Outcome}
+use Rattle.lst_session.specs.declared.kinds.Outcome.TheVariants.{Committed, Ended}
 use Rattle.lst_session.specs.declared.session.Session.{Session}
 use Rattle.lst_session.specs.Calls.{Called, Begins, Gets, Accepts, Refuses, Commits, Ends, FindsHeld, row_seen}
 use Rattle.lst_session.specs.Parting.{known_by}
 use Rattle.lst_session.specs.Passes.{IsReady}
 use Rattle.lst_work_laws.proofs.Telling.{extends_on}
 use Rattle.lst_accounts.specs.declared.transfer.Transfer.{Transfer}
-use Rattle.lst_accounts.specs.Books.{account, opening_of, setting_of, IsPaid, Transfers}
+use Rattle.lst_accounts.specs.Books.{account, new_balance, opening_of, setting_of, IsPaid, Transfers}
 use Rattle.lst_accounts.proofs.Lasting.{same_table}
 use Rattle.lst_embedded.specs.Deeds.{opening_balance, IsOpening, IsMove, Lasts}
 use Rattle.lst_embedded.specs.Doing.{HasAdded, HasMade, HasDone, HasStarted, GoesOn, HasMoved, commit_of}
@@ -86,6 +92,9 @@ got_row a b key row e x = subst (λ (k : Known). row ≡ row_seen k key) (now_is
 pub accepted_by : (a b : Session) (key most : ℕ) (act : Act) → b.number ≡ a.number → Accepts a.seat.view b.seat.view a.number key most act → GoesOn a b (joined (known_by a).own (write key act))
 accepted_by a b key most act e x = goes_by a b (joined (known_by a).own (write key act)) e x.called x.transaction x.own x.mine
 
+pub set_by : (a b : Session) (key balance : ℕ) (patch : List (Option Cell)) → b.number ≡ a.number → patch ≡ new_balance balance → Accepts a.seat.view b.seat.view a.number key 0 (Set patch) → GoesOn a b (joined (known_by a).own (setting_of key balance))
+set_by a b key balance patch e is x = accepted_by a b key 0 (Set (new_balance balance)) e (subst (λ (p : List (Option Cell)). Accepts a.seat.view b.seat.view a.number key 0 (Set p)) is x)
+
 pub refused_by : (a b : Session) (key most : ℕ) → b.number ≡ a.number → Refuses a.seat.view b.seat.view a.number key most → GoesOn a b (known_by a).own
 refused_by a b key most e x = goes_by a b (known_by a).own e x.called x.same.transaction x.same.own x.same.mine
 
@@ -98,9 +107,6 @@ added_on a b c xs ys x y = record {
   seen = extends_on (known_by a).seen (known_by b).seen (known_by c).seen x.seen y.seen;
   mine = subst (λ (n : ℕ). mine n (known_by c) ≡ mine n (known_by b) ++ ys) x.number y.mine ∙ (ap (λ (cs : List Commit). cs ++ ys) x.mine ∙ append_assoc (mine a.number (known_by a)) xs ys);
 }
-
-pub goes_none : (a : Session) → GoesOn a a (known_by a).own
-goes_none a = record { added = added_none a; transaction = record { number = refl; begin = refl; read_only = refl; is_open = refl }; own_is = refl }
 
 pub goes_on : (a b c : Session) (one other : List Write) → GoesOn a b one → GoesOn b c other → GoesOn a c other
 goes_on a b c one other x y = record {
@@ -118,41 +124,46 @@ goes_on a b c one other x y = record {
 pub goes_with : (a b c : Session) (act : List Write → List Write) → GoesOn a b (known_by a).own → GoesOn b c (act (known_by b).own) → GoesOn a c (act (known_by a).own)
 goes_with a b c act x y = subst (λ (own : List Write). GoesOn a c (act own)) x.own_is (goes_on a b c (known_by a).own (act (known_by b).own) x y)
 
--- ---- a commit is tried again and again
+-- ---- a commit
 
--- a transaction that goes on as it was would be the same commit
-same_commit : (a b : Session) → GoesOn a b (known_by a).own → commit_of b ≡ commit_of a
-same_commit a b goes = let now = known_by b in let then = known_by a in
-    ap (λ (s : ℕ). commit s now.number now.begin now.own) goes.added.number
-    ∙ (ap (λ (n : ℕ). commit a.number n now.begin now.own) goes.transaction.number
-    ∙ (ap (λ (n : ℕ). commit a.number then.number n now.own) goes.transaction.begin
-    ∙ ap (λ (own : List Write). commit a.number then.number then.begin own) goes.own_is))
+-- of a transaction that was tried to commit: it is committed where it has writes, and else nothing was added
+module _ (a b : Session) (e : b.number ≡ a.number) where
+  pub committed_if : (result : Result Outcome CommitRefusal) → 0 < length (known_by a).own → ((time : ℕ) → result ≡ Ok (Committed time) → Commits a.seat.view b.seat.view a.number time)
+      → ((time : ℕ) → result ≡ Ok (Ended time) → (time ≡ (known_by a).begin) × ((known_by a).own ≡ []) × Ends a.seat.view b.seat.view a.number) → OnOk result (HasAdded a b (commit_of a ∷ []))
+  committed_if (Ok (Committed time)) wrote committed ended = committed_by a b time e (committed time refl)
+  committed_if (Ok (Ended time)) wrote committed ended = absurd (let none = ap length (ended time refl).1 in omega (arith, none, wrote))
+  committed_if (Err refusal) wrote committed ended = tt
 
-pub committed_at_last : (a b c : Session) (time : ℕ) → GoesOn a b (known_by a).own → c.number ≡ b.number → Commits b.seat.view c.seat.view b.number time → HasAdded a c (commit_of a ∷ [])
-committed_at_last a b c time goes e x = subst (λ (one : Commit). HasAdded a c (one ∷ [])) (same_commit a b goes) (added_on a b c [] (commit_of b ∷ []) goes.added (committed_by b c time e x))
+  pub busy_if : (result : Result Outcome CommitRefusal) → (result ≡ Err Busy → FindsHeld a.seat.view b.seat.view a.number) → (result ≡ Err Idle → b.seat.view ≡ a.seat.view) → OnErr result (HasAdded a b [])
+  busy_if (Ok outcome) held still = tt
+  busy_if (Err Busy) held still = let x = held refl in kept_by a b e x.called x.same.mine
+  busy_if (Err Idle) held still = still_by a b e (still refl)
 
-pub busy_still : (a b c : Session) → GoesOn a b (known_by a).own → c.number ≡ b.number → FindsHeld b.seat.view c.seat.view b.number → GoesOn a c (known_by a).own
-busy_still a b c goes e x = goes_with a b c (λ own. own) goes (goes_by b c (known_by b).own e x.called x.same.transaction x.same.own x.same.mine)
+-- ---- a result that another one stands for where it is a refusal
 
--- one that goes on is open still, and has its writes
-pub open_still : (a b : Session) → GoesOn a b (known_by a).own → (known_by a).is_open ≡ true → (known_by b).is_open ≡ true
-open_still a b goes opened = goes.transaction.is_open ∙ opened
+pub if_or : {A E D : Type 0} (P : A → Type 0) (result : Result A E) (d : D) (x : A) → Ok x ≡ result_or result (Err d) → IfOk result P → P x
+if_or P (Ok y) d x is p = let same : x ≡ y = cc in subst P (sym same) p
+if_or P (Err e) d x is p = absurd cc
 
-pub wrote_still : (a b : Session) → GoesOn a b (known_by a).own → 0 < length (known_by a).own → 0 < length (known_by b).own
-wrote_still a b goes wrote = subst (λ (own : List Write). 0 < length own) (sym goes.own_is) wrote
+pub on_or : {A E D : Type 0} (P : Type 0) (result : Result A E) (d : D) (x : A) → Ok x ≡ result_or result (Err d) → OnOk result P → P
+on_or P (Ok y) d x is p = p
+on_or P (Err e) d x is p = absurd cc
 
--- ---- a write is tried again and again
+pub err_or : {A E D : Type 0} (P : Type 0) (result : Result A E) (d stop : D) → Err stop ≡ result_or result (Err d) → OnErr result P → P
+err_or P (Ok x) d stop is p = absurd cc
+err_or P (Err e) d stop is p = p
 
-pub set_at_last : (a b c : Session) (key most : ℕ) (act : Act) → GoesOn a b (known_by a).own → c.number ≡ b.number → Accepts b.seat.view c.seat.view b.number key most act → GoesOn a c (joined (known_by a).own (write key act))
-set_at_last a b c key most act goes e x = goes_with a b c (λ own. joined own (write key act)) goes (accepted_by b c key most act e x)
+-- what is so where the result is Ok
+pub kept_or : {A E D B : Type 0} (result : Result A E) (d : D) (x : A) (now one other : B) → Ok x ≡ result_or result (Err d) → now ≡ cond (is_ok result) one other → now ≡ one
+kept_or (Ok y) d x now one other is e = e
+kept_or (Err y) d x now one other is e = absurd cc
 
-pub refused_still : (a b c : Session) (key most : ℕ) → GoesOn a b (known_by a).own → c.number ≡ b.number → Refuses b.seat.view c.seat.view b.number key most → GoesOn a c (known_by a).own
-refused_still a b c key most goes e x = goes_with a b c (λ own. own) goes (refused_by b c key most e x)
+-- a transaction that was begun
+pub begun_or : {E D : Type 0} (a b : Session) → b.number ≡ a.number → (result : Result ℕ E) (d : D) (clock : ℕ) → Ok clock ≡ result_or result (Err d)
+    → IfOk result (λ (t : ℕ). Begins a.seat.view b.seat.view a.number t t false) → HasStarted a b
+begun_or a b e result d clock is begun = started_by a b clock e (if_or (λ (t : ℕ). Begins a.seat.view b.seat.view a.number t t false) result d clock is begun)
 
 module _ (P : List Commit → Commit → Type 0) (lasts : Lasts P) where
-  pub made_none : (a : Session) → HasMade P a a 0
-  made_none a = record { more = []; added = added_none a; count = refl; each = tt }
-
   pub made_on : (a b c : Session) (m n : ℕ) → HasMade P a b m → HasMade P b c n → HasMade P a c (m + n)
   made_on a b c m n x y = record {
     more = x.more ++ y.more;
@@ -236,20 +247,20 @@ module _ (a b c d e : Session) (t : Transfer) (payer payee payer_after payee_aft
       written : joined (known_by d).own (setting_of t.to payee_after) ≡ joined (setting_of t.from payer_after ∷ []) (setting_of t.to payee_after)
       written = ap (λ (own : List Write). joined own (setting_of t.to payee_after)) (takes.own_is ∙ ap (λ (own : List Write). joined own (setting_of t.from payer_after)) (both.own_is ∙ none))
 
-module _ (a b c d : Session) (t : Transfer) (some : 0 < t.amount) (started : HasStarted a b) (moved : HasMoved b c t) (added : HasAdded c d (commit_of c ∷ [])) where
+module _ (b c d : Session) (t : Transfer) (some : 0 < t.amount) (low : (known_by b).begin ≤ length (known_by b).seen) (moved : HasMoved b c t) (added : HasAdded c d (commit_of c ∷ [])) where
   after_begin : Extends (known_by d).seen (known_by b).seen
   after_begin = extends_on (known_by b).seen (known_by c).seen (known_by d).seen moved.goes.added.seen added.seen
 
   seen_then : table_at (known_by d).seen (known_by c).begin ≡ table_at (known_by b).seen (known_by b).begin
-  seen_then = ap (table_at (known_by d).seen) moved.goes.transaction.begin ∙ same_table (known_by d).seen (known_by b).seen after_begin (known_by b).begin started.early
+  seen_then = ap (table_at (known_by d).seen) moved.goes.transaction.begin ∙ same_table (known_by d).seen (known_by b).seen after_begin (known_by b).begin low
 
   early : (known_by c).begin ≤ length (known_by d).seen
-  early = let more = long (known_by d).seen (known_by b).seen after_begin in let same = moved.goes.transaction.begin in let low = started.early in omega (arith, more, same, low)
+  early = let more = long (known_by d).seen (known_by b).seen after_begin in let same = moved.goes.transaction.begin in omega (arith, more, same, low)
 
-  pub transferred_by : HasMade IsMove a d 1
+  pub transferred_by : HasMade IsMove b d 1
   transferred_by = record {
     more = commit_of c ∷ [];
-    added = added_on a b d [] (commit_of c ∷ []) started.added (added_on b c d [] (commit_of c ∷ []) moved.goes.added added);
+    added = added_on b c d [] (commit_of c ∷ []) moved.goes.added added;
     count = refl;
     each = (
       record {
@@ -293,6 +304,6 @@ pub when_ok : {A E : Type 0} (P Q : Type 0) → (P → Q) → (result : Result A
 when_ok P Q f (Ok x) p = f p
 when_ok P Q f (Err x) p = tt
 
-pub when_err : {A E : Type 0} (P Q : Type 0) → (P → Q) → (result : Result A E) → OnErr result P → OnErr result Q
-when_err P Q f (Ok x) p = tt
-when_err P Q f (Err x) p = f p
+pub so_err : {A E : Type 0} (P : Type 0) → P → (result : Result A E) → OnErr result P
+so_err P p (Ok x) = tt
+so_err P p (Err x) = p

@@ -2,6 +2,7 @@
 use Rattle.std.proofs.Common.{◌≡◌, ℕ, zero, suc, ◌+◌, ◌<◌, List, [], ◌∷◌, ◌++◌, eqb, length, get_or, set, refl, sym, ap, ◌∙◌, subst, arith, length-append}
 use Rattle.std.specs.Prelude.{Result, Ok, Err, IfOk, OnOk}
 use Rattle.std.specs.List.{All, AllByRecursion, remove}
+use Rattle.std.specs.Result.{result_and, result_or}
 use Rattle.lst_layout.specs.declared.limits.Limits.{Limits}
 use Rattle.lst_layout.specs.declared.layout.Layout.{Layout}
 use Rattle.lst_model.specs.declared.commits.Commit.{Commit}
@@ -25,6 +26,7 @@ use Rattle.lst_embedded.specs.Deeds.{IsOpening, IsMove, Lasts}
 use Rattle.lst_embedded.specs.Doing.{IsBank, HasAdded, HasMade, HasDone, HaveAudited}
 use Rattle.lst_embedded.specs.Staffs.{IsOpened, HasInAll, IsStaffed}
 use Rattle.lst_embedded.proofs.Adding.{all_last, all_join, openings_last, moves_last}
+use Rattle.lst_embedded.proofs.Going.{if_or}
 use Rattle.lst_embedded.proofs.Looking.{alone_still}
 
 pub opened_is : (store : Store) (crew : Crew) (layout : Layout) (columns : layout.limits.columns ≡ 1) (ranges : layout.limits.ranges ≡ 2) (sessions : layout.limits.sessions ≡ 4)
@@ -38,6 +40,17 @@ opened_is store crew layout columns ranges sessions is crew_of view = record {
   crew_of = crew_of;
   view = view ∙ ap (λ (l : Layout). opening_view l.limits) (sym is);
 }
+
+-- by results for whose refusals others stand
+pub opened_or : {E F D : Type 0} (d : D) (limits : Limits) (columns : limits.columns ≡ 1) (ranges : limits.ranges ≡ 2) (sessions : limits.sessions ≡ 4)
+    → (checked : Result Layout E) (layout : Layout) → Ok layout ≡ result_or checked (Err d) → IfOk checked (λ (l : Layout). l.limits ≡ limits)
+    → (made : Result (Store × Crew) F) (store : Store) (crew : Crew) → Ok (store, crew) ≡ result_or made (Err d) → IfOk made (λ (both : Store × Crew). both.0.layout ≡ layout) → IfOk made (λ (both : Store × Crew). IsCrewOf both.0 both.1)
+    → IfOk made (λ (both : Store × Crew). both.1.seat.view ≡ opening_view layout.limits) → IsOpened store crew
+opened_or d limits columns ranges sessions checked layout valid same made store crew is layouts crews views =
+    let own = if_or (λ (l : Layout). l.limits ≡ limits) checked d layout valid same in
+    let both : Store × Crew = (store, crew) in
+    opened_is store crew layout (ap (λ (l : Limits). l.columns) own ∙ columns) (ap (λ (l : Limits). l.ranges) own ∙ ranges) (ap (λ (l : Limits). l.sessions) own ∙ sessions)
+    (if_or (λ (both : Store × Crew). both.0.layout ≡ layout) made d both is layouts) (if_or (λ (both : Store × Crew). IsCrewOf both.0 both.1) made d both is crews) (if_or (λ (both : Store × Crew). both.1.seat.view ≡ opening_view layout.limits) made d both is views)
 
 -- ---- what a session has done in all
 
@@ -94,6 +107,9 @@ two_left sessions one two first second count a b c d =
     let three : length one ≡ 3 = (let l = ap length at_first in omega (arith, l, count)) in
     let at_second = first_rest one two second (omega (arith, three)) c d in
     (at_first ∙ ap (λ (xs : List Session). first ∷ xs) at_second, (let l = ap length at_second in omega (arith, l, three)))
+
+pub three_left : (sessions one : List Session) (first : Session) → length sessions ≡ 4 → first ≡ get_or sessions 0 first → one ≡ remove sessions 0 → length one ≡ 3
+three_left sessions one first count a b = let l = ap length (first_rest sessions one first (omega (arith, count)) a b) in omega (arith, l, count)
 
 -- two that are left are two
 pub two_are : (xs : List Session) (none : Session) → length xs ≡ 2 → xs ≡ get_or xs 0 none ∷ get_or xs 1 none ∷ []
@@ -175,15 +191,12 @@ staff_worked store a b audits x first second audited = record {
   merger_of = audited.merger_of;
 }
 
--- if the audits ended
-pub staff_worked_if : {A E : Type 0} (items : A → List Audit) (store : Store) (a b : Staff) → IsStaffed store 0 a → HasDone store IsMove a.first b.first 25 → HasDone store IsMove a.second b.second 25
-    → (result : Result A E) → IfOk result (λ audits. HaveAudited store a.auditors b.auditors b.merger (items audits) 10) → OnOk result (IsStaffed store 25 b)
-staff_worked_if items store a b x first second (Ok audits) audited = staff_worked store a b (items audits) x first second audited
-staff_worked_if items store a b x first second (Err e) audited = tt
-
--- what is so of a result that was Ok
-pub if_was : {A E : Type 0} (P : Type 0) (result : Result A E) (x : A) → result ≡ Ok x → OnOk result P → P
-if_was {A} {E} P result x is on = subst (λ (r : Result A E). OnOk r P) is on
+-- if both ended
+pub staff_worked_and : {A B E : Type 0} (items : A → List Audit) (store : Store) (a b : Staff) → IsStaffed store 0 a → (one : Result B E) → OnOk one (HasDone store IsMove a.first b.first 25 × HasDone store IsMove a.second b.second 25)
+    → (next : Result A E) → IfOk next (λ audits. HaveAudited store a.auditors b.auditors b.merger (items audits) 10) → OnOk (result_and one next) (IsStaffed store 25 b)
+staff_worked_and items store a b x (Ok one) worked (Ok audits) audited = staff_worked store a b (items audits) x worked.0 worked.1 audited
+staff_worked_and items store a b x (Ok one) worked (Err e) audited = tt
+staff_worked_and items store a b x (Err e) worked next audited = tt
 
 -- ---- the limits that a session knows are the store's
 

@@ -1,8 +1,7 @@
 //! The auditors: several sessions add up all balances side by side, again and again while the tellers work.
-ghost use Rattle.std.specs.Prelude.{IfOk, OnOk};
-ghost use Rattle.lst_session.specs.declared.session.Session.{Session as SessionValue};
-ghost use Rattle.lst_session.specs.Parting.{IsMergerOf, seen_at};
-ghost use Rattle.lst_embedded.specs.Doing.{IsBank, HaveLooked, AreAuditors, IsRead, HaveAudited};
+ghost use Rattle.std.specs.Prelude.{IfOk};
+ghost use Rattle.lst_session.specs.Parting.{IsMergerOf};
+ghost use Rattle.lst_embedded.specs.Doing.{IsBank, AreAuditors, HaveAudited};
 
 use crate::transactions::Stop;
 use lst_model::Time;
@@ -23,30 +22,8 @@ pub struct Audit {
     pub total: u128,
 }
 
-/// One audit: all hear of what the first auditor has seen, and then they add up the balances as of that time. By that each sees what was committed meanwhile, for the next audit.
-fn make_audit<R: Threads + Sync>(
-    rt: &R,
-    store: &Store,
-    auditors: &mut Sessions,
-) -> Result<Audit, Stop>
-    requires bank { IsBank store.now }
-    requires auditors { AreAuditors store.now auditors.old }
-    ensures auditors { OnOk result (AreAuditors store.now auditors.new) }
-    ensures looked { OnOk result (HaveLooked auditors.old auditors.new) }
-    ensures read { IfOk result (λ audit. (none : SessionValue) → IsRead (seen_at auditors.new 0 none) audit) }
-{
-    let first = &auditors.as_slice()[0];
-    let time = first.seen();
-    first.seat.consider();
-    next_phase(store, auditors);
-    if !all_can_begin(store, auditors.as_slice(), time) {
-        return Err(Stop::Close);
-    }
-    let total = par_sum(rt, store, auditors, time, 0);
-    Ok(Audit { time, total })
-}
-
-/// The auditors audit again and again, and after each audit the balances are merged.
+/// The auditors audit again and again, and after each audit the balances are merged. For an audit all hear of what the first auditor has seen, and then they add up the
+/// balances as of that time. By that each sees what was committed meanwhile, for the next audit.
 pub(crate) fn audit_all<R: Threads + Sync>(
     rt: &R,
     alloc: Global,
@@ -62,7 +39,15 @@ pub(crate) fn audit_all<R: Threads + Sync>(
     let mut audits = Vec::new(alloc);
     for round in 0..AUDITS {
         let _ = round;
-        audits.push(make_audit(rt, store, auditors)?)?;
+        let first = &auditors.as_slice()[0];
+        let time = first.seen();
+        first.seat.consider();
+        next_phase(store, auditors);
+        if !all_can_begin(store, auditors.as_slice(), time) {
+            return Err(Stop::Close);
+        }
+        let total = par_sum(rt, store, auditors, time, 0);
+        audits.push(Audit { time, total }).or(Err(Stop::Close))?;
         merger.merge(store, 0, 0);
     }
     Ok(audits)
