@@ -49,7 +49,7 @@ fn parts(act: &Act) -> (u8, u8, u8, u64, u64) {
 
 /// The fields of the record that is read at the front of these bytes, if one stands there.
 fn read_fields(alloc: Global, bytes: &[u8]) -> Result<Option<Fields>, Fail> {
-    let Some((commit, size)) = read_record(alloc, 2, bytes)? else {
+    let Some((commit, size)) = read_record(alloc, 2, &mut Vec::new(alloc), bytes)? else {
         return Ok(None);
     };
     let Some(write) = commit.writes.items().first() else {
@@ -147,7 +147,7 @@ fn are_two_a_record(alloc: Global, first: u64, second: u64) -> Result<bool, Fail
         return Ok(false);
     };
     bytes.extend_from_slice(write)?;
-    Ok(read_record(alloc, 2, bytes.as_slice())?.is_some())
+    Ok(read_record(alloc, 2, &mut Vec::new(alloc), bytes.as_slice())?.is_some())
 }
 
 #[test]

@@ -94,10 +94,11 @@ fn scan(alloc: Global, columns: u32, image: &[u8]) -> Result<(Snapshots, usize),
     ensures damaged { (at : ℕ) → result ≡ Err (ScanFault.Damaged at) → IsDamagedAt columns image.now at }
 {
     let mut snapshots = Snapshots::new(alloc);
+    let mut own = Vec::new(alloc);
     let mut at = 0;
     while at < image.len() && image[at] == 1 {
         let rest = behind_gate(image, at);
-        let Some((commit, size)) = read_record(alloc, columns, rest)? else {
+        let Some((commit, size)) = read_record(alloc, columns, &mut own, rest)? else {
             return Err(ScanFault::Damaged { at });
         };
         if snapshots.len() >= u32::MAX as usize {
