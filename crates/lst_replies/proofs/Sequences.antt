@@ -1,6 +1,8 @@
 -- Words read one after another.
 use Rattle.std.proofs.Common.{◌≡◌, ℕ, zero, suc, ◌+◌, ◌<◌, ◌≤◌, List, [], ◌∷◌, ◌++◌, length, drop, get_or, flat_map, slice_get, Option, Some, None, option_map, Bor, refl, sym, ap, ◌∙◌, append_assoc, add-one, drop-cons}
 use Rattle.std.proofs.lemmas.List.{drop_all}
+use Rattle.lst_model.specs.Cells.{Cell}
+use Rattle.lst_replies.specs.Texts.{cell_text, cells_text}
 use Rattle.lst_replies.specs.Reading.{texts, read_all, with_both}
 
 -- what was read of a list of words, and what stands behind it, are what the whole list is read as
@@ -52,17 +54,25 @@ drop_next [] i x e = absurd cc
 drop_next (y ∷ xs) zero x e = let same : y ≡ x = cc in ap (λ z. z ∷ xs) same
 drop_next (y ∷ xs) (suc i) x e = drop_next xs i x e
 
--- one more item is written, each behind a byte
-pub item_written : {X : Type 0} (text_of : X → List ℕ) (between : ℕ) (xs : List X) (i : ℕ) (x : X) (before after whole : List ℕ) → slice_get xs i ≡ Some x
-    → after ≡ (before ++ between ∷ []) ++ text_of x → before ++ flat_map (λ y. between ∷ text_of y) (drop i xs) ≡ whole
-    → after ++ flat_map (λ y. between ∷ text_of y) (drop (i + 1) xs) ≡ whole
-item_written text_of between xs i x before after whole is written so_far =
-    ap (λ t. t ++ rest) written
-    ∙ append_assoc (before ++ between ∷ []) (text_of x) rest
-    ∙ append_assoc before (between ∷ []) (text_of x ++ rest)
-    ∙ ap (λ n. before ++ between ∷ (text_of x ++ flat_map (λ y. between ∷ text_of y) (drop n xs))) (add-one i)
-    ∙ sym (ap (λ ys. before ++ flat_map (λ y. between ∷ text_of y) ys) (drop_next xs i x is))
-    ∙ so_far
-  where
-    rest : List ℕ
-    rest = flat_map (λ y. between ∷ text_of y) (drop (i + 1) xs)
+-- one more item is written before those behind it, each behind a byte
+pub item_before : {X : Type 0} (text_of : X → List ℕ) (between : ℕ) (xs : List X) (i j : ℕ) (x : X) (old new end : List ℕ) → slice_get xs j ≡ Some x → suc j ≡ i
+    → old ≡ flat_map (λ y. between ∷ text_of y) (drop i xs) ++ end → new ≡ between ∷ (text_of x ++ old)
+    → new ≡ flat_map (λ y. between ∷ text_of y) (drop j xs) ++ end
+item_before text_of between xs i j x old new end is next so_far written =
+    written
+    ∙ ap (λ t. between ∷ (text_of x ++ t)) so_far
+    ∙ ap (λ t. between ∷ t) (sym (append_assoc (text_of x) (flat_map (λ y. between ∷ text_of y) (drop i xs)) end))
+    ∙ ap (λ n. flat_map (λ y. between ∷ text_of y) (x ∷ drop n xs) ++ end) (sym next)
+    ∙ sym (ap (λ ys. flat_map (λ y. between ∷ text_of y) ys ++ end) (drop_next xs j x is))
+
+-- a row's first cell is written before the others
+pub cells_before : (between : ℕ) (row : List Cell) (cell : Cell) (old new end : List ℕ) → slice_get row 0 ≡ Some cell
+    → old ≡ flat_map (λ next. between ∷ cell_text next) (drop 1 row) ++ end → new ≡ cell_text cell ++ old
+    → new ≡ cells_text between row ++ end
+cells_before between [] cell old new end is so_far written = absurd cc
+cells_before between (first ∷ row) cell old new end is so_far written =
+    let same : cell ≡ first = cc in
+    written
+    ∙ ap (λ t. cell_text cell ++ t) so_far
+    ∙ sym (append_assoc (cell_text cell) (flat_map (λ next. between ∷ cell_text next) row) end)
+    ∙ ap (λ c. (cell_text c ++ flat_map (λ next. between ∷ cell_text next) row) ++ end) same

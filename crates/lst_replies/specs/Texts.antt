@@ -89,6 +89,13 @@ reply_rest (NothingNew tps) = decimal tps
 reply_rest (NoFrame session) = decimal session
 reply_rest Silent = []
 
+-- a reply with a few words and at most two numbers: neither a row nor a list
+abbrev pub IsShort : Reply → Type 0
+IsShort (Row row) = ⊥
+IsShort (Rows list) = ⊥
+IsShort (Keys list) = ⊥
+IsShort reply = Unit {0}
+
 abbrev pub is_silent : Reply → Bool
 is_silent Silent = true
 is_silent reply = false

@@ -4,6 +4,7 @@
 #![tactic(auto)]
 
 mod answers;
+mod backward;
 mod laws;
 mod lines;
 mod long;

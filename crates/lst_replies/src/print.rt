@@ -1,8 +1,9 @@
 //! How a report is printed.
 ghost use Rattle.std.specs.Prelude.{◌≡◌, ℕ, ◌+◌, ◌++◌, ◌∷◌, [], length, IfOk, OnOk, decimal, flat_map};
-ghost use Rattle.lst_replies.specs.ReportTexts.{session_text, told_text, history_line, stamp_line, stamps_text, report_text};
+ghost use Rattle.lst_replies.specs.ReportTexts.{told_text, history_line, stamp_line, stamps_text, report_text};
 
-use crate::lines::push_reply;
+use crate::backward::{write_byte, write_few, write_number, write_word};
+use crate::lines::push_told;
 use crate::reports::{Report, Stamp};
 use lst_model::{OutOfMemory, Reply, Text};
 use std::alloc::Global;
@@ -27,40 +28,21 @@ fn push_replies(text: &mut Text, replies: &[(Option<u32>, Reply)]) -> Result<(),
     Ok(())
 }
 
-fn push_told(text: &mut Text, session: Option<u32>, reply: &Reply) -> Result<(), OutOfMemory>
-    ensures { OnOk result (text.new ≡ text.old ++ told_text (session, reply.now)) }
-{
-    push_session(text, session)?;
-    push_reply(text, reply)?;
-    text.push_bytes(b"\n")
-}
-
-fn push_session(text: &mut Text, session: Option<u32>) -> Result<(), OutOfMemory>
-    ensures { OnOk result (text.new ≡ text.old ++ session_text session) }
-{
-    match session {
-        Some(session) => {
-            push_number(text, u64::from(session))?;
-            text.push_bytes(b" ")
-        }
-        None => Ok(()),
-    }
-}
-
-fn push_number(text: &mut Text, number: u64) -> Result<(), OutOfMemory>
-    ensures { OnOk result (text.new ≡ text.old ++ decimal number) }
-{
-    let mut buffer = itoa::Buffer::new();
-    text.push_bytes(buffer.format(number).as_bytes())
-}
-
 fn push_history(text: &mut Text, stamps: &[Stamp]) -> Result<(), OutOfMemory>
     ensures { OnOk result (text.new ≡ text.old ++ ((history_line (length stamps.now) ++ 10 ∷ []) ++ stamps_text 1 stamps.now)) }
 {
-    text.push_bytes(b"history ")?;
-    push_number(text, stamps.len() as u64)?;
-    text.push_bytes(b"\n")?;
+    push_count(text, stamps.len() as u64)?;
     push_stamps(text, stamps)
+}
+
+fn push_count(text: &mut Text, count: u64) -> Result<(), OutOfMemory>
+    ensures { OnOk result (text.new ≡ text.old ++ (history_line count ++ 10 ∷ [])) }
+{
+    let mut buffer = [0; 32];
+    let at = write_byte(&mut buffer, 32, b'\n');
+    let at = write_number(&mut buffer, at, count);
+    let at = write_word(&mut buffer, at, b"history ");
+    text.push_bytes(&buffer[at..])
 }
 
 fn push_stamps(text: &mut Text, stamps: &[Stamp]) -> Result<(), OutOfMemory>
@@ -75,12 +57,14 @@ fn push_stamps(text: &mut Text, stamps: &[Stamp]) -> Result<(), OutOfMemory>
 fn push_stamp(text: &mut Text, time: u64, stamp: &Stamp) -> Result<(), OutOfMemory>
     ensures { OnOk result (text.new ≡ text.old ++ (stamp_line time stamp.now ++ 10 ∷ [])) }
 {
-    push_number(text, time)?;
-    text.push_bytes(b" ")?;
-    push_number(text, u64::from(stamp.session))?;
-    text.push_bytes(b" ")?;
-    push_number(text, u64::from(stamp.number))?;
-    text.push_bytes(b" ")?;
-    push_number(text, stamp.begin)?;
-    text.push_bytes(b"\n")
+    let mut buffer = [0; 64];
+    let at = write_byte(&mut buffer, 64, b'\n');
+    let at = write_number(&mut buffer, at, stamp.begin);
+    let at = write_byte(&mut buffer, at, b' ');
+    let at = write_few(&mut buffer, at, stamp.number);
+    let at = write_byte(&mut buffer, at, b' ');
+    let at = write_few(&mut buffer, at, stamp.session);
+    let at = write_byte(&mut buffer, at, b' ');
+    let at = write_number(&mut buffer, at, time);
+    text.push_bytes(&buffer[at..])
 }
