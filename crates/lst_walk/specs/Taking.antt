@@ -1,5 +1,5 @@
 -- The pages of several columns, taken in hand one after the other.
-use Rattle.std.specs.Prelude.{◌≡◌, ℕ, ◌<◌, ◌≤◌, List, false, length, slice_index_or}
+use Rattle.std.specs.Prelude.{◌≡◌, ℕ, ◌<◌, ◌≤◌, List, [], ◌∷◌, false, length, slice_index_or}
 use Rattle.lst_rule.specs.declared.view.View.{View}
 use Rattle.lst_rule.specs.declared.store.Store.{Store}
 use Rattle.lst_rule.specs.Rule.{knows}
@@ -14,6 +14,10 @@ no_entry = record { frame = 0; until = 0; is_present = false }
 
 abbrev pub entry_at : List Entry → ℕ → Entry
 entry_at entries column = slice_index_or entries column no_entry
+
+-- no page tells anything
+abbrev pub no_entries : List Entry
+no_entries = no_entry ∷ no_entry ∷ no_entry ∷ no_entry ∷ no_entry ∷ no_entry ∷ no_entry ∷ no_entry ∷ []
 
 -- from v to the seat, the session s took the pages of the columns below k, where it has a pin, and these are the entries
 pub record TakesAll (store : Store) (v : View) (seat : Sitting) (s rec k : ℕ) (entries : List Entry) : Type 0 where

@@ -9,7 +9,7 @@ ghost use Rattle.lst_rule.specs.Rule.{knows};
 ghost use Rattle.lst_walk.specs.Readers.{IsReader};
 ghost use Rattle.lst_walk.specs.Packed.{packed_words, Skims};
 ghost use Rattle.lst_walk.specs.Pages.{Takes, LooksAt};
-ghost use Rattle.lst_walk.specs.Taking.{TakesAll, entry_at};
+ghost use Rattle.lst_walk.specs.Taking.{TakesAll, entry_at, no_entries};
 ghost use Rattle.lst_rule.specs.Watching.{HasInHand};
 ghost use Rattle.lst_model.specs.Cells.{has_bit, number_of};
 ghost use Rattle.lst_layout.specs.Frames.{null_place, null_bit};
@@ -163,27 +163,29 @@ pub(crate) fn number_of(
     }
 }
 
-/// The entries of a record in the pages of all columns, which are taken in hand where the session has a pin.
-pub(crate) fn entries_of(store: &Store, seat: &mut Seat, s: u32, rec: RecordId) -> [Entry; 8]
+/// Puts the entries of a record in the pages of all columns where none stood; the pages are taken in hand where the session has a pin, and else none is.
+/// They are put where the caller keeps them, since an array that is handed back is copied.
+pub(crate) fn put_entries(
+    store: &Store,
+    seat: &mut Seat,
+    s: u32,
+    rec: RecordId,
+    entries: &mut [Entry; 8],
+)
     requires reader { IsReader store.now seat.old s }
     requires rec { rec.number < record_count store.now.layout.limits }
+    requires blank { entries.old ≡ no_entries }
     ensures reader { IsReader store.now seat.new s }
-    ensures takes { TakesAll store.now seat.old.view seat.new s rec.number store.now.layout.limits.columns result }
+    ensures takes { TakesAll store.now seat.old.view seat.new s rec.number store.now.layout.limits.columns entries.new }
 {
-    let mut entries = [Entry {
-        frame: 0,
-        until: 0,
-        is_present: false,
-    }; 8];
     if seat.pinned(s).is_none() {
-        return entries;
+        return;
     }
     let begin = seat.begin(s);
     let pages = store.layout().directory(rec.number / 256, 0);
     for column in 0..store.layout().limits.columns {
         entries[column as usize] = taken(store, seat, s, rec, column, pages, begin);
     }
-    entries
 }
 
 /// The newest tail record, by its number, from which on an entry tells of its column.

@@ -22,7 +22,7 @@ ghost use Rattle.lst_walk.specs.Walks.{IsRowOf, WalksRow, Visited, Acted, Leaves
 ghost use Rattle.lst_walk.specs.Whole.{PagedRow, RowBy, row_where};
 ghost use Rattle.lst_walk.specs.Filling.{RowPages, GoesOn, Fills, SetsAll, FillsColumn, SetsColumn};
 
-use crate::pages::{Entry, cell_of, entries_of, newest};
+use crate::pages::{Entry, cell_of, newest, put_entries};
 use crate::placed::{below_from, cell_from, first_after, first_word, is_seen_from, word_from};
 use crate::whole::paged;
 use crate::words::head;
@@ -144,7 +144,12 @@ fn walked(store: &Store, seat: &mut Seat, s: u32, rec: RecordId, number: u32) ->
     let mut cells = [None; 8];
     let patch = &mut cells[..store.layout().limits.columns as usize];
     let mut set = 0;
-    let entries = entries_of(store, seat, s, rec);
+    let mut entries = [Entry {
+        frame: 0,
+        until: 0,
+        is_present: false,
+    }; 8];
+    put_entries(store, seat, s, rec, &mut entries);
     let last = newest(&entries);
     let start = first_word(store, range, 1);
     let words = store.layout().limits.cell_words();

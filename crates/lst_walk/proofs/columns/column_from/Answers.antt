@@ -1,4 +1,4 @@
-use Rattle.std.proofs.Common.{ℕ, ◌*◌, ◌+◌, ◌/◌, refl, arith}
+use Rattle.std.proofs.Common.{◌*◌, ◌+◌, ◌/◌, refl, arith}
 use Rattle.lst_rule.proofs.Watching.{watched_same}
 use Rattle.lst_rule.proofs.Finds.{loads_none}
 use Rattle.lst_walk.specs.Chains.{IsTailOf}

@@ -1,4 +1,4 @@
-use Rattle.std.proofs.Common.{◌≡◌, ℕ, ◌*◌, ◌/◌, ◌^◌, ◌<◌, ◌≤◌, ◌+◌, ◌∙◌, ap, le-leb, refl, sym, subst, arith, inl}
+use Rattle.std.proofs.Common.{◌≡◌, ℕ, ◌*◌, ◌/◌, ◌≤◌, ◌+◌, ◌∙◌, ap, le-leb, refl, sym, subst, arith, inl}
 use Rattle.lst_layout.specs.declared.place.Place.TheVariants.{CellWord}
 use Rattle.lst_layout.specs.Addresses.{address}
 use Rattle.lst_core_state.specs.declared.known.Known.{Known}

@@ -58,7 +58,7 @@ returns-clause-told c = λ v p. record {
   watched = (c.loop-number.invariant.goes v p).walk.watched;
   row = row_over c.args.store.now v c.loop-number.seat c.args.s c.args.rec.number c.loop-number.number c.loop-number.patch c.loop-number-test.false (c.loop-number.invariant.goes v p).walk;
   walk = row_ended c.args.store.now v c.loop-number.seat c.args.s c.args.rec.number c.loop-number.number c.loop-number.patch c.loop-number-test.false (c.loop-number.invariant.goes v p).walk;
-  saves = rows_saved c.args.store.now v c.loop-number.seat c.loop-number.seat.view c.args.s c.args.rec.number c.loop-number.number c.entries_of-entries.result c.loop-number.patch (c.loop-number.invariant.goes v p) (watched_same c.loop-number.seat.view c.args.s) refl;
+  saves = rows_saved c.args.store.now v c.loop-number.seat c.loop-number.seat.view c.args.s c.args.rec.number c.loop-number.number c.put_entries.new.entries c.loop-number.patch (c.loop-number.invariant.goes v p) (watched_same c.loop-number.seat.view c.args.s) refl;
 }
 
 pub returns-in-Absent-clause-told : goal.returns-in-Absent-clause-told
@@ -66,15 +66,15 @@ returns-in-Absent-clause-told c = λ v p. record {
   watched = watched_on v c.loop-number.seat.view c.fill.new.seat.view c.args.s (c.loop-number.invariant.goes v p).walk.watched c.fill.ensures.skims.watched;
   row = (c.in-Absent.ensures.filled v (c.loop-number.invariant.goes v p)).0;
   walk = (c.in-Absent.ensures.filled v (c.loop-number.invariant.goes v p)).1;
-  saves = rows_saved c.args.store.now v c.loop-number.seat c.fill.new.seat.view c.args.s c.args.rec.number c.loop-number.number c.entries_of-entries.result c.loop-number.patch (c.loop-number.invariant.goes v p) c.fill.ensures.skims.watched c.fill.ensures.skims.finds;
+  saves = rows_saved c.args.store.now v c.loop-number.seat c.fill.new.seat.view c.args.s c.args.rec.number c.loop-number.number c.put_entries.new.entries c.loop-number.patch (c.loop-number.invariant.goes v p) c.fill.ensures.skims.watched c.fill.ensures.skims.finds;
 }
 
 pub returns-in-Whole-clause-told : goal.returns-in-Whole-clause-told
 returns-in-Whole-clause-told c = λ v p. record {
   watched = watched_on v c.loop-number.seat.view c.fill.new.seat.view c.args.s (c.loop-number.invariant.goes v p).walk.watched c.fill.ensures.skims.watched;
-  row = let f = c.in-Whole.ensures.filled v (c.loop-number.invariant.goes v p) in rows_whole c.args.store.now v c.fill.new.seat c.args.s c.args.rec.number c.loop-number.number c.entries_of-entries.result c.fill.new.patch c.row_of.result f.0 f.1 c.row_of.ensures;
-  walk = let f = c.in-Whole.ensures.filled v (c.loop-number.invariant.goes v p) in rows_walked c.args.store.now v c.fill.new.seat c.args.s c.args.rec.number c.loop-number.number c.entries_of-entries.result c.fill.new.patch c.row_of.result f.0 f.1 c.row_of.ensures;
-  saves = rows_saved c.args.store.now v c.loop-number.seat c.fill.new.seat.view c.args.s c.args.rec.number c.loop-number.number c.entries_of-entries.result c.loop-number.patch (c.loop-number.invariant.goes v p) c.fill.ensures.skims.watched c.fill.ensures.skims.finds;
+  row = let f = c.in-Whole.ensures.filled v (c.loop-number.invariant.goes v p) in rows_whole c.args.store.now v c.fill.new.seat c.args.s c.args.rec.number c.loop-number.number c.put_entries.new.entries c.fill.new.patch c.row_of.result f.0 f.1 c.row_of.ensures;
+  walk = let f = c.in-Whole.ensures.filled v (c.loop-number.invariant.goes v p) in rows_walked c.args.store.now v c.fill.new.seat c.args.s c.args.rec.number c.loop-number.number c.put_entries.new.entries c.fill.new.patch c.row_of.result f.0 f.1 c.row_of.ensures;
+  saves = rows_saved c.args.store.now v c.loop-number.seat c.fill.new.seat.view c.args.s c.args.rec.number c.loop-number.number c.put_entries.new.entries c.loop-number.patch (c.loop-number.invariant.goes v p) c.fill.ensures.skims.watched c.fill.ensures.skims.finds;
 }
 
 pub returns-in-Row-clause-told : goal.returns-in-Row-clause-told
@@ -84,7 +84,7 @@ returns-in-Row-clause-told c = λ v p. record {
       (λ d at. c.row_under.ensures.row d (at_same c.look.new.seat.view c.args.s (c.args.rec.number / 256 * c.args.store.now.layout.limits.tails + c.loop-number.number) c.tail_of-tail.result d (sym c.tail_of-tail.ensures) (at_on c.fill.new.seat.view c.look.new.seat.view c.args.s (c.args.rec.number / 256 * c.args.store.now.layout.limits.tails + c.loop-number.number) d c.look.ensures.watched at)));
   walk = row_walked c.args.store.now v c.fill.new.seat c.look.new.seat c.row_under.new.seat c.args.s c.args.rec.number c.loop-number.number (c.args.rec.number / 256) (c.args.rec.number / 256 * c.args.store.now.layout.limits.tails + c.loop-number.number) 0 p.host p.opened c.loop-number-test.true refl refl c.in-Row.nulls c.fill.new.patch c.look.new.patch c.row_under.result (c.in-Partly.ensures.filled v (c.loop-number.invariant.goes v p)).walk c.look.ensures.watched c.in-Row.ensures.visited c.look.ensures.resolved c.row_under.ensures.watched
       (λ d at. c.row_under.ensures.row d (at_same c.look.new.seat.view c.args.s (c.args.rec.number / 256 * c.args.store.now.layout.limits.tails + c.loop-number.number) c.tail_of-tail.result d (sym c.tail_of-tail.ensures) (at_on c.fill.new.seat.view c.look.new.seat.view c.args.s (c.args.rec.number / 256 * c.args.store.now.layout.limits.tails + c.loop-number.number) d c.look.ensures.watched at)));
-  saves = rows_held c.args.store.now v c.fill.new.seat c.row_under.new.seat.view c.args.s c.args.rec.number c.loop-number.number c.entries_of-entries.result c.fill.new.patch (c.in-Partly.ensures.filled v (c.loop-number.invariant.goes v p)) (watched_on c.fill.new.seat.view c.look.new.seat.view c.row_under.new.seat.view c.args.s c.look.ensures.watched c.row_under.ensures.watched) (high_column c.args.store.now v c.fill.new.seat c.args.s c.args.rec.number c.loop-number.number c.entries_of-entries.result c.fill.new.patch (c.in-Partly.ensures.filled v (c.loop-number.invariant.goes v p)) (unset_still c.loop-number.patch c.fill.new.patch c.loop-number.invariant.unset c.in-Partly.ensures.sets.0) c.in-Partly.ensures.sets.1) (c.args.rec.number / 256) (c.args.rec.number / 256 * c.args.store.now.layout.limits.tails + c.loop-number.number) refl refl (loads_tail c.fill.new.seat.view c.look.new.seat.view c.row_under.new.seat.view c.args.s c.tail_of-tail.result (c.args.rec.number / 256 * c.args.store.now.layout.limits.tails + c.loop-number.number) c.tail_of-tail.ensures c.look.ensures.loads c.row_under.ensures.loads);
+  saves = rows_held c.args.store.now v c.fill.new.seat c.row_under.new.seat.view c.args.s c.args.rec.number c.loop-number.number c.put_entries.new.entries c.fill.new.patch (c.in-Partly.ensures.filled v (c.loop-number.invariant.goes v p)) (watched_on c.fill.new.seat.view c.look.new.seat.view c.row_under.new.seat.view c.args.s c.look.ensures.watched c.row_under.ensures.watched) (high_column c.args.store.now v c.fill.new.seat c.args.s c.args.rec.number c.loop-number.number c.put_entries.new.entries c.fill.new.patch (c.in-Partly.ensures.filled v (c.loop-number.invariant.goes v p)) (unset_still c.loop-number.patch c.fill.new.patch c.loop-number.invariant.unset c.in-Partly.ensures.sets.0) c.in-Partly.ensures.sets.1) (c.args.rec.number / 256) (c.args.rec.number / 256 * c.args.store.now.layout.limits.tails + c.loop-number.number) refl refl (loads_tail c.fill.new.seat.view c.look.new.seat.view c.row_under.new.seat.view c.args.s c.tail_of-tail.result (c.args.rec.number / 256 * c.args.store.now.layout.limits.tails + c.loop-number.number) c.tail_of-tail.ensures c.look.ensures.loads c.row_under.ensures.loads);
 }
 
 pub returns-in-NoRow-clause-told : goal.returns-in-NoRow-clause-told
@@ -92,20 +92,20 @@ returns-in-NoRow-clause-told c = λ v p. record {
   watched = watched_on v c.fill.new.seat.view c.look.new.seat.view c.args.s (watched_on v c.loop-number.seat.view c.fill.new.seat.view c.args.s (c.loop-number.invariant.goes v p).walk.watched c.fill.ensures.skims.watched) c.look.ensures.watched;
   row = row_gone c.args.store.now v c.fill.new.seat c.look.new.seat c.look.new.seat c.args.s c.args.rec.number c.loop-number.number (c.args.rec.number / 256) (c.args.rec.number / 256 * c.args.store.now.layout.limits.tails + c.loop-number.number) 0 p.host p.opened c.loop-number-test.true refl refl c.fill.new.patch c.look.new.patch (c.in-Partly.ensures.filled v (c.loop-number.invariant.goes v p)).walk c.in-NoRow.ensures.visited;
   walk = gone_walked c.args.store.now v c.fill.new.seat c.look.new.seat c.look.new.seat c.args.s c.args.rec.number c.loop-number.number (c.args.rec.number / 256) (c.args.rec.number / 256 * c.args.store.now.layout.limits.tails + c.loop-number.number) 0 p.host p.opened c.loop-number-test.true refl refl c.fill.new.patch c.look.new.patch (c.in-Partly.ensures.filled v (c.loop-number.invariant.goes v p)).walk c.look.ensures.watched c.in-NoRow.ensures.visited c.look.ensures.resolved (watched_same c.look.new.seat.view c.args.s);
-  saves = rows_held c.args.store.now v c.fill.new.seat c.look.new.seat.view c.args.s c.args.rec.number c.loop-number.number c.entries_of-entries.result c.fill.new.patch (c.in-Partly.ensures.filled v (c.loop-number.invariant.goes v p)) c.look.ensures.watched (high_column c.args.store.now v c.fill.new.seat c.args.s c.args.rec.number c.loop-number.number c.entries_of-entries.result c.fill.new.patch (c.in-Partly.ensures.filled v (c.loop-number.invariant.goes v p)) (unset_still c.loop-number.patch c.fill.new.patch c.loop-number.invariant.unset c.in-Partly.ensures.sets.0) c.in-Partly.ensures.sets.1) (c.args.rec.number / 256) (c.args.rec.number / 256 * c.args.store.now.layout.limits.tails + c.loop-number.number) refl refl c.look.ensures.loads;
+  saves = rows_held c.args.store.now v c.fill.new.seat c.look.new.seat.view c.args.s c.args.rec.number c.loop-number.number c.put_entries.new.entries c.fill.new.patch (c.in-Partly.ensures.filled v (c.loop-number.invariant.goes v p)) c.look.ensures.watched (high_column c.args.store.now v c.fill.new.seat c.args.s c.args.rec.number c.loop-number.number c.put_entries.new.entries c.fill.new.patch (c.in-Partly.ensures.filled v (c.loop-number.invariant.goes v p)) (unset_still c.loop-number.patch c.fill.new.patch c.loop-number.invariant.unset c.in-Partly.ensures.sets.0) c.in-Partly.ensures.sets.1) (c.args.rec.number / 256) (c.args.rec.number / 256 * c.args.store.now.layout.limits.tails + c.loop-number.number) refl refl c.look.ensures.loads;
 }
 
 pub loop-number-init : goal.loop-number-init
 loop-number-init c = let l = ap (λ (y : Layout). y.limits.columns) c.layout.ensures in let few = c.args.store.now.layout.valid.columns.1 in
     let is = take_same c.layout.result.now.limits.columns 8 None (omega arith) ∙ ap (λ (n : ℕ). replicate n None) l in record {
-      goes = λ v p. walked_start c.args.store.now v c.args.seat.now c.entries_of-entries.new.seat c.args.s c.args.rec.number c.args.number c.entries_of-entries.result _ is p c.entries_of-entries.ensures.takes;
+      goes = λ v p. walked_start c.args.store.now v c.args.seat.now c.put_entries.new.seat c.args.s c.args.rec.number c.args.number c.put_entries.new.entries _ is p c.put_entries.ensures.takes;
       unset = ap (list_all is_some) is ∙ none_set c.args.store.now.layout.limits.columns c.args.store.now.layout.valid.columns.0;
       held = none_known 0 _ refl;
     }
 
 pub loop-number-preserved : goal.loop-number-preserved
 loop-number-preserved c = let q = at_number c.args.store.now c.fill.new.seat c.args.s c.args.rec.number c.loop-number.number (c.in-Partly.ensures.filled c.requires.walk.0 (c.loop-number.invariant.goes c.requires.walk.0 c.requires.walk.1)).walk.reader (c.in-Partly.ensures.filled c.requires.walk.0 (c.loop-number.invariant.goes c.requires.walk.0 c.requires.walk.1)).walk.versions (c.in-Partly.ensures.filled c.requires.walk.0 (c.loop-number.invariant.goes c.requires.walk.0 c.requires.walk.1)).walk.chain c.loop-number-test.true (c.args.rec.number / 256) (c.args.rec.number / 256 * c.args.store.now.layout.limits.tails + c.loop-number.number) refl refl in record {
-  goes = λ v p. rows_next c.args.store.now v c.fill.new.seat c.look.new.seat c.below_from-number.new.seat c.args.s c.args.rec.number c.loop-number.number (c.args.rec.number / 256) (c.args.rec.number / 256 * c.args.store.now.layout.limits.tails + c.loop-number.number) c.below_from-number.result c.loop-number-test.true refl refl c.entries_of-entries.result c.fill.new.patch c.look.new.patch (c.in-Partly.ensures.filled v (c.loop-number.invariant.goes v p)) (high_column c.args.store.now v c.fill.new.seat c.args.s c.args.rec.number c.loop-number.number c.entries_of-entries.result c.fill.new.patch (c.in-Partly.ensures.filled v (c.loop-number.invariant.goes v p)) (unset_still c.loop-number.patch c.fill.new.patch c.loop-number.invariant.unset c.in-Partly.ensures.sets.0) c.in-Partly.ensures.sets.1) c.look.ensures.watched (c.look.auto.patch ∙ (c.in-Partly.ensures.filled v (c.loop-number.invariant.goes v p)).walk.wide) c.in-Older.ensures.visited c.look.ensures.resolved
+  goes = λ v p. rows_next c.args.store.now v c.fill.new.seat c.look.new.seat c.below_from-number.new.seat c.args.s c.args.rec.number c.loop-number.number (c.args.rec.number / 256) (c.args.rec.number / 256 * c.args.store.now.layout.limits.tails + c.loop-number.number) c.below_from-number.result c.loop-number-test.true refl refl c.put_entries.new.entries c.fill.new.patch c.look.new.patch (c.in-Partly.ensures.filled v (c.loop-number.invariant.goes v p)) (high_column c.args.store.now v c.fill.new.seat c.args.s c.args.rec.number c.loop-number.number c.put_entries.new.entries c.fill.new.patch (c.in-Partly.ensures.filled v (c.loop-number.invariant.goes v p)) (unset_still c.loop-number.patch c.fill.new.patch c.loop-number.invariant.unset c.in-Partly.ensures.sets.0) c.in-Partly.ensures.sets.1) c.look.ensures.watched (c.look.auto.patch ∙ (c.in-Partly.ensures.filled v (c.loop-number.invariant.goes v p)).walk.wide) c.in-Older.ensures.visited c.look.ensures.resolved
       (reader_on c.args.store.now c.look.new.seat c.below_from-number.new.seat c.args.s c.look.ensures.reader c.below_from-number.ensures.watched c.below_from-number.ensures.seat) c.below_from-number.ensures.watched
       (λ d at. back_at c.look.new.seat.view c.args.s c.tail_of-tail.result c.below_from-number.result d c.below_from-number.ensures.back (at_same c.look.new.seat.view c.args.s (c.args.rec.number / 256 * c.args.store.now.layout.limits.tails + c.loop-number.number) c.tail_of-tail.result d (sym c.tail_of-tail.ensures) (at_on c.fill.new.seat.view c.look.new.seat.view c.args.s (c.args.rec.number / 256 * c.args.store.now.layout.limits.tails + c.loop-number.number) d c.look.ensures.watched at)))
       c.in-Older.ensures.leaves c.look.ensures.loads c.tail_of-tail.result c.tail_of-tail.ensures c.below_from-number.ensures.loads;
