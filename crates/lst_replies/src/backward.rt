@@ -2,7 +2,7 @@
 //!
 //! Each call writes its text so that it ends where `end` says, and gives the place where it begins. What stands from `end` on
 //! stays, so the texts of a line are written one before the other, the last one first.
-ghost use Rattle.std.specs.Prelude.{◌≡◌, ◌+◌, ◌++◌, ◌∷◌, ◌<◌, ◌≤◌, codes, decimal, drop, flat_map, length};
+ghost use Rattle.std.specs.Prelude.{◌≡◌, ◌+◌, ◌*◌, ◌++◌, ◌∷◌, ◌<◌, ◌≤◌, codes, decimal, drop, flat_map, length};
 ghost use Rattle.lst_replies.specs.Texts.{IsShort, reply_word, reply_rest, cause_words, cause_numbers, cell_text, cells_text};
 ghost use Rattle.lst_replies.specs.ReportTexts.{session_text};
 
@@ -49,6 +49,9 @@ pub(crate) fn write_few(buffer: &mut [u8], end: usize, number: u32) -> usize
     ensures room { (result ≤ end) × (end ≤ result + 10) }
     ensures written { drop result buffer.new ≡ decimal number ++ drop end buffer.old }
 {
+    if number < 10 {
+        return write_byte(buffer, end, b'0' + number as u8);
+    }
     write_digits(u64::from(number), buffer, end)
 }
 
@@ -152,9 +155,10 @@ fn write_unfinished(buffer: &mut [u8], end: usize, session: u32, number: u32) ->
 }
 
 /// Writes the cells of a row, with one byte between two of them.
+#[inline(always)]
 pub(crate) fn write_cells(buffer: &mut [u8], end: usize, between: u8, row: &Row) -> usize
-    requires { (167 ≤ end) × (end ≤ length buffer.old) }
-    ensures room { (result ≤ end) × (end ≤ result + 167) }
+    requires { (21 * length row.now ≤ end) × (end ≤ length buffer.old) }
+    ensures room { (result ≤ end) × (end ≤ result + 21 * length row.now) }
     ensures written { drop result buffer.new ≡ cells_text between row.now ++ drop end buffer.old }
 {
     if row.len() == 0 {
@@ -167,8 +171,8 @@ pub(crate) fn write_cells(buffer: &mut [u8], end: usize, between: u8, row: &Row)
 /// Writes the cells behind the first, each behind one byte.
 #[inline(always)]
 fn write_further(buffer: &mut [u8], end: usize, between: u8, row: &Row) -> usize
-    requires { (0 < length row.now) × ((167 ≤ end) × (end ≤ length buffer.old)) }
-    ensures room { (result ≤ end) × (end ≤ result + 147) }
+    requires { (0 < length row.now) × ((21 * length row.now ≤ end) × (end ≤ length buffer.old)) }
+    ensures room { (result ≤ end) × (end + 21 ≤ result + 21 * length row.now) }
     ensures written { drop result buffer.new ≡ flat_map (λ cell. between ∷ cell_text cell) (drop 1 row.now) ++ drop end buffer.old }
 {
     let mut column = row.len();

@@ -1,5 +1,5 @@
 //! The text of the reply to one line.
-ghost use Rattle.std.specs.Prelude.{◌≡◌, ◌++◌, ◌∷◌, [], IfOk, OnOk, codes, flat_map};
+ghost use Rattle.std.specs.Prelude.{◌≡◌, ◌≤◌, ◌+◌, ◌*◌, ◌++◌, ◌∷◌, [], IfOk, OnOk, codes, flat_map, length};
 ghost use Rattle.lst_replies.specs.Texts.{IsShort, line_text, speaker_text, is_silent, cells_text, entry_text, key_text};
 ghost use Rattle.lst_replies.specs.ReportTexts.{session_text, told_text};
 
@@ -88,11 +88,28 @@ fn push_short(text: &mut Text, session: Option<u32>, reply: &Reply) -> Result<()
 fn push_row(text: &mut Text, session: Option<u32>, row: &Row) -> Result<(), OutOfMemory>
     ensures { OnOk result (text.new ≡ text.old ++ (session_text session ++ (codes "row " ++ (cells_text 32 row.now ++ 10 ∷ [])))) }
 {
-    let mut buffer = [0; 192];
-    let at = write_byte(&mut buffer, 192, b'\n');
-    let at = write_cells(&mut buffer, at, b' ', row);
-    let at = write_word(&mut buffer, at, b"row ");
-    let at = write_session(&mut buffer, at, session);
+    if row.len() <= 5 {
+        push_row_in(text, session, row, &mut [0; 128])
+    } else {
+        push_row_in(text, session, row, &mut [0; 192])
+    }
+}
+
+/// Adds the line of a row by way of a buffer with room for it. A short one is cleared by a few stores.
+#[inline(always)]
+fn push_row_in(
+    text: &mut Text,
+    session: Option<u32>,
+    row: &Row,
+    buffer: &mut [u8],
+) -> Result<(), OutOfMemory>
+    requires { 21 * length row.now + 16 ≤ length buffer.old }
+    ensures { OnOk result (text.new ≡ text.old ++ (session_text session ++ (codes "row " ++ (cells_text 32 row.now ++ 10 ∷ [])))) }
+{
+    let at = write_byte(buffer, buffer.len(), b'\n');
+    let at = write_cells(buffer, at, b' ', row);
+    let at = write_word(buffer, at, b"row ");
+    let at = write_session(buffer, at, session);
     text.push_bytes(&buffer[at..])
 }
 
@@ -117,11 +134,23 @@ fn push_rows(text: &mut Text, rows: &[(Key, Row)]) -> Result<(), OutOfMemory>
 fn push_entry(text: &mut Text, key: Key, row: &Row) -> Result<(), OutOfMemory>
     ensures { OnOk result (text.new ≡ text.old ++ entry_text (key, row.now)) }
 {
-    let mut buffer = [0; 192];
-    let at = write_cells(&mut buffer, 192, b',', row);
-    let at = write_byte(&mut buffer, at, b':');
-    let at = write_number(&mut buffer, at, key);
-    let at = write_byte(&mut buffer, at, b' ');
+    if row.len() <= 5 {
+        push_entry_in(text, key, row, &mut [0; 128])
+    } else {
+        push_entry_in(text, key, row, &mut [0; 192])
+    }
+}
+
+/// Adds a row with its key by way of a buffer with room for both.
+#[inline(always)]
+fn push_entry_in(text: &mut Text, key: Key, row: &Row, buffer: &mut [u8]) -> Result<(), OutOfMemory>
+    requires { 21 * length row.now + 22 ≤ length buffer.old }
+    ensures { OnOk result (text.new ≡ text.old ++ entry_text (key, row.now)) }
+{
+    let at = write_cells(buffer, buffer.len(), b',', row);
+    let at = write_byte(buffer, at, b':');
+    let at = write_number(buffer, at, key);
+    let at = write_byte(buffer, at, b' ');
     text.push_bytes(&buffer[at..])
 }
 
