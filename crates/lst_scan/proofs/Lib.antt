@@ -15,6 +15,7 @@ pub mod Folded
 pub mod Sheets
 pub mod Told
 pub mod Untold
+pub mod Words
 pub mod Seen
 pub mod Loading
 pub mod Lining

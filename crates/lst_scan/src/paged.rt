@@ -145,36 +145,74 @@ fn is_told(head: u64, stamp: u64, last_head: u64, last_stamp: u64) -> bool
     head <= last_head && stamp <= last_stamp
 }
 
-/// What is known of a range once the indirection words of its records and the time words of a page were looked at.
+/// How many records are looked at between two branches.
+const BLOCK: usize = 32;
+
+/// What is known of records of a range once their indirection words and the time words of a page's entries were looked at.
 #[derive(Clone, Copy)]
 struct Survey {
-    /// The page tells of all records.
+    /// The page tells of all of them.
     all_told: bool,
-    /// All its entries are present.
+    /// All entries that were looked at are present.
     all_present: bool,
 }
 
 /// Looks at the indirection words of a range and the time words of a page, with the last words that `last_word` gives for the page's TPS and for the begin.
+/// No word is looked at behind the first block with a record that the page doesn't tell.
+#[inline(never)]
 fn surveyed(heads: &[u64; 256], times: &[u64; 256], last_head: u64, last_stamp: u64) -> Survey
     ensures told { (tps : ℕ) (begin : ℕ) → IsLastWord tps last_head → IsLastWord begin last_stamp → (result.all_told ≡ true) ↔ ((i : ℕ) → i < 256 → (slice_index heads.now i / 2 ≤ tps) × (time_of (slice_index times.now i) ≤ begin)) }
-    ensures present { (result.all_present ≡ true) ↔ ((i : ℕ) → i < 256 → slice_index times.now i % 2 ≡ 1) }
+    ensures present { result.all_told ≡ true → (result.all_present ≡ true) ↔ ((i : ℕ) → i < 256 → slice_index times.now i % 2 ≡ 1) }
 {
+    let mut all_present = true;
+    for block in 0..256 / BLOCK {
+        let known = block_surveyed(heads, times, BLOCK * block, last_head, last_stamp);
+        all_present &= known.all_present;
+        if !known.all_told {
+            return Survey {
+                all_told: false,
+                all_present,
+            };
+        }
+    }
     Survey {
-        all_told: are_told(heads, times, last_head, last_stamp),
-        all_present: are_present(times),
+        all_told: true,
+        all_present,
     }
 }
 
-/// Whether a page tells of all records, by the same words. No word is looked at behind the first record that it doesn't tell.
-fn are_told(heads: &[u64; 256], times: &[u64; 256], last_head: u64, last_stamp: u64) -> bool
-    ensures { (tps : ℕ) (begin : ℕ) → IsLastWord tps last_head → IsLastWord begin last_stamp → (result ≡ true) ↔ ((i : ℕ) → i < 256 → (slice_index heads.now i / 2 ≤ tps) × (time_of (slice_index times.now i) ≤ begin)) }
+/// Looks at those of the block from `start` on, without a branch, so at several at once.
+fn block_surveyed(
+    heads: &[u64; 256],
+    times: &[u64; 256],
+    start: usize,
+    last_head: u64,
+    last_stamp: u64,
+) -> Survey
+    requires inside { start + 32 ≤ 256 }
+    ensures told { (tps : ℕ) (begin : ℕ) → IsLastWord tps last_head → IsLastWord begin last_stamp → (result.all_told ≡ true) ↔ ((i : ℕ) → start ≤ i → i < start + 32 → (slice_index heads.now i / 2 ≤ tps) × (time_of (slice_index times.now i) ≤ begin)) }
+    ensures present { (result.all_present ≡ true) ↔ ((i : ℕ) → start ≤ i → i < start + 32 → slice_index times.now i % 2 ≡ 1) }
 {
-    for slot in 0..256 {
-        if !is_told(heads[slot], times[slot], last_head, last_stamp) {
-            return false;
-        }
+    let mut late = 0;
+    let mut present = 1;
+    for turn in 0..BLOCK {
+        let slot = start + turn;
+        let head = room_taken(heads[slot], last_head);
+        let time = room_taken(times[slot], last_stamp);
+        late |= head | time;
+        present &= times[slot];
     }
-    true
+    Survey {
+        all_told: late <= LAST,
+        all_present: present % 2 == 1,
+    }
+}
+
+/// Half of a word, with the room added that half of the last word has below 2^63: a word behind the last one comes to 2^63 or more.
+fn room_taken(word: u64, last: u64) -> u64
+    ensures { (half : ℕ) → IsLastWord half last → (result < 2 ^ 63) ↔ (word / 2 ≤ half) }
+{
+    word / 2 + (LAST - last / 2)
 }
 
 /// Whether all entries of a page are present, by their time words.
@@ -287,6 +325,7 @@ fn sum_untold(
             sees_others: known.all_present,
         };
     }
+    let all_present = are_present(times);
     let tails = tails_apart(store, range);
     let mut total: u128 = 0;
     for slot in 0..256 {
@@ -308,7 +347,7 @@ fn sum_untold(
     }
     Walked {
         total,
-        sees_others: known.all_present,
+        sees_others: all_present,
     }
 }
 

@@ -39,7 +39,7 @@ returns-then-known-clause-others c = let r = c.requires.reader in
     let skims : Skims c.args.seat.now.view c.load_heads.new.seat.view c.args.s = heads_skim c.args.seat.now.view c.load_heads.new.seat.view c.args.s c.args.range (slice_index c.load_heads.new.out) r.host (subst (λ l. c.args.range < l.ranges) (sym r.seat_of.limits) c.requires.range) c.load_heads.ensures.loads c.load_heads.ensures.found in
     let begin_is : c.begin-begin.result ≡ (knows c.args.seat.now.view c.args.s).begin = c.begin-begin.ensures ∙ ap (λ (k : Known). k.begin) skims.watched.watches.is in
     let told = (c.surveyed-known.ensures.told c.args.tps c.begin-begin.result c.last_word-last_head.ensures c.last_word-last_stamp.ensures).0 c.if-known.true in
-    λ sees i few. entry_seen (knows c.args.seat.now.view c.args.s).begin (slice_index c.args.times.now i) (c.surveyed-known.ensures.present.0 sees i few) (subst (λ (n : ℕ). time_of (slice_index c.args.times.now i) ≤ n) begin_is (told i few).1)
+    λ sees i few. entry_seen (knows c.args.seat.now.view c.args.s).begin (slice_index c.args.times.now i) ((c.surveyed-known.ensures.present c.if-known.true).0 sees i few) (subst (λ (n : ℕ). time_of (slice_index c.args.times.now i) ≤ n) begin_is (told i few).1)
 
 pub loop-slot-init : goal.loop-slot-init
 loop-slot-init c = let r = c.requires.reader in

@@ -39,7 +39,7 @@ returns-then-known-clause-others c = let r = c.requires.reader in
     let skims : Skims c.args.seat.now.view c.load_heads.new.seat.view c.args.s = heads_skim c.args.seat.now.view c.load_heads.new.seat.view c.args.s c.args.range (slice_index c.load_heads.new.out) r.host (subst (λ l. c.args.range < l.ranges) (sym r.seat_of.limits) c.requires.range) c.load_heads.ensures.loads c.load_heads.ensures.found in
     let begin_is : c.begin-begin.result ≡ (knows c.args.seat.now.view c.args.s).begin = c.begin-begin.ensures ∙ ap (λ (k : Known). k.begin) skims.watched.watches.is in
     let told = (c.surveyed-known.ensures.told c.args.tps c.begin-begin.result c.last_word-last_head.ensures c.last_word-last_stamp.ensures).0 c.if-known.true in
-    λ sees i few. ap (λ (b : Bool). cond b (slice_index c.args.values.now i) 0) (entry_seen (knows c.args.seat.now.view c.args.s).begin (slice_index c.args.times.now i) (c.surveyed-known.ensures.present.0 sees i few) (subst (λ (n : ℕ). time_of (slice_index c.args.times.now i) ≤ n) begin_is (told i few).1))
+    λ sees i few. ap (λ (b : Bool). cond b (slice_index c.args.values.now i) 0) (entry_seen (knows c.args.seat.now.view c.args.s).begin (slice_index c.args.times.now i) ((c.surveyed-known.ensures.present c.if-known.true).0 sees i few) (subst (λ (n : ℕ). time_of (slice_index c.args.times.now i) ≤ n) begin_is (told i few).1))
 
 pub loop-slot-init : goal.loop-slot-init
 loop-slot-init c = let r = c.requires.reader in
@@ -48,7 +48,7 @@ loop-slot-init c = let r = c.requires.reader in
       λ page values has. covers_start c.args.seat.now.view c.args.s (number_at c.args.c) (256 * c.args.range) (knows c.args.seat.now.view c.args.s).begin (slice_index values) c.args.times.now,
       stands_first c.args.times.now,
       λ whole pinned needs. skims.finds,
-      adds_first (knows c.args.seat.now.view c.args.s).begin c.args.values.now c.surveyed-known.result.all_present c.args.times.now,
+      adds_first (knows c.args.seat.now.view c.args.s).begin c.args.values.now c.are_present-all_present.result c.args.times.now,
       ahead_start c.args.store.now c.args.seat.now c.load_heads.new.seat c.args.s c.args.range c.args.c c.args.tps c.args.times.now c.consider.ensures r c.requires.range c.requires.column c.requires.page (slice_index c.load_heads.new.out) c.load_heads.new.seat.view c.load_heads.ensures.loads refl (reader_on c.args.store.now c.args.seat.now c.load_heads.new.seat c.args.s r skims.watched c.load_heads.ensures.seat),
     )
 
@@ -70,7 +70,7 @@ loop-slot-preserved c = let r = c.requires.reader in let walks = c.loop-slot.inv
         saves_untold c.args.seat.now.view c.load_heads.new.seat.view c.if-not-is_told.seat.view c.args.s c.args.range c.args.c c.args.tps c.loop-slot.slot c.args.times.now (slice_index c.load_heads.new.out) few c.requires.told c.load_heads.ensures.loads
             (λ both. true≢false (sym ((c.is_told.ensures c.args.tps c.begin-begin.result c.last_word-last_head.ensures c.last_word-last_stamp.ensures).1
             (both.0, subst (λ (n : ℕ). time_of n ≤ c.begin-begin.result) (sym here) (subst (λ (n : ℕ). time_of (slice_index c.args.times.now c.loop-slot.slot) ≤ n) (sym begin_is) both.1))) ∙ w.if-not-is_told.true)),
-        adds_put (knows c.args.seat.now.view c.args.s).begin c.loop-slot.slot c.args.values.now c.surveyed-known.result.all_present c.loop-slot.times c.loop-slot.values c.if-not-is_told.times c.if-not-is_told.values
+        adds_put (knows c.args.seat.now.view c.args.s).begin c.loop-slot.slot c.args.values.now c.are_present-all_present.result c.loop-slot.times c.loop-slot.values c.if-not-is_told.times c.if-not-is_told.values
             (put_short c.loop-slot.times c.if-not-is_told.times c.loop-slot.slot 0 few c.if-not-is_told.array_long w.times-is) (put_short c.loop-slot.values c.if-not-is_told.values c.loop-slot.slot 0 few c.if-not-is_told.array_long2 w.values-is) w.times-is w.values-is c.loop-slot.invariant.4,
         subst (λ (x : Sitting). AreAhead c.args.store.now c.args.seat.now.view x c.args.s c.args.range c.args.c (slice_index c.load_heads.new.out)) (sym w.seat-is) (ahead_on c.args.store.now c.args.seat.now.view c.loop-slot.seat w.column_from-found.new.seat c.args.s c.args.range c.args.c (slice_index c.load_heads.new.out) c.loop-slot.invariant.5 w.column_from-found.ensures.watched w.column_from-found.ensures.reader),
       )
@@ -85,15 +85,15 @@ loop-slot-preserved c = let r = c.requires.reader in let walks = c.loop-slot.inv
                 (ap (λ (n : ℕ). lane_of (knows c.args.seat.now.view c.args.s).begin (slice_index values c.loop-slot.slot) n) here ∙ told.2) (c.loop-slot.invariant.1 page values has)),
             stands_told c.loop-slot.slot c.args.times.now c.loop-slot.times c.if-not-is_told.times w.times-is stands,
             saves_told c.args.seat.now.view c.loop-slot.seat.view c.if-not-is_told.seat.view c.args.s c.args.c (256 * c.args.range) c.loop-slot.slot (ap (λ (x : Sitting). (knows x.view c.args.s).finds) w.seat-is) c.loop-slot.invariant.3,
-            adds_told (knows c.args.seat.now.view c.args.s).begin c.loop-slot.slot c.args.values.now c.surveyed-known.result.all_present c.loop-slot.times c.loop-slot.values c.if-not-is_told.times c.if-not-is_told.values w.times-is w.values-is
-                (λ there. subst (λ (n : ℕ). is_seen (knows c.args.seat.now.view c.args.s).begin n ≡ true) (sym here) (entry_seen (knows c.args.seat.now.view c.args.s).begin (slice_index c.args.times.now c.loop-slot.slot) (c.surveyed-known.ensures.present.0 there c.loop-slot.slot few) early)) c.loop-slot.invariant.4,
+            adds_told (knows c.args.seat.now.view c.args.s).begin c.loop-slot.slot c.args.values.now c.are_present-all_present.result c.loop-slot.times c.loop-slot.values c.if-not-is_told.times c.if-not-is_told.values w.times-is w.values-is
+                (λ there. subst (λ (n : ℕ). is_seen (knows c.args.seat.now.view c.args.s).begin n ≡ true) (sym here) (entry_seen (knows c.args.seat.now.view c.args.s).begin (slice_index c.args.times.now c.loop-slot.slot) (c.are_present-all_present.ensures.0 there c.loop-slot.slot few) early)) c.loop-slot.invariant.4,
             subst (λ (x : Sitting). AreAhead c.args.store.now c.args.seat.now.view x c.args.s c.args.range c.args.c (slice_index c.load_heads.new.out)) (sym w.seat-is) c.loop-slot.invariant.5,
           )
     ]
 
 pub returns-clause-sum : goal.returns-clause-sum
 returns-clause-sum c = λ page has place places. let invariant = c.loop-slot.invariant in let end : c.loop-slot.slot ≡ 256 = (let t = c.loop-slot-test.false in let few = invariant.0.few in omega arith) in
-    ap (λ (n : ℕ). c.loop-slot.total + n) (adds_same (knows c.args.seat.now.view c.args.s).begin c.loop-slot.slot c.args.values.now c.surveyed-known.result.all_present c.loop-slot.times c.loop-slot.values invariant.4 256)
+    ap (λ (n : ℕ). c.loop-slot.total + n) (adds_same (knows c.args.seat.now.view c.args.s).begin c.loop-slot.slot c.args.values.now c.are_present-all_present.result c.loop-slot.times c.loop-slot.values invariant.4 256)
     ∙ subst (λ (n : ℕ). c.loop-slot.total + entries_add (knows c.args.seat.now.view c.args.s).begin (slice_index c.args.values.now) c.loop-slot.times n ≡ sum_of (between place (256 * c.args.range) (256 * c.args.range + n) (table_seen (knows c.args.seat.now.view c.args.s))) c.args.c) end (invariant.1 page c.args.values.now has place places)
 
 pub returns-clause-saves : goal.returns-clause-saves

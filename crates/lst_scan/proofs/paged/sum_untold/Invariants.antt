@@ -13,5 +13,5 @@ invariant-loop-slot l = Walks l.store l.fn.seat.view l.seat l.s (2 ^ 64) l.slot 
     × ((page : HasPage l.fn.seat.view l.s l.range l.c l.tps l.fn.times) (values : List ℕ) → HasValues page values → Covers l.fn.seat.view l.s (number_at l.c) (256 * l.range) l.slot (l.total + entries_add (knows l.fn.seat.view l.s).begin (slice_index values) l.times l.slot))
     × Stands l.slot l.fn.times l.times
     × SavesPart l.fn.seat.view l.seat.view l.s l.c (256 * l.range) (256 * l.range + l.slot)
-    × Adds (knows l.fn.seat.view l.s).begin l.slot l.fn.values l.known.all_present l.times l.values
+    × Adds (knows l.fn.seat.view l.s).begin l.slot l.fn.values l.all_present l.times l.values
     × AreAhead l.store l.fn.seat.view l.seat l.s l.range l.c (slice_index l.heads)
