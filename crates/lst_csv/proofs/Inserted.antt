@@ -1,44 +1,47 @@
--- The lines that insert rows, written one after the other.
-use Rattle.std.proofs.Common.{◌≡◌, ℕ, ◌+◌, ◌<◌, ◌≤◌, List, [], ◌∷◌, ◌++◌, length, map, drop, get_or, codes, decimal, sym, ap, ◌∙◌, append_assoc, add-one, drop-cons, arith}
+-- The lines that insert the rows of records, and the script that they are a part of.
+use Rattle.std.proofs.Common.{◌≡◌, ℕ, List, [], ◌∷◌, ◌++◌, Some, None, drop, map, codes, decimal, refl, sym, ap, ◌∙◌, append_assoc, arith}
 use Rattle.std.proofs.lemmas.Fmt.{decimal_digit}
 use Rattle.std.proofs.lemmas.Grind.{flat_map-append}
-use Rattle.std.proofs.lemmas.List.{append-nil, drop_all}
+use Rattle.std.proofs.lemmas.List.{append-nil}
 use Rattle.lst_model.specs.Cells.{Cell}
 use Rattle.lst_model.specs.declared.lines.Line.{Line}
 use Rattle.lst_model.specs.declared.lines.Line.TheVariants as lines
 use Rattle.lst_model.specs.declared.lines.Call.TheVariants.{Begin, Commit}
-use Rattle.lst_script.specs.Canonical.{canonical_line, header_line, lines_text, named_text}
+use Rattle.lst_script.specs.Canonical.{behind_spaces, canonical_line, cell_pairs, header_line, lines_text, named_text}
 use Rattle.lst_script.specs.Columns.{named}
-use Rattle.lst_csv.specs.Importing.{insert_of, transaction_of}
+use Rattle.lst_csv.specs.Importing.{cells_text, head_of, insert_of, record_line, records_lines, transaction_of}
+use Rattle.lst_csv.specs.Tables.{cell_at, key_of, row_of_record}
 
 zero_is : decimal 0 ≡ 48 ∷ []
 zero_is = decimal_digit 0 (omega arith)
 
+-- cells behind their heads are pairs behind spaces
+cells_are : (names : List (List ℕ)) (row : List Cell) → cells_text (map head_of names) row ≡ behind_spaces (cell_pairs names row)
+cells_are [] row = refl
+cells_are (name ∷ names) [] = refl
+cells_are (name ∷ names) (None ∷ row) = cells_are names row
+cells_are (name ∷ names) (Some number ∷ row) = λ j. (32 ∷ append_assoc name (61 ∷ []) (decimal number) j) ++ cells_are names row j
+
 module _ (names : List (List ℕ)) where
-  abbrev line_of : ℕ × List Cell → List ℕ
-  line_of row = canonical_line (named names) (insert_of row) ++ 10 ∷ []
+  -- the line is the call, the key and the pairs
+  line_is : (fields : List (List ℕ)) → record_line (map head_of names) fields ≡ canonical_line (named names) (insert_of (row_of_record fields)) ++ (10 ∷ [])
+  line_is fields =
+      let key = decimal (key_of fields) in
+      let row = map cell_at (drop 1 fields) in
+      let pairs = behind_spaces (cell_pairs names row) in
+      ap (λ (cells : List ℕ). codes "0 insert " ++ (key ++ (cells ++ (10 ∷ [])))) (cells_are names row)
+      ∙ ap (λ (text : List ℕ). codes "0 insert " ++ text) (sym (append_assoc key pairs (10 ∷ [])))
+      ∙ ap (λ (zero : List ℕ). (zero ++ (codes " insert " ++ (key ++ pairs))) ++ (10 ∷ [])) (sym zero_is)
 
-  abbrev lines_from : List (ℕ × List Cell) → ℕ → List ℕ
-  lines_from rows i = lines_text (named names) (map insert_of (drop i rows))
+  lines_are : (records : List (List (List ℕ))) → records_lines (map head_of names) records ≡ lines_text (named names) (map insert_of (map row_of_record records))
+  lines_are [] = refl
+  lines_are (fields ∷ records) = λ j. line_is fields j ++ lines_are records j
 
-  -- the line of one row more
-  pub one_more_line : (rows : List (ℕ × List Cell)) (i : ℕ) (row : ℕ × List Cell) (front after whole : List ℕ) → i < length rows → row ≡ get_or rows i row → after ≡ front ++ line_of row → front ++ lines_from rows i ≡ whole
-      → after ++ lines_from rows (i + 1) ≡ whole
-  one_more_line rows i row front after whole lt is more so_far =
-      let parts : drop i rows ≡ row ∷ drop (i + 1) rows = drop-cons rows i row lt ∙ (λ j. sym is j ∷ drop (sym (add-one i) j) rows) in
-      ap (λ (text : List ℕ). text ++ lines_from rows (i + 1)) more
-      ∙ append_assoc front (line_of row) (lines_from rows (i + 1))
-      ∙ sym (ap (λ (rest : List (ℕ × List Cell)). front ++ lines_text (named names) (map insert_of rest)) parts)
-      ∙ so_far
-
-  -- no row is left
-  pub all_lines : (rows : List (ℕ × List Cell)) (i : ℕ) (front whole : List ℕ) → length rows ≤ i → front ++ lines_from rows i ≡ whole → front ≡ whole
-  all_lines rows i front whole ended so_far = sym (append-nil front) ∙ ap (λ (rest : List (ℕ × List Cell)). front ++ lines_text (named names) (map insert_of rest)) (sym (drop_all i rows ended)) ∙ so_far
-
-  -- the line that begins, those of the rows, and the one that commits
-  pub whole_script : (rows : List (ℕ × List Cell)) (script : List Line) (there : List (List ℕ)) (front behind after text : List ℕ) → script ≡ lines.Call 0 Begin ∷ [] → front ≡ named_text names script → there ≡ names
-      → behind ≡ front ++ lines_text (named there) (map insert_of rows) → after ≡ behind ++ codes "0 commit\n" → text ≡ after → text ≡ named_text names (transaction_of rows)
-  whole_script rows script there front behind after text begun begins same inserts commits told =
+  -- the line that begins, those of the records, and the one that commits
+  pub whole_script : (heads : List (List ℕ)) (records : List (List (List ℕ))) (front behind after text : List ℕ) → heads ≡ map head_of names → front ≡ named_text names (lines.Call 0 Begin ∷ [])
+      → behind ≡ front ++ records_lines heads records → after ≡ behind ++ codes "0 commit\n" → text ≡ after → text ≡ named_text names (transaction_of (map row_of_record records))
+  whole_script heads records front behind after text same begins inserts commits told =
+      let rows = map row_of_record records in
       let first = canonical_line (named names) (lines.Call 0 Begin) ++ (10 ∷ []) in
       let middle = lines_text (named names) (map insert_of rows) in
       let last = codes "0 commit\n" in
@@ -48,9 +51,9 @@ module _ (names : List (List ℕ)) where
       ∙ sym (flat_map-append (λ (line : Line). canonical_line (named names) line ++ 10 ∷ []) (map insert_of rows) (lines.Call 0 Commit ∷ [])) in
       told
       ∙ commits
-      ∙ ap (λ (t : List ℕ). t ++ last) (inserts ∙ ap (λ (n : List (List ℕ)). front ++ lines_text (named n) (map insert_of rows)) same)
+      ∙ ap (λ (t : List ℕ). t ++ last) (inserts ∙ ap (λ (t : List ℕ). front ++ t) (ap (λ (hs : List (List ℕ)). records_lines hs records) same ∙ lines_are records))
       ∙ append_assoc front middle last
-      ∙ ap (λ (t : List ℕ). t ++ (middle ++ last)) (begins ∙ ap (named_text names) begun)
+      ∙ ap (λ (t : List ℕ). t ++ (middle ++ last)) begins
       ∙ append_assoc head (10 ∷ (first ++ [])) (middle ++ last)
       ∙ ap (λ (t : List ℕ). head ++ (10 ∷ (t ++ (middle ++ last)))) (append-nil first)
       ∙ ap (λ (t : List ℕ). head ++ (10 ∷ (first ++ t))) ends

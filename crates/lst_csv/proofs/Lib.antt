@@ -11,3 +11,4 @@ pub mod Lists
 pub mod Listed
 pub mod Inserted
 pub mod Noted
+pub mod Copied

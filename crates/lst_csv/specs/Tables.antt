@@ -23,9 +23,13 @@ cell_of_field (byte ∷ bytes) = option_map Some (number_of (byte ∷ bytes))
 abbrev pub key_of : List (List ℕ) → ℕ
 key_of fields = unwrap_or (number_of (field_at fields 0)) 0
 
+-- the cell that a field is, null where it is none
+abbrev pub cell_at : List ℕ → Cell
+cell_at field = unwrap_or (cell_of_field field) None
+
 -- the row of a record
 abbrev pub row_of_record : List (List ℕ) → ℕ × List Cell
-row_of_record fields = (key_of fields, map (λ field. unwrap_or (cell_of_field field) None) (drop 1 fields))
+row_of_record fields = (key_of fields, map cell_at (drop 1 fields))
 
 -- ---- the header
 
@@ -87,11 +91,3 @@ Explains columns records refusals.OutOfMemory = Unit {0}
 abbrev pub ExplainsRest : ℕ → ℕ → List ℕ → List (List (List ℕ)) → TableRefusal → Type 0
 ExplainsRest columns place keys records (refusals.Bad at kind) = first_faulty columns place keys records ≡ Some (at, kind)
 ExplainsRest columns place keys records refusals.OutOfMemory = Unit {0}
-
--- ---- what the parts of the reader have
-
--- the records are a table, and these are its names and its rows
-pub record IsTable (columns : ℕ) (records : List (List (List ℕ))) (names : List (List ℕ)) (rows : List (ℕ × List Cell)) : Type 0 where
-  pub faultless : table_fault columns records ≡ None
-  pub names_are : names ≡ names_of records
-  pub rows_are : rows ≡ rows_of records

@@ -1,16 +1,11 @@
-//! The fields of a record as a row, and as names.
-ghost use Rattle.std.specs.Prelude.{◌≡◌, ◌+◌, ◌≤◌, ◌∷◌, [], ◌++◌, length, drop, map, IfOk, decimal};
+//! The fields of a record, and those of a header as names.
+ghost use Rattle.std.specs.Prelude.{◌≡◌, drop, IfOk};
 ghost use Rattle.csv.specs.Records.{fields_of};
-ghost use Rattle.lst_script.specs.Reading.{ReadsEach};
-ghost use Rattle.lst_csv.specs.Tables.{field_at, cell_of_field, is_header as is_header_of};
-ghost use Rattle.lst_csv.specs.Reading.{ReadsRow};
+ghost use Rattle.lst_csv.specs.Tables.{field_at, is_header as is_header_of};
 
-use crate::faults::TableFault;
-use arrayvec::ArrayVec;
 use csv::ByteRecord;
-use lst_model::{Key, OutOfMemory, Row, Text};
+use lst_model::{OutOfMemory, Text};
 use lst_names::{Names, are_names};
-use lst_script::number;
 use std::alloc::Global;
 
 /// The field at a place, which is empty where there is none.
@@ -21,46 +16,6 @@ pub(crate) fn field(fields: &ByteRecord, place: usize) -> &[u8]
         Some(field) => field,
         None => &[],
     }
-}
-
-/// The cell that a field is: null where it is empty, and a number else. None where it is neither.
-fn cell(field: &[u8]) -> Option<Option<u64>>
-    ensures { result ≡ cell_of_field field.now }
-{
-    if field.is_empty() {
-        return Some(None);
-    }
-    number(field).map(Some)
-}
-
-/// The cells behind the key.
-fn read_cells(fields: &ByteRecord, columns: u32) -> Option<Row>
-    requires few { columns ≤ 8 }
-    requires as_many { length (fields_of fields.now) ≡ columns + 1 }
-    ensures { ReadsEach cell_of_field (drop 1 (fields_of fields.now)) result }
-{
-    let mut row = Row::of_numbers(ArrayVec::new());
-    for column in 0..columns {
-        row.push(cell(field(fields, column as usize + 1))?);
-    }
-    Some(row)
-}
-
-/// The key and the row of a record, or what is wrong with its fields.
-pub(crate) fn read_row(fields: &ByteRecord, columns: u32) -> Result<(Key, Row), TableFault>
-    requires { columns ≤ 8 }
-    ensures { ReadsRow columns (fields_of fields.now) result }
-{
-    if fields.len() != columns as usize + 1 {
-        return Err(TableFault::BadLength);
-    }
-    let Some(key) = number(field(fields, 0)) else {
-        return Err(TableFault::BadField);
-    };
-    let Some(row) = read_cells(fields, columns) else {
-        return Err(TableFault::BadField);
-    };
-    Ok((key, row))
 }
 
 /// The fields behind the first, as names.

@@ -18,7 +18,7 @@ mod writing;
 
 pub use faults::{TableFault, TableRefusal};
 pub use folding::dump_history;
-pub use importing::{NamedRows, import_text, read_table};
+pub use importing::import_text;
 pub use laws::{
     script_of_any_table_is_read, script_of_table_is_read, text_of_table_is_the_same,
     written_records_are_read_again, written_table_is_read_again,

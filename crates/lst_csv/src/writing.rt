@@ -6,7 +6,6 @@ ghost use Rattle.lst_csv.specs.Records.{text_of_records};
 ghost use Rattle.lst_csv.specs.Writing.{HasWritten, field_of_cell, header_of, record_of_row, rows_text as rows_text_of, table_text};
 
 use csv::{ByteRecord, Writer, WriterBuilder};
-use itoa::Buffer;
 use lst_model::{Key, OutOfMemory, Row, RowList, Table, Text};
 use lst_names::Names;
 use std::alloc::{AllocError, Global};
@@ -113,12 +112,10 @@ fn push_cell(bytes: &mut Vec<u8>, cell: Option<u64>) -> Result<(), AllocError>
     }
 }
 
-/// Puts a number behind a text, as a field.
+/// Puts a number behind a text, as a field, which needs no quotes.
 #[inline]
 fn push_number(bytes: &mut Vec<u8>, number: u64) -> Result<(), AllocError>
     ensures { OnOk result (bytes.new.items ≡ bytes.old.items ++ field_text default_writer (decimal number)) }
 {
-    let mut buffer = Buffer::new();
-    bytes.extend_from_slice(buffer.format(number).as_bytes())?;
-    Ok(())
+    lst_script::push_number(bytes, number)
 }

@@ -1,0 +1,40 @@
+use Rattle.std.proofs.Common.{◌≡◌, ◌<◌, ◌≤◌, ◌++◌, ℕ, List, decimal, get_or, length, true, refl, ap, ◌∙◌, rules, arith}
+use Rattle.std.specs.Char.{is_ascii_digit}
+use Rattle.lst_script.proofs.Beginnings.{few_small, digit_small}
+use Rattle.lst_script.proofs.Digits.{AreDigits-more}
+use Rattle.lst_csv.proofs.Copied.{one_copied, all_copied}
+use Rattle.lst_csv.proofs.inserting.push_field.Goals as goal
+
+pub overflow_mul-value : goal.overflow_mul-value
+overflow_mul-value c =
+    let few : length c.args.field.now ≤ 19 = search rules in
+    let small = few_small c.args.field.now c.loop-byte.byte-index c.loop-byte.value (omega (arith, c.loop-byte-test.true)) (omega (arith, c.loop-byte-test.true, few)) c.loop-byte.invariant.0 in
+    omega (arith, small)
+
+pub overflow_add-value : goal.overflow_add-value
+overflow_add-value c =
+    let few : length c.args.field.now ≤ 19 = search rules in
+    let small = few_small c.args.field.now c.loop-byte.byte-index c.loop-byte.value (omega (arith, c.loop-byte-test.true)) (omega (arith, c.loop-byte-test.true, few)) c.loop-byte.invariant.0 in
+    let is_digit : is_ascii_digit (get_or c.args.field.now c.loop-byte.byte-index 0) ≡ true = search rules in
+    let digit = digit_small (get_or c.args.field.now c.loop-byte.byte-index 0) is_digit in
+    omega (arith, small, digit, c.from.ensures)
+
+pub loop-byte-preserved : goal.loop-byte-preserved
+loop-byte-preserved c =
+    let field = c.args.field.now in
+    let i = c.loop-byte.byte-index in
+    let few : length field ≤ 19 = search rules in
+    let small = few_small field i c.loop-byte.value (omega (arith, c.loop-byte-test.true)) (omega (arith, c.loop-byte-test.true, few)) c.loop-byte.invariant.0 in
+    let is_digit : is_ascii_digit (get_or field i 0) ≡ true = search rules in (
+      rw (c.from.ensures) (AreDigits-more field i c.loop-byte.value c.loop-byte-test.true is_digit c.loop-byte.invariant.0 (omega (arith, digit_small (get_or field i 0) is_digit, small))),
+      one_copied field c.make_room.new.bytes.items c.loop-byte.bytes.items c.push_reserved.new.self.items i (get_or field i 0) c.loop-byte-test.true refl c.loop-byte.invariant.1 c.push_reserved.ensures.items,
+      omega (arith, c.push_reserved.ensures.len, c.push_reserved.ensures.capacity, c.loop-byte.invariant.2),
+    )
+
+pub returns-clause-text : goal.returns-clause-text
+returns-clause-text c =
+    let field = c.args.field.now in
+    let some : 0 < length field = search rules in
+    let lead : get_or field 0 0 ≡ 48 → ⊥ = search rules in
+    all_copied field c.make_room.new.bytes.items c.loop-byte.bytes.items c.loop-byte.byte-index c.loop-byte.value some lead c.loop-byte-test.false c.loop-byte.invariant.0 c.loop-byte.invariant.1
+    ∙ ap (λ (text : List ℕ). text ++ decimal c.loop-byte.value) c.make_room.ensures.same
