@@ -16,11 +16,14 @@ use Rattle.lst_rule.specs.Stores.{Looked}
 use Rattle.lst_rule.specs.PageSteps.{PageLooked, FrameLoaded}
 use Rattle.lst_rule.specs.Runs.{place_in, LoadsRun}
 use Rattle.lst_rule.specs.Watching.{Watched}
+use Rattle.lst_rule.specs.TailLoads.{LoadsOf}
+use Rattle.lst_rule.proofs.Finds.{loads_join, loads_weaker}
+use Rattle.lst_walk.specs.Chains.{IsTailOf}
 use Rattle.lst_refinement.specs.Folding.{NeedsNoTail}
 use Rattle.lst_session.specs.Crews.{words_of}
 use Rattle.lst_session.proofs.Crewed.{kept_words}
-use Rattle.lst_scan.specs.Savings.{SavesPart, TellsFrame, TellsNone, TellsStamps}
-use Rattle.lst_scan.proofs.Folded.{same_pin, page_told}
+use Rattle.lst_scan.specs.Savings.{IsOfUntold, SavesPart, TellsFrame, TellsNone, TellsStamps}
+use Rattle.lst_scan.proofs.Folded.{same_pin, page_told, untold_wider}
 
 -- ---- many loads where each word is known
 
@@ -81,14 +84,16 @@ stamps_told v a w s range column frame tps stamps watched tells lineage loads wh
 -- ---- records
 
 -- a part with one more record, of which the page in hand tells
-pub saves_told : (v a b : View) (s column low slot : ℕ) → (knows b s).finds ≡ (knows a s).finds → SavesPart v a s column low (low + slot) → SavesPart v b s column low (low + (slot + 1))
-saves_told v a b s column low slot same saves whole pinned needs = same ∙ saves whole pinned (λ rec from to. needs rec from (omega arith))
+pub saves_told : (v a b : View) (s column low slot : ℕ) → b ≡ a → SavesPart v a s column low (low + slot) → SavesPart v b s column low (low + (slot + 1))
+saves_told v a b s column low slot same saves = subst (λ (u : View). SavesPart v u s column low (low + (slot + 1))) (sym same) (λ whole pinned. let both = saves whole pinned in (
+  λ needs. both.0 (λ rec from to. needs rec from (omega arith)),
+  loads_weaker (IsOfUntold v a s column low (low + slot)) (IsOfUntold v a s column low (low + (slot + 1))) (λ t of. (of.0, of.1, (omega arith), of.3, of.4)) v a s both.1,
+))
 
--- a part whose last record isn't told: then a read of it needs a tail record
-pub saves_untold : (v w d : View) (s range column tps slot : ℕ) (stamps : List ℕ) (heads : ℕ → ℕ) → slot < RANGE_RECORDS → TellsStamps v s range column tps stamps → LoadsRun (Heads range) heads v s RANGE_RECORDS w
-    → ((heads slot / 2 ≤ tps) × (time_of (slice_index stamps slot) ≤ (knows v s).begin) → ⊥) → SavesPart v d s column (256 * range) (256 * range + (slot + 1))
-saves_untold v w d s range column tps slot stamps heads few tells loads untold whole pinned needs = let both = tells whole pinned in
-    let need : NeedsNoTail (words_of v) (256 * range + slot) column (knows v s).begin = needs (256 * range + slot) (omega arith) (omega arith) in
+-- a record that the page doesn't tell: a read of it needs a tail record
+pub needs_tail : (v w : View) (s range column tps slot : ℕ) (stamps : List ℕ) (heads : ℕ → ℕ) → slot < RANGE_RECORDS → TellsStamps v s range column tps stamps → LoadsRun (Heads range) heads v s RANGE_RECORDS w
+    → ((heads slot / 2 ≤ tps) × (time_of (slice_index stamps slot) ≤ (knows v s).begin) → ⊥) → v.whole ≡ true → 0 < (knows v s).pages.session.pin → NeedsNoTail (words_of v) (256 * range + slot) column (knows v s).begin → ⊥
+needs_tail v w s range column tps slot stamps heads few tells loads untold whole pinned need = let both = tells whole pinned in
     let in_range : range_of (256 * range + slot) ≡ range = omega arith in
     let at_slot : (256 * range + slot) % 256 ≡ slot = omega arith in
     let head_is : (words_of v).heads (256 * range + slot) ≡ heads slot = run_finds (Heads range) heads v w s RANGE_RECORDS loads whole slot few in
@@ -97,7 +102,20 @@ saves_untold v w d s range column tps slot stamps heads few tells loads untold w
     subst (λ (r : ℕ). time_of (stamp_in ((words_of v).frames ((words_of v).directory r column)) ((256 * range + slot) % 256)) ≤ (knows v s).begin) in_range need.early in
     let early : time_of (stamp_in ((words_of v).frames ((words_of v).directory range column)) slot) ≤ (knows v s).begin =
     subst (λ (i : ℕ). time_of (stamp_in ((words_of v).frames ((words_of v).directory range column)) i) ≤ (knows v s).begin) at_slot early_at in
-    absurd (untold (
+    untold (
       subst (λ (n : ℕ). heads slot / 2 ≤ n) (sym both.0) (subst (λ (n : ℕ). n / 2 ≤ tps_at (words_of v).directory (words_of v).frames range column) head_is folded),
       subst (λ (n : ℕ). time_of n ≤ (knows v s).begin) (sym (both.1 slot few)) early,
-    ))
+    )
+
+-- a part whose last record isn't told, and was walked
+pub saves_untold : (v w a d : View) (s range column tps slot : ℕ) (stamps : List ℕ) (heads : ℕ → ℕ) → slot < RANGE_RECORDS → TellsStamps v s range column tps stamps → LoadsRun (Heads range) heads v s RANGE_RECORDS w
+    → ((heads slot / 2 ≤ tps) × (time_of (slice_index stamps slot) ≤ (knows v s).begin) → ⊥) → LoadsOf a d s (IsTailOf d s (256 * range + slot)) → Watched a d s
+    → SavesPart v a s column (256 * range) (256 * range + slot) → SavesPart v d s column (256 * range) (256 * range + (slot + 1))
+saves_untold v w a d s range column tps slot stamps heads few tells loads untold walk watched saves whole pinned =
+    let needs : NeedsNoTail (words_of v) (256 * range + slot) column (knows v s).begin → ⊥ = needs_tail v w s range column tps slot stamps heads few tells loads untold whole pinned in (
+      λ none. absurd (needs (none (256 * range + slot) (omega arith) (omega arith))),
+      loads_join (IsOfUntold v d s column (256 * range) (256 * range + (slot + 1))) v a d s
+          (loads_weaker (IsOfUntold v a s column (256 * range) (256 * range + slot)) (IsOfUntold v d s column (256 * range) (256 * range + (slot + 1)))
+          (λ t of. untold_wider v a d s column (256 * range) (256 * range + slot) (256 * range) (256 * range + (slot + 1)) t watched (omega arith) (omega arith) of) v a s (saves whole pinned).1)
+          (loads_weaker (IsTailOf d s (256 * range + slot)) (IsOfUntold v d s column (256 * range) (256 * range + (slot + 1))) (λ t is. (256 * range + slot, (omega arith), (omega arith), needs, is)) a d s walk),
+    )

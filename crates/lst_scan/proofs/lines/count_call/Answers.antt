@@ -17,9 +17,9 @@ pub returns-clause-session : goal.returns-clause-session
 returns-clause-session c = (has_scanned c.args.store.now c.args.crew.now c.count-rows.new.seat c.args.s c.requires.crew c.count-rows.ensures.reader.seat_of c.requires.session (sym c.is_open.ensures ∙ c.if-not-is_open.false) c.count-rows.ensures.watched, c.count-rows.ensures.count)
 
 pub returns-then-not-is_open-clause-saves : goal.returns-then-not-is_open-clause-saves
-returns-then-not-is_open-clause-saves c tells opened folded = absurd (true≢false (sym opened ∙ (sym c.is_open.ensures ∙ c.if-not-is_open.true)))
+returns-then-not-is_open-clause-saves c tells opened = absurd (true≢false (sym opened ∙ (sym c.is_open.ensures ∙ c.if-not-is_open.true)))
 
 pub returns-clause-saves : goal.returns-clause-saves
-returns-clause-saves c tells opened folded = sum_saves c.args.crew.now.seat.view c.count-rows.new.seat.view c.args.s 0 (crew_view c.args.store.now c.args.crew.now c.requires.crew tells) c.consider.ensures
-    (c.requires.crew.pinned c.args.s c.requires.session) (subst (λ (l : Limits). 0 < l.columns) (sym c.requires.crew.seat_of.limits) c.args.store.now.layout.valid.columns.0) opened folded
+returns-clause-saves c tells opened = sum_saves c.args.crew.now.seat.view c.count-rows.new.seat.view c.args.s 0 (crew_view c.args.store.now c.args.crew.now c.requires.crew tells) c.consider.ensures
+    (c.requires.crew.pinned c.args.s c.requires.session) (subst (λ (l : Limits). 0 < l.columns) (sym c.requires.crew.seat_of.limits) c.args.store.now.layout.valid.columns.0) opened
     (subst (λ (l : Limits). SavesPart c.args.crew.now.seat.view c.count-rows.new.seat.view c.args.s 0 0 (record_count l)) (sym c.requires.crew.seat_of.limits) c.count-rows.ensures.saves)

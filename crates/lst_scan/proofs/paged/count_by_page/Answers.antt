@@ -33,7 +33,7 @@ returns-clause-saves c = let r = c.requires.reader in
     (hand_low c.args.seat.now.view c.args.s c.args.range 0 c.args.frame c.consider.ensures r.host r.own c.requires.frame) c.load_frame-tps.ensures.loaded c.load_times.ensures.loads c.load_times.ensures.found in
     let end : 256 * c.args.range + 256 ≡ 256 * (c.args.range + 1) = omega arith in
     subst (λ (n : ℕ). SavesPart c.args.seat.now.view c.count_untold-walked.new.seat.view c.args.s 0 (256 * c.args.range) n) end
-    (saves_join c.args.seat.now.view c.load_times.new.seat.view c.count_untold-walked.new.seat.view c.args.s 0 (256 * c.args.range) (256 * c.args.range) (256 * c.args.range + 256) skims.watched (omega arith) (omega arith)
+    (saves_join c.args.seat.now.view c.load_times.new.seat.view c.count_untold-walked.new.seat.view c.args.s 0 (256 * c.args.range) (256 * c.args.range) (256 * c.args.range + 256) skims.watched c.count_untold-walked.ensures.watched (omega arith) (omega arith)
     (none_saves c.args.seat.now.view c.load_times.new.seat.view c.args.s 0 (256 * c.args.range) skims.finds) c.count_untold-walked.ensures.saves)
 
 pub returns-clause-watched : goal.returns-clause-watched

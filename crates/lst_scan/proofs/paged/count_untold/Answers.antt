@@ -16,6 +16,7 @@ use Rattle.lst_scan.proofs.Seeing.{one_weight, no_weight}
 use Rattle.lst_scan.proofs.Sheets.{heads_skim, put_short, ahead_start, ahead_on, ahead_at, ahead_cell, ahead_packed, AreAhead, walks_start, walks_told, walks_walked, covers_start, covers_put}
 use Rattle.lst_scan.proofs.Told.{one_told, ones_told, covers_told, covers_same, stands_first, stands_told, stands_put}
 use Rattle.lst_scan.proofs.Seen.{entry_seen}
+use Rattle.lst_scan.proofs.Folded.{quiet_saves}
 use Rattle.lst_scan.proofs.Untold.{saves_told, saves_untold}
 use Rattle.lst_scan.proofs.paged.count_untold.Goals.{then-not-is_told+then-is_some, then-not-is_told+else-is_some, else-not-is_told}
 use Rattle.lst_scan.proofs.paged.count_untold.Goals as goal
@@ -34,6 +35,11 @@ returns-then-known-clause-count c = let r = c.requires.reader in
     λ place places. ones_told c.args.store.now c.args.seat.now c.args.s c.args.range 0 c.args.tps c.args.times.now c.consider.ensures r c.requires.range c.args.store.now.layout.valid.columns.0 c.requires.page (slice_index c.load_heads.new.out) c.load_heads.new.seat.view c.load_heads.ensures.loads all 256 (omega arith) place places
     ∙ sym (count_is (between place (256 * c.args.range) (256 * c.args.range + 256) (table_seen (knows c.args.seat.now.view c.args.s))))
 
+pub returns-then-known-clause-saves : goal.returns-then-known-clause-saves
+returns-then-known-clause-saves c = let r = c.requires.reader in
+    let skims : Skims c.args.seat.now.view c.load_heads.new.seat.view c.args.s = heads_skim c.args.seat.now.view c.load_heads.new.seat.view c.args.s c.args.range (slice_index c.load_heads.new.out) r.host (subst (λ l. c.args.range < l.ranges) (sym r.seat_of.limits) c.requires.range) c.load_heads.ensures.loads c.load_heads.ensures.found in
+    quiet_saves c.args.seat.now.view c.load_heads.new.seat.view c.args.s 0 (256 * c.args.range) (256 * c.args.range + 256) skims.finds
+
 pub returns-then-known-clause-others : goal.returns-then-known-clause-others
 returns-then-known-clause-others c = let r = c.requires.reader in
     let skims : Skims c.args.seat.now.view c.load_heads.new.seat.view c.args.s = heads_skim c.args.seat.now.view c.load_heads.new.seat.view c.args.s c.args.range (slice_index c.load_heads.new.out) r.host (subst (λ l. c.args.range < l.ranges) (sym r.seat_of.limits) c.requires.range) c.load_heads.ensures.loads c.load_heads.ensures.found in
@@ -47,7 +53,7 @@ loop-slot-init c = let r = c.requires.reader in
       walks_start c.args.store.now c.args.seat.now c.load_heads.new.seat c.args.s 1 c.consider.ensures r skims c.load_heads.ensures.seat,
       covers_start c.args.seat.now.view c.args.s (λ _. 1) (256 * c.args.range) (knows c.args.seat.now.view c.args.s).begin (λ (slot : ℕ). 1) c.args.times.now,
       stands_first c.args.times.now,
-      λ whole pinned needs. skims.finds,
+      quiet_saves c.args.seat.now.view c.load_heads.new.seat.view c.args.s 0 (256 * c.args.range) (256 * c.args.range + 0) skims.finds,
       ahead_start c.args.store.now c.args.seat.now c.load_heads.new.seat c.args.s c.args.range 0 c.args.tps c.args.times.now c.consider.ensures r c.requires.range c.args.store.now.layout.valid.columns.0 c.requires.page (slice_index c.load_heads.new.out) c.load_heads.new.seat.view c.load_heads.ensures.loads refl (reader_on c.args.store.now c.args.seat.now c.load_heads.new.seat c.args.s r skims.watched c.load_heads.ensures.seat),
     )
 
@@ -68,9 +74,9 @@ loop-slot-preserved c = let r = c.requires.reader in let walks = c.loop-slot.inv
                 0 1 (put_short c.loop-slot.times c.if-not-is_told.times c.loop-slot.slot 0 few c.if-not-is_told.array_long w.times-is) c.consider.ensures r.host on.0 on.1
                 (omega arith) (let e = w.total-is in omega arith) w.times-is c.loop-slot.invariant.1,
             stands_put c.loop-slot.slot 0 c.args.times.now c.loop-slot.times c.if-not-is_told.times w.times-is stands,
-            saves_untold c.args.seat.now.view c.load_heads.new.seat.view c.if-not-is_told.seat.view c.args.s c.args.range 0 c.args.tps c.loop-slot.slot c.args.times.now (slice_index c.load_heads.new.out) few c.requires.told c.load_heads.ensures.loads
+            subst (λ (x : Sitting). SavesPart c.args.seat.now.view x.view c.args.s 0 (256 * c.args.range) (256 * c.args.range + (c.loop-slot.slot + 1))) (sym w.seat-is) (saves_untold c.args.seat.now.view c.load_heads.new.seat.view c.loop-slot.seat.view w.column_from.new.seat.view c.args.s c.args.range 0 c.args.tps c.loop-slot.slot c.args.times.now (slice_index c.load_heads.new.out) few c.requires.told c.load_heads.ensures.loads
                 (λ both. true≢false (sym ((c.is_told.ensures c.args.tps c.begin-begin.result c.last_word-last_head.ensures c.last_word-last_stamp.ensures).1
-                (both.0, subst (λ (n : ℕ). time_of n ≤ c.begin-begin.result) (sym here) (subst (λ (n : ℕ). time_of (slice_index c.args.times.now c.loop-slot.slot) ≤ n) (sym begin_is) both.1))) ∙ w.if-not-is_told.true)),
+                (both.0, subst (λ (n : ℕ). time_of n ≤ c.begin-begin.result) (sym here) (subst (λ (n : ℕ). time_of (slice_index c.args.times.now c.loop-slot.slot) ≤ n) (sym begin_is) both.1))) ∙ w.if-not-is_told.true)) w.column_from.ensures.loads w.column_from.ensures.watched c.loop-slot.invariant.3),
             subst (λ (x : Sitting). AreAhead c.args.store.now c.args.seat.now.view x c.args.s c.args.range 0 (slice_index c.load_heads.new.out)) (sym w.seat-is) (ahead_on c.args.store.now c.args.seat.now.view c.loop-slot.seat w.column_from.new.seat c.args.s c.args.range 0 (slice_index c.load_heads.new.out) c.loop-slot.invariant.4 w.column_from.ensures.watched w.column_from.ensures.reader),
           )
       | then-not-is_told+else-is_some w ↦
@@ -81,9 +87,9 @@ loop-slot-preserved c = let r = c.requires.reader in let walks = c.loop-slot.inv
                 0 0 (put_short c.loop-slot.times c.if-not-is_told.times c.loop-slot.slot 0 few c.if-not-is_told.array_long w.times-is) c.consider.ensures r.host on.0 on.1
                 (omega arith) (let e = w.total-is in omega arith) w.times-is c.loop-slot.invariant.1,
             stands_put c.loop-slot.slot 0 c.args.times.now c.loop-slot.times c.if-not-is_told.times w.times-is stands,
-            saves_untold c.args.seat.now.view c.load_heads.new.seat.view c.if-not-is_told.seat.view c.args.s c.args.range 0 c.args.tps c.loop-slot.slot c.args.times.now (slice_index c.load_heads.new.out) few c.requires.told c.load_heads.ensures.loads
+            subst (λ (x : Sitting). SavesPart c.args.seat.now.view x.view c.args.s 0 (256 * c.args.range) (256 * c.args.range + (c.loop-slot.slot + 1))) (sym w.seat-is) (saves_untold c.args.seat.now.view c.load_heads.new.seat.view c.loop-slot.seat.view w.column_from.new.seat.view c.args.s c.args.range 0 c.args.tps c.loop-slot.slot c.args.times.now (slice_index c.load_heads.new.out) few c.requires.told c.load_heads.ensures.loads
                 (λ both. true≢false (sym ((c.is_told.ensures c.args.tps c.begin-begin.result c.last_word-last_head.ensures c.last_word-last_stamp.ensures).1
-                (both.0, subst (λ (n : ℕ). time_of n ≤ c.begin-begin.result) (sym here) (subst (λ (n : ℕ). time_of (slice_index c.args.times.now c.loop-slot.slot) ≤ n) (sym begin_is) both.1))) ∙ w.if-not-is_told.true)),
+                (both.0, subst (λ (n : ℕ). time_of n ≤ c.begin-begin.result) (sym here) (subst (λ (n : ℕ). time_of (slice_index c.args.times.now c.loop-slot.slot) ≤ n) (sym begin_is) both.1))) ∙ w.if-not-is_told.true)) w.column_from.ensures.loads w.column_from.ensures.watched c.loop-slot.invariant.3),
             subst (λ (x : Sitting). AreAhead c.args.store.now c.args.seat.now.view x c.args.s c.args.range 0 (slice_index c.load_heads.new.out)) (sym w.seat-is) (ahead_on c.args.store.now c.args.seat.now.view c.loop-slot.seat w.column_from.new.seat c.args.s c.args.range 0 (slice_index c.load_heads.new.out) c.loop-slot.invariant.4 w.column_from.ensures.watched w.column_from.ensures.reader),
           )
       | else-not-is_told w ↦
@@ -95,7 +101,7 @@ loop-slot-preserved c = let r = c.requires.reader in let walks = c.loop-slot.inv
                 (covers_told c.args.seat.now.view c.args.s (λ _. 1) (256 * c.args.range) c.loop-slot.slot c.loop-slot.total (knows c.args.seat.now.view c.args.s).begin (λ (slot : ℕ). 1) c.loop-slot.times c.consider.ensures r.host told.0 told.1
                 (ap (λ (n : ℕ). lane_of (knows c.args.seat.now.view c.args.s).begin 1 n) here ∙ told.2) c.loop-slot.invariant.1),
             stands_told c.loop-slot.slot c.args.times.now c.loop-slot.times c.if-not-is_told.times w.times-is stands,
-            saves_told c.args.seat.now.view c.loop-slot.seat.view c.if-not-is_told.seat.view c.args.s 0 (256 * c.args.range) c.loop-slot.slot (ap (λ (x : Sitting). (knows x.view c.args.s).finds) w.seat-is) c.loop-slot.invariant.3,
+            saves_told c.args.seat.now.view c.loop-slot.seat.view c.if-not-is_told.seat.view c.args.s 0 (256 * c.args.range) c.loop-slot.slot (ap (λ (x : Sitting). x.view) w.seat-is) c.loop-slot.invariant.3,
             subst (λ (x : Sitting). AreAhead c.args.store.now c.args.seat.now.view x c.args.s c.args.range 0 (slice_index c.load_heads.new.out)) (sym w.seat-is) c.loop-slot.invariant.4,
           )
     ]

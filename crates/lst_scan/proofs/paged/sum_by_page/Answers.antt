@@ -26,7 +26,7 @@ returns-clause-watched c = watches_join c.args.seat.now.view c.open_page-tps.new
 pub returns-clause-saves : goal.returns-clause-saves
 returns-clause-saves c = let skims = c.open_page-tps.ensures.skims in let end : 256 * c.args.range + 256 ≡ 256 * (c.args.range + 1) = omega arith in
     subst (λ (n : ℕ). SavesPart c.args.seat.now.view c.sum_untold-walked.new.seat.view c.args.s c.args.c (256 * c.args.range) n) end
-    (saves_join c.args.seat.now.view c.open_page-tps.new.seat.view c.sum_untold-walked.new.seat.view c.args.s c.args.c (256 * c.args.range) (256 * c.args.range) (256 * c.args.range + 256) skims.watched (omega arith) (omega arith)
+    (saves_join c.args.seat.now.view c.open_page-tps.new.seat.view c.sum_untold-walked.new.seat.view c.args.s c.args.c (256 * c.args.range) (256 * c.args.range) (256 * c.args.range + 256) skims.watched c.sum_untold-walked.ensures.watched (omega arith) (omega arith)
     (none_saves c.args.seat.now.view c.open_page-tps.new.seat.view c.args.s c.args.c (256 * c.args.range) skims.finds) c.sum_untold-walked.ensures.saves)
 
 pub returns-clause-sum : goal.returns-clause-sum

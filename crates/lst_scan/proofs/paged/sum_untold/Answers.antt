@@ -17,6 +17,7 @@ use Rattle.lst_scan.proofs.Sheets.{heads_skim, put_short, ahead_start, ahead_on,
 use Rattle.lst_scan.proofs.Told.{number_told, numbers_told, covers_told, covers_same, stands_first, stands_told, stands_put}
 use Rattle.lst_scan.proofs.Seen.{entry_seen}
 use Rattle.lst_scan.proofs.Adding.{adds_first, adds_told, adds_put, adds_same}
+use Rattle.lst_scan.proofs.Folded.{quiet_saves}
 use Rattle.lst_scan.proofs.Untold.{saves_told, saves_untold}
 use Rattle.lst_scan.proofs.paged.sum_untold.Goals.{then-not-is_told, else-not-is_told}
 use Rattle.lst_scan.proofs.paged.sum_untold.Goals as goal
@@ -34,6 +35,11 @@ returns-then-known-clause-sum c = let r = c.requires.reader in
     λ i few. let both = (c.surveyed-known.ensures.told c.args.tps c.begin-begin.result c.last_word-last_head.ensures c.last_word-last_stamp.ensures).0 c.if-known.true i few in (both.0, subst (λ (n : ℕ). time_of (slice_index c.args.times.now i) ≤ n) begin_is both.1) in
     λ page has place places. numbers_told c.args.store.now c.args.seat.now c.args.s c.args.range c.args.c c.args.tps c.args.times.now c.consider.ensures r c.requires.range c.requires.column page (slice_index c.load_heads.new.out) c.load_heads.new.seat.view c.load_heads.ensures.loads all c.args.values.now has 256 (omega arith) place places
 
+pub returns-then-known-clause-saves : goal.returns-then-known-clause-saves
+returns-then-known-clause-saves c = let r = c.requires.reader in
+    let skims : Skims c.args.seat.now.view c.load_heads.new.seat.view c.args.s = heads_skim c.args.seat.now.view c.load_heads.new.seat.view c.args.s c.args.range (slice_index c.load_heads.new.out) r.host (subst (λ l. c.args.range < l.ranges) (sym r.seat_of.limits) c.requires.range) c.load_heads.ensures.loads c.load_heads.ensures.found in
+    quiet_saves c.args.seat.now.view c.load_heads.new.seat.view c.args.s c.args.c (256 * c.args.range) (256 * c.args.range + 256) skims.finds
+
 pub returns-then-known-clause-others : goal.returns-then-known-clause-others
 returns-then-known-clause-others c = let r = c.requires.reader in
     let skims : Skims c.args.seat.now.view c.load_heads.new.seat.view c.args.s = heads_skim c.args.seat.now.view c.load_heads.new.seat.view c.args.s c.args.range (slice_index c.load_heads.new.out) r.host (subst (λ l. c.args.range < l.ranges) (sym r.seat_of.limits) c.requires.range) c.load_heads.ensures.loads c.load_heads.ensures.found in
@@ -47,7 +53,7 @@ loop-slot-init c = let r = c.requires.reader in
       walks_start c.args.store.now c.args.seat.now c.load_heads.new.seat c.args.s (2 ^ 64) c.consider.ensures r skims c.load_heads.ensures.seat,
       λ page values has. covers_start c.args.seat.now.view c.args.s (number_at c.args.c) (256 * c.args.range) (knows c.args.seat.now.view c.args.s).begin (slice_index values) c.args.times.now,
       stands_first c.args.times.now,
-      λ whole pinned needs. skims.finds,
+      quiet_saves c.args.seat.now.view c.load_heads.new.seat.view c.args.s c.args.c (256 * c.args.range) (256 * c.args.range + 0) skims.finds,
       adds_first (knows c.args.seat.now.view c.args.s).begin c.args.values.now c.are_present-all_present.result c.args.times.now,
       ahead_start c.args.store.now c.args.seat.now c.load_heads.new.seat c.args.s c.args.range c.args.c c.args.tps c.args.times.now c.consider.ensures r c.requires.range c.requires.column c.requires.page (slice_index c.load_heads.new.out) c.load_heads.new.seat.view c.load_heads.ensures.loads refl (reader_on c.args.store.now c.args.seat.now c.load_heads.new.seat c.args.s r skims.watched c.load_heads.ensures.seat),
     )
@@ -67,9 +73,9 @@ loop-slot-preserved c = let r = c.requires.reader in let walks = c.loop-slot.inv
             (let e = w.from-total.ensures ∙ (w.unwrap_or.ensures ∙ number_weight c.args.c on.0 w.column_from-found.result on.2) in omega arith)
             w.total-is w.times-is (c.loop-slot.invariant.1 page values has),
         stands_put c.loop-slot.slot 0 c.args.times.now c.loop-slot.times c.if-not-is_told.times w.times-is stands,
-        saves_untold c.args.seat.now.view c.load_heads.new.seat.view c.if-not-is_told.seat.view c.args.s c.args.range c.args.c c.args.tps c.loop-slot.slot c.args.times.now (slice_index c.load_heads.new.out) few c.requires.told c.load_heads.ensures.loads
+        subst (λ (x : Sitting). SavesPart c.args.seat.now.view x.view c.args.s c.args.c (256 * c.args.range) (256 * c.args.range + (c.loop-slot.slot + 1))) (sym w.seat-is) (saves_untold c.args.seat.now.view c.load_heads.new.seat.view c.loop-slot.seat.view w.column_from-found.new.seat.view c.args.s c.args.range c.args.c c.args.tps c.loop-slot.slot c.args.times.now (slice_index c.load_heads.new.out) few c.requires.told c.load_heads.ensures.loads
             (λ both. true≢false (sym ((c.is_told.ensures c.args.tps c.begin-begin.result c.last_word-last_head.ensures c.last_word-last_stamp.ensures).1
-            (both.0, subst (λ (n : ℕ). time_of n ≤ c.begin-begin.result) (sym here) (subst (λ (n : ℕ). time_of (slice_index c.args.times.now c.loop-slot.slot) ≤ n) (sym begin_is) both.1))) ∙ w.if-not-is_told.true)),
+            (both.0, subst (λ (n : ℕ). time_of n ≤ c.begin-begin.result) (sym here) (subst (λ (n : ℕ). time_of (slice_index c.args.times.now c.loop-slot.slot) ≤ n) (sym begin_is) both.1))) ∙ w.if-not-is_told.true)) w.column_from-found.ensures.loads w.column_from-found.ensures.watched c.loop-slot.invariant.3),
         adds_put (knows c.args.seat.now.view c.args.s).begin c.loop-slot.slot c.args.values.now c.are_present-all_present.result c.loop-slot.times c.loop-slot.values c.if-not-is_told.times c.if-not-is_told.values
             (put_short c.loop-slot.times c.if-not-is_told.times c.loop-slot.slot 0 few c.if-not-is_told.array_long w.times-is) (put_short c.loop-slot.values c.if-not-is_told.values c.loop-slot.slot 0 few c.if-not-is_told.array_long2 w.values-is) w.times-is w.values-is c.loop-slot.invariant.4,
         subst (λ (x : Sitting). AreAhead c.args.store.now c.args.seat.now.view x c.args.s c.args.range c.args.c (slice_index c.load_heads.new.out)) (sym w.seat-is) (ahead_on c.args.store.now c.args.seat.now.view c.loop-slot.seat w.column_from-found.new.seat c.args.s c.args.range c.args.c (slice_index c.load_heads.new.out) c.loop-slot.invariant.5 w.column_from-found.ensures.watched w.column_from-found.ensures.reader),
@@ -84,7 +90,7 @@ loop-slot-preserved c = let r = c.requires.reader in let walks = c.loop-slot.inv
                 (covers_told c.args.seat.now.view c.args.s (number_at c.args.c) (256 * c.args.range) c.loop-slot.slot c.loop-slot.total (knows c.args.seat.now.view c.args.s).begin (slice_index values) c.loop-slot.times c.consider.ensures r.host told.0 told.1
                 (ap (λ (n : ℕ). lane_of (knows c.args.seat.now.view c.args.s).begin (slice_index values c.loop-slot.slot) n) here ∙ told.2) (c.loop-slot.invariant.1 page values has)),
             stands_told c.loop-slot.slot c.args.times.now c.loop-slot.times c.if-not-is_told.times w.times-is stands,
-            saves_told c.args.seat.now.view c.loop-slot.seat.view c.if-not-is_told.seat.view c.args.s c.args.c (256 * c.args.range) c.loop-slot.slot (ap (λ (x : Sitting). (knows x.view c.args.s).finds) w.seat-is) c.loop-slot.invariant.3,
+            saves_told c.args.seat.now.view c.loop-slot.seat.view c.if-not-is_told.seat.view c.args.s c.args.c (256 * c.args.range) c.loop-slot.slot (ap (λ (x : Sitting). x.view) w.seat-is) c.loop-slot.invariant.3,
             adds_told (knows c.args.seat.now.view c.args.s).begin c.loop-slot.slot c.args.values.now c.are_present-all_present.result c.loop-slot.times c.loop-slot.values c.if-not-is_told.times c.if-not-is_told.values w.times-is w.values-is
                 (λ there. subst (λ (n : ℕ). is_seen (knows c.args.seat.now.view c.args.s).begin n ≡ true) (sym here) (entry_seen (knows c.args.seat.now.view c.args.s).begin (slice_index c.args.times.now c.loop-slot.slot) (c.are_present-all_present.ensures.0 there c.loop-slot.slot few) early)) c.loop-slot.invariant.4,
             subst (λ (x : Sitting). AreAhead c.args.store.now c.args.seat.now.view x c.args.s c.args.range c.args.c (slice_index c.load_heads.new.out)) (sym w.seat-is) c.loop-slot.invariant.5,

@@ -20,7 +20,7 @@ loop-range-preserved c = let invariant = c.loop-range.invariant in (
       (λ place places. c.count_range-rows.ensures.count place places ∙ count_is (between place (256 * c.loop-range.range) (256 * (c.loop-range.range + 1)) (table_seen (knows c.loop-range.seat.view c.args.s)))),
   (let t = c.loop-range-test.true in let l = ap (λ (y : Layout). y.limits.ranges) c.layout.ensures in omega arith),
   (let few = invariant.2 in let more = c.count_range-rows.ensures.few in omega arith),
-  saves_join c.args.seat.now.view c.loop-range.seat.view c.count_range-rows.new.seat.view c.args.s 0 0 (256 * c.loop-range.range) (256 * (c.loop-range.range + 1)) invariant.0.scans.watched (omega arith) (omega arith) invariant.3 c.count_range-rows.ensures.saves,
+  saves_join c.args.seat.now.view c.loop-range.seat.view c.count_range-rows.new.seat.view c.args.s 0 0 (256 * c.loop-range.range) (256 * (c.loop-range.range + 1)) invariant.0.scans.watched c.count_range-rows.ensures.watched (omega arith) (omega arith) invariant.3 c.count_range-rows.ensures.saves,
 )
 
 pub returns-clause-count : goal.returns-clause-count

@@ -30,7 +30,7 @@ loop-number-preserved c = let on = c.cell_by_chain.ensures.cell in let invariant
     let few = invariant.2 in let rises = invariant.0.rises in let low : c.loop-number.number + 1 ≤ 256 * (c.args.range + 1) = (let t = c.loop-number-test.true in omega arith) in
     let in_range : c.args.range ≡ c.loop-number.number / 256 = (let t = c.loop-number-test.true in omega arith) in
     let saves : SavesPart c.args.seat.now.view c.cell_by_chain.new.seat.view c.args.s 0 (256 * c.args.range) (c.loop-number.number + 1) =
-    saves_join c.args.seat.now.view c.loop-number.seat.view c.cell_by_chain.new.seat.view c.args.s 0 (256 * c.args.range) c.loop-number.number (c.loop-number.number + 1) invariant.0.scans.watched rises (omega arith) invariant.3
+    saves_join c.args.seat.now.view c.loop-number.seat.view c.cell_by_chain.new.seat.view c.args.s 0 (256 * c.args.range) c.loop-number.number (c.loop-number.number + 1) invariant.0.scans.watched c.cell_by_chain.ensures.watched rises (omega arith) invariant.3
     (c.cell_by_chain.ensures.saves (subst (λ (r : ℕ). TellsNone c.loop-number.seat.view c.args.s r 0) in_range (none_still c.args.seat.now.view c.loop-number.seat.view c.args.s c.args.range 0 invariant.0.scans.watched c.requires.none))) in
     elim c.if-is_some.branch [
       | then-is_some w ↦

@@ -29,7 +29,7 @@ loop-number-preserved c = let on = c.cell_by_chain-found.ensures.cell in let inv
           c.cell_by_chain-found.ensures.reader c.cell_by_chain-found.ensures.watched on.0 on.1),
       (let t = c.loop-number-test.true in let e = c.loop-number.auto.number-end in omega arith),
       (let few = invariant.2 in let rises = invariant.0.rises in let fits = c.unwrap_or.type_inv in let same = c.from-total.ensures in omega arith),
-      saves_join c.args.seat.now.view c.loop-number.seat.view c.cell_by_chain-found.new.seat.view c.args.s c.args.c (256 * c.args.range) c.loop-number.number (c.loop-number.number + 1) invariant.0.scans.watched invariant.0.rises (omega arith) invariant.3 (c.cell_by_chain-found.ensures.saves (subst (λ (r : ℕ). TellsNone c.loop-number.seat.view c.args.s r c.args.c) in_range
+      saves_join c.args.seat.now.view c.loop-number.seat.view c.cell_by_chain-found.new.seat.view c.args.s c.args.c (256 * c.args.range) c.loop-number.number (c.loop-number.number + 1) invariant.0.scans.watched c.cell_by_chain-found.ensures.watched invariant.0.rises (omega arith) invariant.3 (c.cell_by_chain-found.ensures.saves (subst (λ (r : ℕ). TellsNone c.loop-number.seat.view c.args.s r c.args.c) in_range
           (none_still c.args.seat.now.view c.loop-number.seat.view c.args.s c.args.range c.args.c invariant.0.scans.watched c.requires.none))),
     )
 

@@ -17,7 +17,7 @@ loop-range-preserved c = let invariant = c.loop-range.invariant in (
       c.sum_range-total.ensures.reader c.sum_range-total.ensures.watched (omega arith) c.sum_range-total.ensures.sum,
   (let t = c.loop-range-test.true in omega arith),
   (let few = invariant.2 in let rises = invariant.0.rises in let more = c.sum_range-total.ensures.few in omega arith),
-  saves_join c.args.seat.now.view c.loop-range.seat.view c.sum_range-total.new.seat.view c.args.s c.args.c (256 * c.args.from) (256 * c.loop-range.range) (256 * (c.loop-range.range + 1)) invariant.0.scans.watched invariant.0.rises (omega arith) invariant.3 c.sum_range-total.ensures.saves,
+  saves_join c.args.seat.now.view c.loop-range.seat.view c.sum_range-total.new.seat.view c.args.s c.args.c (256 * c.args.from) (256 * c.loop-range.range) (256 * (c.loop-range.range + 1)) invariant.0.scans.watched c.sum_range-total.ensures.watched invariant.0.rises (omega arith) invariant.3 c.sum_range-total.ensures.saves,
 )
 
 pub returns-clause-sum : goal.returns-clause-sum

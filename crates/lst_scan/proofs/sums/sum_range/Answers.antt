@@ -1,6 +1,7 @@
-use Rattle.std.proofs.Common.{◌+◌, ◌*◌, refl}
+use Rattle.std.proofs.Common.{◌+◌, ◌*◌, refl, arith}
 use Rattle.lst_model.specs.Cells.{number_at}
 use Rattle.lst_rule.proofs.Watching.{watches_join}
+use Rattle.lst_scan.proofs.Folded.{none_saves, saves_join}
 use Rattle.lst_scan.proofs.Sheets.{part_before}
 use Rattle.lst_scan.proofs.sums.sum_range.Goals as goal
 
@@ -21,3 +22,11 @@ returns-in-None-clause-sum c = let r = c.requires.reader in part_before c.args.s
 
 pub sum_by_records-requires-clause-none : goal.sum_by_records-requires-clause-none
 sum_by_records-requires-clause-none c = c.in-None.ensures.none refl
+
+pub returns-in-Some-clause-saves : goal.returns-in-Some-clause-saves
+returns-in-Some-clause-saves c = saves_join c.args.seat.now.view c.frame_of.new.seat.view c.sum_by_page.new.seat.view c.args.s c.args.c (256 * c.args.range) (256 * c.args.range) (256 * (c.args.range + 1)) c.frame_of.ensures.skims.watched c.sum_by_page.ensures.watched (omega arith) (omega arith)
+    (none_saves c.args.seat.now.view c.frame_of.new.seat.view c.args.s c.args.c (256 * c.args.range) c.frame_of.ensures.skims.finds) c.sum_by_page.ensures.saves
+
+pub returns-in-None-clause-saves : goal.returns-in-None-clause-saves
+returns-in-None-clause-saves c = saves_join c.args.seat.now.view c.frame_of.new.seat.view c.sum_by_records.new.seat.view c.args.s c.args.c (256 * c.args.range) (256 * c.args.range) (256 * (c.args.range + 1)) c.frame_of.ensures.skims.watched c.sum_by_records.ensures.watched (omega arith) (omega arith)
+    (none_saves c.args.seat.now.view c.frame_of.new.seat.view c.args.s c.args.c (256 * c.args.range) c.frame_of.ensures.skims.finds) c.sum_by_records.ensures.saves
