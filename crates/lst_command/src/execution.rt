@@ -45,6 +45,7 @@ pub(crate) fn execute(alloc: Global, script: &Script, limits: &Limits) -> Result
 }
 
 /// Runs a line, and adds the text of what it is answered.
+#[inline(always)]
 fn answer(
     alloc: Global,
     store: &Store,

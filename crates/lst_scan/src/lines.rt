@@ -20,6 +20,7 @@ use std::alloc::Global;
 /// crew then tells the next one. A sum of a column whose pages have folded every accepted write, each ended by its transaction's begin, loads no word
 /// of a tail record; nor does a count, where those of the first column have. Memory may be wanted for a list of rows and for a find in an indexed column, with a transaction open: then the
 /// session has only looked, and the crew tells the same state.
+#[inline(always)]
 pub fn crew_line(
     alloc: Global,
     store: &Store,

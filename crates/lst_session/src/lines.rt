@@ -32,6 +32,7 @@ impl Crew {
     }
 
     /// The answer to a session's call.
+    #[inline(always)]
     fn call(&mut self, store: &Store, s: u32, call: &Call) -> Reply
         requires crew { IsCrewOf store.now self.old }
         requires session { s < self.old.seat.view.limits.sessions }
