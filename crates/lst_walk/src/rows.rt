@@ -105,7 +105,8 @@ pub fn put_row(store: &Store, seat: &mut Seat, s: u32, rec: RecordId, row: &mut 
     put_walked(store, seat, s, rec, number, row)
 }
 
-/// What `walked` answers, put into a row. Whether there is a row is answered.
+/// The row of a record, by a walk from the number of its newest version on, put into a row. Whether there is a row is answered. Apart from `put_row`,
+/// whose frame is small without its arrays.
 #[inline(never)]
 fn put_walked(
     store: &Store,
@@ -120,24 +121,6 @@ fn put_walked(
     requires walk { (v : View) × PagedRow store.now v seat.old s rec.number number 0 [] }
     ensures reader { IsReader store.now seat.new s }
     ensures told { (v : View) → PagedRow store.now v seat.old s rec.number number 0 [] → RowBy v seat.new.view s rec.number (row_where result row.new) }
-{
-    match walked(store, seat, s, rec, number) {
-        Some(found) => {
-            *row = found;
-            true
-        }
-        None => false,
-    }
-}
-
-/// The row of a record, by a walk from the number of its newest version on. Apart from `row`, whose frame is small without its arrays.
-#[inline(never)]
-fn walked(store: &Store, seat: &mut Seat, s: u32, rec: RecordId, number: u32) -> Option<Row>
-    requires reader { IsReader store.now seat.old s }
-    requires rec { rec.number < record_count store.now.layout.limits }
-    requires walk { (v : View) × PagedRow store.now v seat.old s rec.number number 0 [] }
-    ensures reader { IsReader store.now seat.new s }
-    ensures told { (v : View) → PagedRow store.now v seat.old s rec.number number 0 [] → RowBy v seat.new.view s rec.number result }
 {
     let range = rec.number / 256;
     let mut number = number;
@@ -155,21 +138,25 @@ fn walked(store: &Store, seat: &mut Seat, s: u32, rec: RecordId, number: u32) ->
     let words = store.layout().limits.cell_words();
     while number > 0 {
         match fill(store, seat, s, rec, number, &entries, last, patch, &mut set) {
-            Filled::Absent => return None,
-            Filled::Whole => return Some(row_of(patch)),
+            Filled::Absent => return false,
+            Filled::Whole => {
+                *row = row_of(patch);
+                return true;
+            }
             Filled::Partly => {}
         }
         let tail = tail_of(store, range, number);
         let first = first_after(store, range, number, start, words);
         match look(store, seat, s, range, number, first, patch, &mut set) {
             Visit::Row { nulls } => {
-                return Some(row_under(store, seat, s, tail, first, nulls, patch));
+                *row = row_under(store, seat, s, tail, first, nulls, patch);
+                return true;
             }
-            Visit::NoRow => return None,
+            Visit::NoRow => return false,
             Visit::Older => number = below_from(store, seat, s, tail, first),
         }
     }
-    None
+    false
 }
 
 /// Fills each column that the patch doesn't set by the entry of its page, where that may be used at this number. None may be above `last`. Bit c of `set` is

@@ -14,7 +14,7 @@ use Rattle.lst_rule.proofs.Finds.{loads_tail}
 use Rattle.lst_walk.proofs.Setting.{none_known}
 use Rattle.lst_layout.specs.declared.place.Place.TheVariants.{CellWord}
 use Rattle.lst_layout.specs.Addresses.{address}
-use Rattle.lst_walk.proofs.rows.walked.Goals as goal
+use Rattle.lst_walk.proofs.rows.put_walked.Goals as goal
 
 pub look-requires-clause-reader : goal.look-requires-clause-reader
 look-requires-clause-reader c = (c.in-Partly.ensures.filled c.requires.walk.0 (c.loop-number.invariant.goes c.requires.walk.0 c.requires.walk.1)).walk.reader
