@@ -1,6 +1,5 @@
 use Rattle.std.proofs.Common.{sym, subst, arith}
-use Rattle.lst_model.specs.declared.acts.Act.{Act}
-use Rattle.lst_redo.specs.Format.{FitsTable, IsOfTable, IsWrite}
+use Rattle.lst_redo.specs.Format.{FitsTable, IsOfTable}
 use Rattle.lst_redo.proofs.Rows.{row_has_place, patch_has_place}
 use Rattle.lst_redo.proofs.read.has_place.Goals as goal
 
