@@ -7,3 +7,4 @@ pub mod ByCrew
 pub mod Answering
 pub mod Looking
 pub mod Opened
+pub mod Staying

@@ -1,5 +1,5 @@
 -- What an encoding word says of a tail, as the program computes it.
-use Rattle.std.proofs.Common.{◌≡◌, ◌≢◌, ℕ, zero, suc, ◌+◌, ◌-◌, ◌*◌, ◌/◌, ◌%◌, ◌^◌, ◌<◌, ◌≤◌, Bool, true, false, not, ◌&&◌, nat_eq, bit_and, sym, ap, ◌∙◌, arith, eq-eqb, ne_eqb}
+use Rattle.std.proofs.Common.{◌≡◌, ℕ, zero, suc, ◌+◌, ◌-◌, ◌*◌, ◌/◌, ◌%◌, ◌^◌, ◌<◌, ◌≤◌, true, sym, ap, ◌∙◌, arith, eq-eqb}
 use Rattle.std.proofs.Math.Nat.{pow-le-pow_right, pow-succ', div-div-eq-div-mul}
 use Rattle.lst_core_state.specs.Cells.{has_bit, record_of, tail_range}
 

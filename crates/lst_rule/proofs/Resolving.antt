@@ -1,15 +1,15 @@
 -- What the words of a version say of how it stands.
-use Rattle.std.proofs.Common.{◌≡◌, ℕ, ◌+◌, ◌*◌, ◌/◌, ◌%◌, ◌^◌, ◌<◌, ◌≤◌, List, Bool, true, false, sym, subst, ap, ◌∙◌, arith, refl, slice_index_or}
+use Rattle.std.proofs.Common.{◌≡◌, ℕ, ◌+◌, ◌*◌, ◌%◌, ◌^◌, ◌<◌, ◌≤◌, List, Bool, true, false, sym, subst, ap, ◌∙◌, arith, refl, slice_index_or}
 use Rattle.lst_layout.specs.declared.limits.Limits.{Limits}
-use Rattle.lst_layout.specs.declared.place.Place.TheVariants.{CellWord, StateWord}
+use Rattle.lst_layout.specs.declared.place.Place.TheVariants.{CellWord}
 use Rattle.lst_layout.specs.Addresses.{IsWithin}
 use Rattle.lst_layout.specs.Limits.{IsValid}
 use Rattle.lst_bits.specs.Starts.{IsStartWord}
 use Rattle.lst_core_state.specs.State.{name_of}
 use Rattle.lst_rule.specs.declared.view.View.{View}
-use Rattle.lst_rule.specs.Rule.{knows, hosts}
+use Rattle.lst_rule.specs.Rule.{hosts}
 use Rattle.lst_rule.specs.Stores.{Looked}
-use Rattle.lst_rule.specs.Statuses.{Answers, Asked}
+use Rattle.lst_rule.specs.Statuses.{Asked}
 use Rattle.lst_rule.specs.declared.status.Status.{Status}
 use Rattle.lst_rule.specs.declared.status.Status.TheVariants as status
 use Rattle.lst_rule.specs.declared.resolutions.Resolution.{Resolution}

@@ -1,5 +1,7 @@
 -- The numbers of a seat are its view's, after a step too.
 use Rattle.std.proofs.Common.{◌≤◌, ◌≡◌, ◌≢◌, ℕ, ◌<◌, ◌^◌, List, true, get_or, set, sym, subst, ap, ◌∙◌, arith, length-set, get_or-set_other, get_or-set_same, length}
+use Rattle.std.specs.Prelude.{◌+◌, MatchOption, Option, None, Some}
+use Rattle.lst_bits.specs.Numbers.{number_word}
 use mathlib.Core.Logic.{dite}
 use native.Mathlib.Decide.{ℕ_discrete}
 use Rattle.std.proofs.lemmas.List.{get_or_default}
@@ -95,6 +97,11 @@ may_step v s e p hosted low session within ok = record {
 -- the numbers that the program reads are the session's
 pub reads : (v u : View) (numbers : List Numbers) (s : ℕ) (n : Numbers) → v ≡ u → Tells v numbers → n ≡ get_or numbers s n → hosts u s ≡ true → n ≡ told u s
 reads v u numbers s n same tells read hosted = let t : Tells u numbers = subst (λ (z : View). Tells z numbers) same tells in read ∙ (get_or_default numbers s n (told u s) (t.all s hosted) ∙ t.is s hosted)
+
+-- a pin's word, by what it unpacks to
+pub pin_is : (pin : Option ℕ) (word : ℕ) → number_word pin ≡ word → MatchOption pin (word ≡ 0) (λ epoch. word ≡ epoch + 1)
+pin_is None word is = sym is
+pin_is (Some epoch) word is = sym is
 
 pub reads_step : (v u : View) (numbers : List Numbers) (s : ℕ) (n : Numbers) (e : Event) → v ≡ u → Tells v numbers → n ≡ get_or numbers s n → hosts u s ≡ true → s < u.limits.sessions → session_of e ≡ s → IsWithin u.limits e → Enabled u.limits (knows u s) e
     → MayStep u n e

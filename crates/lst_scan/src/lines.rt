@@ -17,8 +17,8 @@ use std::alloc::Global;
 
 /// The answer to a line: a scan is made by the session's open transaction, and all other lines by the crew. It promises of the session that
 /// calls, and of the merger, what the call itself promises; and where the crew tells a state of the machine, the answer is the machine's, and the
-/// crew then tells the next one. A sum of a column whose pages have folded every accepted write, each ended by its transaction's begin, loads no word
-/// of a tail record; nor does a count, where those of the first column have. Memory may be wanted for a list of rows and for a find in an indexed column, with a transaction open: then the
+/// crew then tells the next one. Of tail records a sum loads words of those alone whose record the column's page doesn't tell, and a count of those that
+/// the first column's doesn't; so none, where the pages have folded every accepted write, each ended by its transaction's begin. Memory may be wanted for a list of rows and for a find in an indexed column, with a transaction open: then the
 /// session has only looked, and the crew tells the same state.
 #[inline(always)]
 pub fn crew_line(
@@ -56,8 +56,8 @@ pub(crate) fn idle() -> Reply
     Reply::Refused { cause: Cause::Idle }
 }
 
-/// The answer to a sum. Where the crew tells a state of the machine in which the pages of the column have folded every accepted write, each ended by
-/// the transaction's begin, no word of a tail record is loaded.
+/// The answer to a sum. Where the crew tells a state of the machine, words are loaded of those tail records alone whose record the column's page doesn't tell:
+/// of none, where the pages have folded every accepted write, each ended by the transaction's begin.
 fn sum_call(store: &Store, crew: &mut Crew, s: u32, column: u32) -> Reply
     requires crew { IsCrewOf store.now crew.old }
     requires session { s < crew.old.seat.view.limits.sessions }

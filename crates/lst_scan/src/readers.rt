@@ -21,8 +21,9 @@ use lst_rule::{RecordId, Store};
 use lst_session::Reader;
 use std::alloc::Global;
 
-/// The numbers of a column, 0 for null, added over all rows. The sum never wraps. Where the seat knows each word, the session is pinned, and the
-/// column's pages have folded the newest version of each record, with an entry of the begin or earlier, no word of a tail record is loaded.
+/// The numbers of a column, 0 for null, added over all rows. The sum never wraps. Where the seat knows each word and the session is pinned, each tail
+/// record of which a word is loaded is one of a record that the column's page doesn't tell. So none is, where the pages have folded the newest version of each record, with an
+/// entry of the begin or earlier.
 pub fn sum(store: &Store, reader: &mut Reader<'_>, column: u32) -> u128
     requires reader { IsReader store.now reader.old.seat.now reader.old.s }
     requires column { column < store.now.layout.limits.columns }

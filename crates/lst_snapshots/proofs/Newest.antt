@@ -23,14 +23,6 @@ all_early row time (v ∷ vs) t rises early =
     ap (λ b. row_from_versions (cond b v.row row) vs t) (le-leb v.time t (omega (arith, low, early)))
     ∙ all_early v.row v.time vs t rises.1 early
 
-same_fit : (row : Option (List Cell)) (act : Act) → fits_there (is_some row) act ≡ fits row act
-same_fit None (Put new) = refl
-same_fit (Some old) (Put new) = refl
-same_fit None (Set patch) = refl
-same_fit (Some old) (Set patch) = refl
-same_fit None Del = refl
-same_fit (Some old) Del = refl
-
 same_after : (row : Option (List Cell)) (act : Act) → there_after (is_some row) act ≡ is_some (row_after row act)
 same_after None (Put new) = refl
 same_after (Some old) (Put new) = refl
@@ -76,7 +68,6 @@ module _ (times : ℕ → ℕ) (theres : ℕ → Bool) (begin : ℕ) where
         step false late rest = refl
         step true early rest =
             ap (λ (there : Bool). fits_there there w.act && follow_behind w.key (there_after there w.act) ws) (there_beside key row w.key early)
-            ∙ ap (λ (b : Bool). b && follow_behind w.key (there_after (is_some found) w.act) ws) (same_fit found w.act)
             ∙ ap (λ (there : Bool). fits found w.act && follow_behind w.key there ws) (same_after found w.act)
             ∙ ap (λ (b : Bool). fits found w.act && b) rest
             ∙ moved (fits found w.act) all (fit_behind rows w.key (row_after found w.act) ws)

@@ -1,4 +1,8 @@
-use Rattle.std.proofs.Common.{◌≡◌, ◌+◌, ◌%◌, ◌^◌, ap, ◌∙◌}
+use Rattle.std.proofs.Common.{◌≡◌, ◌+◌, ◌%◌, ◌^◌, ap, ◌∙◌, subst}
+use Rattle.lst_layout.specs.declared.limits.Limits.{Limits}
+use Rattle.lst_layout.specs.Addresses as addresses
+use Rattle.lst_core_state.specs.Step.{IsWithin}
+use Rattle.lst_core_state.specs.Numbers.{place_for}
 use Rattle.lst_layout.specs.Words.{shown}
 use Rattle.lst_core_state.specs.Targets.{time_for}
 use Rattle.lst_rule.specs.declared.actions.Action.TheVariants.{Core}
@@ -10,6 +14,30 @@ use Rattle.lst_rule.proofs.acts.draw_event.Goals.{After-target-word}
 
 asked : (c : After-target-word) (u : View) → u ≡ c.args.seat.now.view → Asks c.args.store.now.layout.limits c.numbers-now.result.now (Core c.args.event) c.args.s c.target-word.result u c.args.seat.now.view
 asked c u same = record { same = same; limits = c.requires.seat.limits; numbers = c.numbers-now.ensures.is; session = c.requires.session; hosted = c.requires.host; within = c.requires.within; ok = c.requires.enabled; stands = c.requires.stands; at = c.target-word.ensures.address }
+
+pub numbers-now-requires-clause-host : goal.numbers-now-requires-clause-host
+numbers-now-requires-clause-host c = c.requires.host
+
+pub numbers-now-requires-clause-own : goal.numbers-now-requires-clause-own
+numbers-now-requires-clause-own c = c.requires.own
+
+pub numbers-now-requires-clause-session : goal.numbers-now-requires-clause-session
+numbers-now-requires-clause-session c = c.requires.session
+
+pub numbers-now-requires-clause-within : goal.numbers-now-requires-clause-within
+numbers-now-requires-clause-within c = c.requires.within
+
+pub numbers-now-requires-clause-enabled : goal.numbers-now-requires-clause-enabled
+numbers-now-requires-clause-enabled c = c.requires.enabled
+
+pub target-word-requires-clause-within : goal.target-word-requires-clause-within
+target-word-requires-clause-within c = subst (λ (l : Limits). IsWithin l c.args.event) c.requires.seat.limits c.requires.within
+
+pub target-word-requires-clause-place : goal.target-word-requires-clause-place
+target-word-requires-clause-place c = subst (λ (l : Limits). addresses.IsWithin l (place_for l c.numbers-now.result.now c.args.event)) c.requires.seat.limits c.numbers-now.ensures.place
+
+pub advance-requires-clause-within : goal.advance-requires-clause-within
+advance-requires-clause-within c = subst (λ (l : Limits). IsWithin l c.args.event) c.requires.seat.limits c.requires.within
 
 pub add_one-found-requires-clause-ready : goal.add_one-found-requires-clause-ready
 add_one-found-requires-clause-ready c = acts_ready _ _ _ _ _ _ _ (asked (goal.at.add_one-found-requires-clause-ready c).After-target-word c.seat.inside.place.me.0 (ap (λ z. z.view) c.seat.view_is))

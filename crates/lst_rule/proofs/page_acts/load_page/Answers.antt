@@ -1,9 +1,8 @@
-use Rattle.std.proofs.Common.{◌≡◌, ℕ, true, refl, ap, subst, ◌∙◌, arith}
-use Rattle.lst_pages.specs.Known.{PageEnabled, stepper}
+use Rattle.std.proofs.Common.{◌≡◌, refl, ap, ◌∙◌, arith}
+use Rattle.lst_pages.specs.Known.{stepper}
 use Rattle.lst_rule.specs.declared.actions.Action.TheVariants.{Page}
 use Rattle.lst_rule.specs.declared.view.View.{View}
 use Rattle.lst_rule.specs.Actions.{stock_numbers}
-use Rattle.lst_rule.specs.Rule.{knows, hosts}
 use Rattle.lst_rule.specs.Seats.{told}
 use Rattle.lst_rule.proofs.Paging.{page_loaded, page_still, load_stands}
 use Rattle.lst_rule.proofs.Acting.{Asks, acts_ready, acts_told, acts_page_met, acts_still, still_seat}

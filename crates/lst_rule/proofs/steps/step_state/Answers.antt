@@ -1,4 +1,4 @@
-use Rattle.std.proofs.Common.{◌≡◌, ℕ, ◌+◌, subst, length, arith}
+use Rattle.std.proofs.Common.{◌≡◌, ◌+◌, subst, length, arith}
 use Rattle.lst_layout.specs.declared.place.Place.TheVariants.{StateWord}
 use Rattle.lst_core_state.specs.declared.events.Event.TheVariants.{State}
 use Rattle.lst_rule.specs.Rule.{knows}
