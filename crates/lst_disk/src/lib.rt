@@ -11,8 +11,6 @@ mod faults;
 mod laws;
 mod memory;
 mod parts;
-#[cfg(test)]
-mod tests;
 
 pub use disk::{Disk, DiskFailed};
 pub use laws::images_differ_in_pending_bytes;

@@ -9,8 +9,6 @@ mod ends;
 mod faults;
 mod memory;
 mod streams;
-#[cfg(test)]
-mod tests;
 mod whole;
 
 pub use ends::{Failed, Sink, Source};

@@ -10,8 +10,6 @@ mod kinds;
 mod list;
 mod packed;
 mod parts;
-#[cfg(test)]
-mod tests;
 
 pub use list::LineList;
 pub use packed::PackedPatch;

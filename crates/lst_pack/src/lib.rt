@@ -19,6 +19,3 @@ pub use laws::packed_words;
 pub use packing::pack;
 pub use single::{Words, get, get_from};
 pub use whole::unpack;
-
-#[cfg(test)]
-mod tests;

@@ -7,7 +7,5 @@
 
 mod kinds;
 mod queue;
-#[cfg(test)]
-mod tests;
 
 pub use queue::ReplyQueue;

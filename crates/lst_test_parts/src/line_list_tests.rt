@@ -1,7 +1,7 @@
 //! What is put into a list comes out of it, and a part of the list has the lines of its places.
 
-use crate::{LineList, PackedPatch};
 use arrayvec::ArrayVec;
+use lst_line_list::{LineList, PackedPatch};
 use lst_model::{Call, Line, Patch, Row};
 use std::test::Fail;
 

@@ -2,7 +2,7 @@
 ghost use Rattle.std.specs.Prelude.{◌≡◌, ◌+◌, ◌≤◌, ◌<◌, length, IfSome, IsSome};
 ghost use Rattle.lst_disk.specs.Disk.{Only};
 
-use crate::{Disk, MemDisk, images_differ_in_pending_bytes};
+use lst_disk::{Disk, MemDisk, images_differ_in_pending_bytes};
 use std::alloc::Global;
 use std::test::Fail;
 

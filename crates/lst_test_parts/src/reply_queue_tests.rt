@@ -1,8 +1,8 @@
 //! What is put into a queue comes out of it.
 
-use crate::ReplyQueue;
 use arrayvec::ArrayVec;
 use lst_model::{Cause, KeyList, Reply, Row, RowList};
+use lst_reply_queue::ReplyQueue;
 use std::alloc::Global;
 use std::test::Fail;
 

@@ -1,7 +1,8 @@
+//! Pages of 256 values at the edges of each form, read back by each reader.
 ghost use Rattle.std.specs.Prelude.{◌<◌};
 ghost use Rattle.lst_pack.specs.Forms.{IsPacked};
 
-use super::*;
+use lst_pack::{Words, get, get_from, pack, packed_words, unpack};
 use std::process::Abort;
 
 // Words of a page that are loaded one by one.

@@ -1,6 +1,6 @@
 //! Faults at given calls, the limit of an input to the byte, and the edge to std's readers and writers.
 
-use crate::{
+use lst_io::{
     Failed, MemSink, MemSource, ReadAllFault, Sink, Source, StdSink, StdSource, read_all, write_all,
 };
 use lst_model::{KeyList, Text};

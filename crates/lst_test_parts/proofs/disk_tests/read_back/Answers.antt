@@ -1,7 +1,7 @@
 use Rattle.std.proofs.Common.{◌≡◌, ◌+◌, ◌≤◌, ◌∙◌, ℕ, List, ◌++◌, length, take, drop, ap, arith, append_assoc}
 use Rattle.std.proofs.lemmas.List.{take_at, drop_at, length-take-le}
 use Rattle.lst_disk.specs.Disk.{overwritten}
-use Rattle.lst_disk.proofs.tests.read_back.Goals as goal
+use Rattle.lst_test_parts.proofs.disk_tests.read_back.Goals as goal
 
 -- the bytes of a piece that was written over others
 written_back : (content : List ℕ) (at n : ℕ) (bytes : List ℕ) → length bytes ≡ n → at + n ≤ length content → take n (drop at (overwritten content at bytes)) ≡ bytes
