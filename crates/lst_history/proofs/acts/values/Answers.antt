@@ -5,6 +5,12 @@ use Rattle.lst_history.proofs.Looks.{reads_same, reads_on, same_words}
 use Rattle.lst_history.proofs.Values.{listed_more}
 use Rattle.lst_history.proofs.acts.values.Goals as goal
 
+pub cell_word-requires-clause-reader : goal.cell_word-requires-clause-reader
+cell_word-requires-clause-reader c = c.loop-column.invariant.0.reader
+
+pub returns-clause-reads : goal.returns-clause-reads
+returns-clause-reads c = c.loop-column.invariant.0
+
 pub loop-column-init : goal.loop-column-init
 loop-column-init c = (reads_same c.args.store.now c.args.seat.now c.args.s c.requires.reader, c.new-cells.ensures, ap length c.new-cells.ensures)
 

@@ -8,6 +8,12 @@ use Rattle.lst_history.proofs.Looks.{reads_same, reads_on, same_words}
 use Rattle.lst_history.proofs.Joining.{history_start}
 use Rattle.lst_history.proofs.commits.commits_until.Goals as goal
 
+pub bare_commit-requires-clause-reader : goal.bare_commit-requires-clause-reader
+bare_commit-requires-clause-reader c = c.loop-done.invariant.0.reader
+
+pub returns-clause-reads : goal.returns-clause-reads
+returns-clause-reads c = c.loop-done.invariant.0
+
 none : ℕ → List Write
 none _ = []
 

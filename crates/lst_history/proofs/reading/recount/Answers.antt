@@ -14,6 +14,18 @@ use Rattle.lst_history.proofs.Looks.{reads_on, same_words, seen_grows, seen_all}
 use Rattle.lst_history.proofs.InOrder.{gathered_in_order}
 use Rattle.lst_history.proofs.reading.recount.Goals as goal
 
+pub commits_until-requires-clause-reader : goal.commits_until-requires-clause-reader
+commits_until-requires-clause-reader c = c.clock-clock.ensures.reads.reader
+
+pub enter_tail-requires-clause-reader : goal.enter_tail-requires-clause-reader
+enter_tail-requires-clause-reader c = c.loop-done.invariant.0.reader
+
+pub returns-in_err-sort_all-clause-reads : goal.returns-in_err-sort_all-clause-reads
+returns-in_err-sort_all-clause-reads c = c.loop-done.invariant.0
+
+pub returns-clause-reads : goal.returns-clause-reads
+returns-clause-reads c = c.loop-done.invariant.0
+
 pub returns-in_err-commits-clause-reads : goal.returns-in_err-commits-clause-reads
 returns-in_err-commits-clause-reads c = reads_on c.args.store.now c.args.seat.now c.clock-clock.new.seat c.commits_until.new.seat c.args.s c.clock-clock.ensures.reads c.commits_until.ensures.reads
 

@@ -15,6 +15,15 @@ use Rattle.lst_history.proofs.Naming.{cell_is}
 use Rattle.lst_history.proofs.Values.{record_is}
 use Rattle.lst_history.proofs.tails.tail_write.Goals as goal
 
+pub cell_word-requires-clause-reader : goal.cell_word-requires-clause-reader
+cell_word-requires-clause-reader c = c.requires.reader
+
+pub key_word-requires-clause-reader : goal.key_word-requires-clause-reader
+key_word-requires-clause-reader c = c.cell_word.ensures.reads.reader
+
+pub act-requires-clause-reader : goal.act-requires-clause-reader
+act-requires-clause-reader c = c.key_word.ensures.reads.reader
+
 pub unpack_encoding-encoding-requires : goal.unpack_encoding-encoding-requires
 unpack_encoding-encoding-requires c = let w : Words = words_in c.args.seat.now.view in let l : Limits = c.args.seat.now.view.limits in let t : ℕ = c.args.tail in
     let few : l.columns ≤ 8 = subst (λ (k : Limits). k.columns ≤ 8) (sym c.requires.reader.seat_of.limits) c.args.store.now.layout.valid.columns.1 in

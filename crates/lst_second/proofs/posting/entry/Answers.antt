@@ -22,3 +22,18 @@ returns-clause-some c = (
   hand_visits c.args.store.now c.args.seat.now c.load_cell-encoding.new.seat c.load_cell-value.new.seat c.args.s c.args.column c.in-Some.tail c.in-Some-latch.rec _ _ c.requires.seat c.requires.host c.requires.own c.requires.tail c.requires.column c.requires.indexed c.in-Some.ensures.1 c.in-Some-latch.ensures c.load_cell-encoding.ensures.looked
       (sym c.holds_number.ensures ∙ c.if-not-holds_number.false) c.load_cell-value.ensures.looked c.load_cell-value.ensures.seat,
 )
+
+pub load_cell-encoding-requires-clause-seat : goal.load_cell-encoding-requires-clause-seat
+load_cell-encoding-requires-clause-seat c = c.requires.seat
+
+pub load_cell-encoding-requires-clause-host : goal.load_cell-encoding-requires-clause-host
+load_cell-encoding-requires-clause-host c = c.requires.host
+
+pub returns-then-not-holds_number-clause-seat : goal.returns-then-not-holds_number-clause-seat
+returns-then-not-holds_number-clause-seat c = c.load_cell-encoding.ensures.seat
+
+pub load_cell-value-requires-clause-seat : goal.load_cell-value-requires-clause-seat
+load_cell-value-requires-clause-seat c = c.load_cell-encoding.ensures.seat
+
+pub returns-clause-seat : goal.returns-clause-seat
+returns-clause-seat c = c.load_cell-value.ensures.seat

@@ -10,3 +10,6 @@ loop-column-init c = (posts_none c.args.seat.now.view c.args.s, columns_none c.a
 
 pub loop-column-preserved : goal.loop-column-preserved
 loop-column-preserved c = (posts_on _ _ _ _ c.loop-column.invariant.0 c.post_if_indexed.ensures.posts, c.post_if_indexed.ensures.columns)
+
+pub returns-then-layout-eq0-clause-seat : goal.returns-then-layout-eq0-clause-seat
+returns-then-layout-eq0-clause-seat c = c.requires.seat
