@@ -12,3 +12,6 @@ pub mod Outcomes
 pub mod Printed
 pub mod Shapes
 pub mod Levels
+pub mod Placed
+pub mod Told
+pub mod Counted
