@@ -1,7 +1,9 @@
 use Rattle.std.proofs.Common.{◌≡◌, ℕ, List, ◌∷◌, Bor, codes, ap, subst, ◌∙◌}
 use Rattle.lst_script.specs.Texts.{texts, line_words}
 use Rattle.lst_script.specs.Headers.{IsHeader}
-use Rattle.lst_script.specs.Scripts.{Explains}
+use Rattle.lst_script.specs.declared.faults.ScriptFault.TheVariants as faults
+use Rattle.lst_script.specs.Scripts.{IsNamed, Explains}
+use Rattle.std.proofs.lemmas.Result.{IfOk-from_err}
 use Rattle.lst_script.proofs.PairFronts.{header_proper}
 use Rattle.lst_script.proofs.Versions.{err_is, start_numbered, start_numbered_faulty, start_header, start_header_faulty, start_header_answer, start_words}
 use Rattle.lst_script.proofs.parsing.read_text.Goals as goal
@@ -53,3 +55,33 @@ returns-clause-ok c =
 
 pub read_lines-requires-2-clause-proper : goal.read_lines-requires-2-clause-proper
 read_lines-requires-2-clause-proper c = rw c.items.ensures (header_proper _ _ c.in_ok-names-2.names c.in_ok-names-2.ensures)
+
+pub returns-in_err-start-clause-ok : goal.returns-in_err-start-clause-ok
+returns-in_err-start-clause-ok c = IfOk-from_err c.from_residual.result (IsNamed c.args.limits.now c.args.bytes.now) c.from_residual.ensures.0
+
+pub returns-in_err-script-clause-ok : goal.returns-in_err-script-clause-ok
+returns-in_err-script-clause-ok c = IfOk-from_err c.from_residual-in_err-script.result (IsNamed c.args.limits.now c.args.bytes.now) c.from_residual-in_err-script.ensures.0
+
+pub returns-in_err-names-clause-ok : goal.returns-in_err-names-clause-ok
+returns-in_err-names-clause-ok c = IfOk-from_err c.from_residual-in_err-names.result (IsNamed c.args.limits.now c.args.bytes.now) c.from_residual-in_err-names.ensures.0
+
+pub returns-in_err-split_words-clause-ok : goal.returns-in_err-split_words-clause-ok
+returns-in_err-split_words-clause-ok c = IfOk-from_err c.from_residual-in_err-split_words.result (IsNamed c.args.limits.now c.args.bytes.now) c.from_residual-in_err-split_words.ensures.0
+
+pub returns-in_err-names-2-clause-ok : goal.returns-in_err-names-2-clause-ok
+returns-in_err-names-2-clause-ok c = IfOk-from_err c.from_residual-in_err-names-2.result (IsNamed c.args.limits.now c.args.bytes.now) c.from_residual-in_err-names-2.ensures.0
+
+pub returns-in_err-script-2-clause-ok : goal.returns-in_err-script-2-clause-ok
+returns-in_err-script-2-clause-ok c = IfOk-from_err c.from_residual-in_err-script-2.result (IsNamed c.args.limits.now c.args.bytes.now) c.from_residual-in_err-script-2.ensures.0
+
+pub returns-in_err-names-clause-fault : goal.returns-in_err-names-clause-fault
+returns-in_err-names-clause-fault c = err_is (Explains c.args.limits.now c.args.bytes.now) c.from_residual-in_err-names.result faults.OutOfMemory c.from_residual-in_err-names.ensures.1 tt
+
+pub returns-in_err-split_words-clause-fault : goal.returns-in_err-split_words-clause-fault
+returns-in_err-split_words-clause-fault c = err_is (Explains c.args.limits.now c.args.bytes.now) c.from_residual-in_err-split_words.result faults.OutOfMemory c.from_residual-in_err-split_words.ensures.1 tt
+
+pub returns-then-not-start-clause-fault : goal.returns-then-not-start-clause-fault
+returns-then-not-start-clause-fault c = tt
+
+pub returns-clause-fault : goal.returns-clause-fault
+returns-clause-fault c = tt
