@@ -1,5 +1,5 @@
 -- A session's own commits in a history that goes on.
-use Rattle.std.proofs.Common.{◌≡◌, ℕ, ◌+◌, List, [], ◌∷◌, ◌++◌, Bool, true, false, cond, eqb, length, refl, ap, ◌∙◌, arith, length-append, append-nil}
+use Rattle.std.proofs.Common.{◌≡◌, ℕ, List, [], ◌∷◌, ◌++◌, Bool, true, false, cond, eqb, length, refl, ap, ◌∙◌, arith, length-append, append-nil}
 use Rattle.lst_model.specs.declared.commits.Commit.{Commit}
 use Rattle.lst_model.specs.Histories.{Extends}
 use Rattle.lst_core_state.specs.State.{commits_of}

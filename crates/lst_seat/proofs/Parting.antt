@@ -42,6 +42,24 @@ module _ (v : View) (left rest : List Room) (room : Room) (is : left ≡ rest ++
       number : v.limits.sessions - 1 - length rest ≡ s
       number = let e = one_less in omega arith
 
+-- no room serves no session, and the next one that is taken serves the session before
+pub rooms_none : (v : View) → AreRooms v []
+rooms_none v = record { few = omega arith; each = λ k none low. absurd (omega arith) }
+
+pub rooms_next : (v : View) (rooms : List Room) (room : Room) (s : ℕ) → length rooms + (s + 1) ≡ v.limits.sessions → AreRooms v rooms → Serves room v s → AreRooms v (rooms ++ room ∷ [])
+rooms_next v rooms room s count so serves = record {
+  few = let e = length-append rooms (room ∷ []) in omega arith;
+  each = λ k none low. dite (ℕ_discrete k (length rooms))
+      (λ e. subst (λ (q : Room × ℕ). Serves q.0 v q.1) (λ i. (sym (get_or_at rooms room [] none k (sym e)) i, number k e i)) serves)
+      (λ ne. subst (λ (r : Room). Serves r v (v.limits.sessions - 1 - k)) (sym (get_or_append_left rooms (room ∷ []) none k (below k low ne))) (so.each k none (below k low ne)));
+}
+  where
+    number : (k : ℕ) → k ≡ length rooms → s ≡ v.limits.sessions - 1 - k
+    number k e = omega arith
+
+    below : (k : ℕ) → k < length (rooms ++ room ∷ []) → k ≢ length rooms → k < length rooms
+    below k low ne = let e = length-append rooms (room ∷ []) in grind (arith, low, ne, e)
+
 -- the sessions below s have seats of their own, and the seat that is parted has the rest
 pub record PartsSo (store : Store) (v : View) (seats : List Sitting) (rest : Sitting) (s : ℕ) : Type 0 where
   pub count : length seats ≡ s
