@@ -104,6 +104,10 @@ module _ (store : Store) (v : View) (a : Sitting) (epoch n : ℕ) (on : LooksOn 
   pub looks_idle : (stock_of v).waiting ≡ None → (stock_of a.view).waiting ≡ None
   looks_idle idle = let rest = looks_rest (stock_of v) on.looks.found n in ap (λ (m : MergerFrames). m.waiting) (stock_now v a.view (pins_found (stock_of v) on.looks.found n) on.looks.looks.view) ∙ (rest.waiting ∙ idle)
 
+  -- the merger is still hosted
+  pub looks_host : hosts v v.limits.sessions ≡ true → hosts a.view a.view.limits.sessions ≡ true
+  looks_host hosted = let view = on.looks.looks.view in subst (λ (l : Limits). hosts a.view l.sessions ≡ true) (sym view.limits) (still_hosts v a.view (pins_found (stock_of v) on.looks.found n) view v.limits.sessions hosted)
+
   pub looks_free : (b : Sitting) (x : ℕ) → n < v.limits.sessions → IsSeatOf store b → PinLooked a.view b.view n x → lets_go x epoch ≡ true → LooksOn store v b epoch (n + 1)
   looks_free b x low is looked go = let e : suc n ≡ n + 1 = omega arith in record {
     is = is;
