@@ -8,16 +8,10 @@ mod allowed;
 mod chains;
 mod cores;
 mod drafts;
-#[cfg(test)]
-mod drawn_tests;
 mod numbers;
-#[cfg(test)]
-mod plain;
 mod postings;
 mod probes;
 mod reads;
-#[cfg(test)]
-mod tests;
 
 pub use allowed::{is_within, session_of};
 pub use cores::{Core, NotEnabled};

@@ -9,8 +9,6 @@ mod hands;
 mod page_core;
 mod queue;
 mod tails;
-#[cfg(test)]
-mod tests;
 
 pub use hands::PageId;
 pub use page_core::{NotEnabled, PageCore};

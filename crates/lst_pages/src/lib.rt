@@ -15,8 +15,6 @@ mod frames;
 mod laws;
 mod numbers;
 mod tails;
-#[cfg(test)]
-mod tests;
 
 pub use entries::{Entry, fold_tails};
 pub use events::PageEvent;

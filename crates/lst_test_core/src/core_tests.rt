@@ -1,6 +1,6 @@
 //! The core run on one worked transaction.
 
-use crate::{Core, Event};
+use lst_core::{Core, Event};
 use lst_layout::{Layout, Limits};
 use lst_probe::start;
 use std::test::Fail;

@@ -2,9 +2,9 @@
 ghost use Rattle.std.specs.Prelude.{◌≡◌, ◌<◌};
 ghost use Rattle.lst_pages.specs.Step.{IsWithin};
 
-use crate::{NotEnabled, PageCore};
 use arrayvec::ArrayVec;
 use lst_bits::Kind;
+use lst_core_pages::{NotEnabled, PageCore};
 use lst_layout::{FRAME_NULLS, FRAME_TIMES, FRAME_VALUES, FRAME_WORDS, Limits, RANGE_RECORDS};
 use lst_model::{OutOfMemory, Row};
 use lst_pages::{PageEvent, PageTail};

@@ -1,10 +1,10 @@
 //! Pages of worked tails.
 
-use crate::{PageTail, entry_in, is_right};
 use arrayvec::ArrayVec;
 use lst_bits::Kind;
 use lst_layout::{FRAME_NULLS, FRAME_TIMES, FRAME_VALUES, FRAME_WORDS};
 use lst_model::Row;
+use lst_pages::{PageTail, entry_in, is_right};
 use std::alloc::Global;
 use std::test::Fail;
 

@@ -1,6 +1,7 @@
 //! Drawn steps, against a plain recomputation.
+
 use crate::plain::{POSITIONS, POSTINGS, Plain, SESSIONS, TAILS, at};
-use crate::{Core, Event};
+use lst_core::{Core, Event};
 use lst_layout::{Layout, Limits, Place};
 use lst_model::OutOfMemory;
 use std::alloc::Global;

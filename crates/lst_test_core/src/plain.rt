@@ -1,6 +1,6 @@
 //! A plain recomputation of the core: an array an area, and each step's conditions written down anew.
 
-use crate::Event;
+use lst_core::{Event, session_of};
 use lst_layout::Place;
 use lst_probe::start;
 
@@ -413,7 +413,7 @@ impl Plain {
                 column,
                 position,
             } => { session < inside && column < 2 && (position as u64) < POSTINGS }
-            other => crate::session_of(other) < inside,
+            other => session_of(other) < inside,
         }
     }
 
