@@ -12,8 +12,6 @@ mod level;
 mod limits;
 mod load;
 mod table;
-#[cfg(test)]
-mod tests;
 mod words;
 
 pub use as_of::{AsOfOptions, as_of_of_words};

@@ -1,4 +1,4 @@
-//! Tests of texts: scripts with numbers and with names, each fault of a line, scripts that are generated, and tables of comma-separated values.
+//! Tests of texts: scripts with numbers and with names, each fault of a line, scripts that are generated, tables of comma-separated values, and the options of a command line.
 #![tactic(auto)]
 
 #[cfg(test)]
@@ -7,6 +7,8 @@ mod drawn_tests;
 mod fault_tests;
 #[cfg(test)]
 mod named_tests;
+#[cfg(test)]
+mod option_tests;
 #[cfg(test)]
 mod printed_tests;
 #[cfg(test)]

@@ -1,12 +1,12 @@
 //! Words of command lines, and the limits, the time, the level, the disk or the load that they name.
 
-use crate::{
-    LoadNumbers, as_of_of_words, crash_of_words, level_of_words, limits_of_words, load_of_words,
-    table_of_words,
-};
 use lst_layout::Limits;
 use lst_legal_runs::Level;
 use lst_model::OutOfMemory;
+use lst_options::{
+    LoadNumbers, as_of_of_words, crash_of_words, level_of_words, limits_of_words, load_of_words,
+    table_of_words,
+};
 use std::alloc::Global;
 use std::process::Abort;
 use std::test::Fail;
