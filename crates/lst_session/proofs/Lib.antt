@@ -1,3 +1,4 @@
+pub mod Refusals
 pub mod Agreeing
 pub mod Tried
 pub mod Growing

@@ -1,6 +1,126 @@
-use Rattle.std.proofs.Common.{refl}
-use Rattle.lst_txn.proofs.Transacting.{opens}
+use Rattle.std.proofs.Common.{true, ℕ, ◌<◌, ⊎_elim, refl, sym, subst, ap, ◌∙◌, arith}
+use Rattle.lst_layout.specs.declared.limits.Limits.{Limits}
+use Rattle.lst_txn.specs.Transactions.{Sees}
+use Rattle.lst_txn.proofs.Refusing.{neither, not_false, not_true, ok_err, active_spent, active_future, spent_active, spent_future, future_is, hosts_on, own_on, may_open}
+use Rattle.lst_txn.proofs.Transacting.{sees, opens}
 use Rattle.lst_txn.proofs.begins.as_of.Goals as goal
+
+pub is_open-requires : goal.is_open-requires
+is_open-requires c = c.requires.host
+
+pub returns-then-is_open-clause-seat : goal.returns-then-is_open-clause-seat
+returns-then-is_open-clause-seat c = c.requires.seat
+
+pub returns-then-is_open-clause-hosted : goal.returns-then-is_open-clause-hosted
+returns-then-is_open-clause-hosted c = refl
+
+pub returns-then-is_open-clause-ok : goal.returns-then-is_open-clause-ok
+returns-then-is_open-clause-ok c = tt
+
+pub returns-then-is_open-clause-active : goal.returns-then-is_open-clause-active
+returns-then-is_open-clause-active c = (λ _. sym c.is_open.ensures ∙ c.if-is_open.true, λ _. refl)
+
+pub returns-then-is_open-clause-spent : goal.returns-then-is_open-clause-spent
+returns-then-is_open-clause-spent c = neither _ _ (active_spent _ refl) (λ h. not_false _ (sym c.is_open.ensures ∙ c.if-is_open.true) h.0)
+
+pub returns-then-is_open-clause-future : goal.returns-then-is_open-clause-future
+returns-then-is_open-clause-future c = λ clock same. absurd (active_future _ clock refl same)
+
+pub returns-then-is_open-clause-never : goal.returns-then-is_open-clause-never
+returns-then-is_open-clause-never c = λ _ clock. active_future _ clock refl
+
+pub returns-then-is_open-clause-still : goal.returns-then-is_open-clause-still
+returns-then-is_open-clause-still c = λ _. refl
+
+pub number-requires : goal.number-requires
+number-requires c = c.requires.host
+
+pub returns-then-number-limits-clause-seat : goal.returns-then-number-limits-clause-seat
+returns-then-number-limits-clause-seat c = c.requires.seat
+
+pub returns-then-number-limits-clause-hosted : goal.returns-then-number-limits-clause-hosted
+returns-then-number-limits-clause-hosted c = refl
+
+pub returns-then-number-limits-clause-ok : goal.returns-then-number-limits-clause-ok
+returns-then-number-limits-clause-ok c = tt
+
+pub returns-then-number-limits-clause-active : goal.returns-then-number-limits-clause-active
+returns-then-number-limits-clause-active c = neither _ _ (spent_active _ refl) (not_true _ (sym c.is_open.ensures ∙ c.if-is_open.false))
+
+pub returns-then-number-limits-clause-spent : goal.returns-then-number-limits-clause-spent
+returns-then-number-limits-clause-spent c = (λ _. (sym c.is_open.ensures ∙ c.if-is_open.false, sym c.number.ensures.is ∙ (c.if-number-limits.true ∙ ap (λ (l : Limits). l.txns) c.limits.ensures)), λ _. refl)
+
+pub returns-then-number-limits-clause-future : goal.returns-then-number-limits-clause-future
+returns-then-number-limits-clause-future c = λ clock same. absurd (spent_future _ clock refl same)
+
+pub returns-then-number-limits-clause-never : goal.returns-then-number-limits-clause-never
+returns-then-number-limits-clause-never c = λ _ clock. spent_future _ clock refl
+
+pub returns-then-number-limits-clause-still : goal.returns-then-number-limits-clause-still
+returns-then-number-limits-clause-still c = λ _. refl
+
+pub load_clock-clock-requires-clause-seat : goal.load_clock-clock-requires-clause-seat
+load_clock-clock-requires-clause-seat c = c.requires.seat
+
+pub load_clock-clock-requires-clause-host : goal.load_clock-clock-requires-clause-host
+load_clock-clock-requires-clause-host c = c.requires.host
+
+pub returns-then-clock-time-clause-seat : goal.returns-then-clock-time-clause-seat
+returns-then-clock-time-clause-seat c = c.load_clock-clock.ensures.seat
+
+pub returns-then-clock-time-clause-hosted : goal.returns-then-clock-time-clause-hosted
+returns-then-clock-time-clause-hosted c = c.load_clock-clock.ensures.clocked.view.hosted
+
+pub returns-then-clock-time-clause-ok : goal.returns-then-clock-time-clause-ok
+returns-then-clock-time-clause-ok c = tt
+
+pub returns-then-clock-time-clause-active : goal.returns-then-clock-time-clause-active
+returns-then-clock-time-clause-active c = neither _ _ (λ same. active_future _ _ same refl) (not_true _ (sym c.is_open.ensures ∙ c.if-is_open.false))
+
+pub returns-then-clock-time-clause-spent : goal.returns-then-clock-time-clause-spent
+returns-then-clock-time-clause-spent c = neither _ _ (λ same. spent_future _ _ same refl) (λ h. c.if-number-limits.false (c.number.ensures.is ∙ (h.1 ∙ ap (λ (l : Limits). l.txns) (sym c.limits.ensures))))
+
+pub returns-then-clock-time-clause-future : goal.returns-then-clock-time-clause-future
+returns-then-clock-time-clause-future c = λ x same. subst (λ (y : ℕ). (y < c.args.time) × Sees c.args.seat.now.view c.load_clock-clock.new.seat.view c.args.s y) (future_is _ _ _ refl same) (c.if-clock-time.true, sees _ _ _ _ c.load_clock-clock.ensures.clocked c.requires.own)
+
+pub returns-then-clock-time-clause-never : goal.returns-then-clock-time-clause-never
+returns-then-clock-time-clause-never c = λ early clock same. let h = c.if-clock-time.true in let e = c.load_clock-clock.ensures.clocked.least in omega arith
+
+pub returns-then-clock-time-clause-still : goal.returns-then-clock-time-clause-still
+returns-then-clock-time-clause-still c = λ h. ⊎_elim (λ same. absurd (active_future _ _ same refl)) (λ same. absurd (spent_future _ _ same refl)) h
+
+pub step_begin-requires-clause-seat : goal.step_begin-requires-clause-seat
+step_begin-requires-clause-seat c = c.load_clock-clock.ensures.seat
+
+pub step_begin-requires-clause-host : goal.step_begin-requires-clause-host
+step_begin-requires-clause-host c = hosts_on _ _ _ _ _ c.load_clock-clock.ensures.clocked.view c.requires.host
+
+pub step_begin-requires-clause-own : goal.step_begin-requires-clause-own
+step_begin-requires-clause-own c = own_on _ _ _ _ _ c.load_clock-clock.ensures.clocked.view c.requires.own
+
+pub step_begin-requires-clause-enabled : goal.step_begin-requires-clause-enabled
+step_begin-requires-clause-enabled c = may_open _ _ _ _ _ _ true _ _ c.load_clock-clock.ensures.clocked c.is_open.ensures c.if-is_open.false c.number.ensures.is (c.number.ensures.few c.requires.own) c.limits.ensures c.if-number-limits.false c.if-clock-time.false
+
+pub returns-clause-seat : goal.returns-clause-seat
+returns-clause-seat c = c.step_begin.ensures.seat
+
+pub returns-clause-hosted : goal.returns-clause-hosted
+returns-clause-hosted c = c.step_begin.ensures.view.hosted ∙ c.load_clock-clock.ensures.clocked.view.hosted
 
 pub returns-clause-ok : goal.returns-clause-ok
 returns-clause-ok c = (refl, (c.load_clock-clock.result, opens _ _ _ _ _ _ _ c.load_clock-clock.ensures.clocked c.requires.own c.if-clock-time.false c.step_begin.ensures.view c.step_begin.ensures.made))
+
+pub returns-clause-active : goal.returns-clause-active
+returns-clause-active c = neither _ _ (ok_err _ _ _ _) (not_true _ (sym c.is_open.ensures ∙ c.if-is_open.false))
+
+pub returns-clause-spent : goal.returns-clause-spent
+returns-clause-spent c = neither _ _ (ok_err _ _ _ _) (λ h. c.if-number-limits.false (c.number.ensures.is ∙ (h.1 ∙ ap (λ (l : Limits). l.txns) (sym c.limits.ensures))))
+
+pub returns-clause-future : goal.returns-clause-future
+returns-clause-future c = λ clock same. absurd (ok_err _ _ _ _ same)
+
+pub returns-clause-never : goal.returns-clause-never
+returns-clause-never c = λ _ clock. ok_err _ _ _ _
+
+pub returns-clause-still : goal.returns-clause-still
+returns-clause-still c = λ h. ⊎_elim (λ same. absurd (ok_err _ _ _ _ same)) (λ same. absurd (ok_err _ _ _ _ same)) h

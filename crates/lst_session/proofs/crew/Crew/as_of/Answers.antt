@@ -39,3 +39,21 @@ returns-clause-ok c = opened c.args.self.now.seat.view c.as_of.new.seat.view c.a
 
 pub returns-clause-future : goal.returns-clause-future
 returns-clause-future c = λ clock is. is_ahead c.args.self.now.seat.view c.as_of.new.seat.view c.args.s clock c.args.time (c.as_of.ensures.future clock is).0 (c.as_of.ensures.future clock is).1
+
+pub as_of-requires-clause-seat : goal.as_of-requires-clause-seat
+as_of-requires-clause-seat c = c.requires.crew.seat_of
+
+pub as_of-requires-clause-own : goal.as_of-requires-clause-own
+as_of-requires-clause-own c = c.requires.session
+
+pub returns-clause-active : goal.returns-clause-active
+returns-clause-active c = c.as_of.ensures.active
+
+pub returns-clause-spent : goal.returns-clause-spent
+returns-clause-spent c = c.as_of.ensures.spent
+
+pub returns-clause-never : goal.returns-clause-never
+returns-clause-never c = c.as_of.ensures.never
+
+pub returns-clause-still : goal.returns-clause-still
+returns-clause-still c = λ h. ap (λ (seat : Sitting). seat.view) (c.as_of.ensures.still h)

@@ -34,3 +34,75 @@ pub returns-in-Commit-clause-session : goal.returns-in-Commit-clause-session
 returns-in-Commit-clause-session c = subst (λ (call : Call). CallLeaves c.args.self.now.seat.view c.commit.new.self.seat.view c.args.s call c.commit_reply.result) (sym c.in-Commit.is)
     (subst (CommitLeaves c.args.self.now.seat.view c.commit.new.self.seat.view c.args.s) (sym c.commit_reply.ensures)
     (commit_leaves c.args.self.now.seat.view c.commit.new.self.seat.view c.args.s c.commit.result c.commit.ensures.committed c.commit.ensures.ended c.commit.ensures.idle c.commit.ensures.still))
+
+pub begin-requires-clause-crew : goal.begin-requires-clause-crew
+begin-requires-clause-crew c = c.requires.crew
+
+pub begin-requires-clause-session : goal.begin-requires-clause-session
+begin-requires-clause-session c = c.requires.session
+
+pub as_of-requires-clause-crew : goal.as_of-requires-clause-crew
+as_of-requires-clause-crew c = c.requires.crew
+
+pub as_of-requires-clause-session : goal.as_of-requires-clause-session
+as_of-requires-clause-session c = c.requires.session
+
+pub insert-requires-clause-crew : goal.insert-requires-clause-crew
+insert-requires-clause-crew c = c.requires.crew
+
+pub insert-requires-clause-session : goal.insert-requires-clause-session
+insert-requires-clause-session c = c.requires.session
+
+pub update-requires-clause-crew : goal.update-requires-clause-crew
+update-requires-clause-crew c = c.requires.crew
+
+pub update-requires-clause-session : goal.update-requires-clause-session
+update-requires-clause-session c = c.requires.session
+
+pub delete-requires-clause-crew : goal.delete-requires-clause-crew
+delete-requires-clause-crew c = c.requires.crew
+
+pub delete-requires-clause-session : goal.delete-requires-clause-session
+delete-requires-clause-session c = c.requires.session
+
+pub get-requires-clause-crew : goal.get-requires-clause-crew
+get-requires-clause-crew c = c.requires.crew
+
+pub get-requires-clause-session : goal.get-requires-clause-session
+get-requires-clause-session c = c.requires.session
+
+pub commit-requires-clause-crew : goal.commit-requires-clause-crew
+commit-requires-clause-crew c = c.requires.crew
+
+pub commit-requires-clause-session : goal.commit-requires-clause-session
+commit-requires-clause-session c = c.requires.session
+
+pub abort-requires-clause-crew : goal.abort-requires-clause-crew
+abort-requires-clause-crew c = c.requires.crew
+
+pub abort-requires-clause-session : goal.abort-requires-clause-session
+abort-requires-clause-session c = c.requires.session
+
+pub returns-in-Begin-clause-crew : goal.returns-in-Begin-clause-crew
+returns-in-Begin-clause-crew c = c.begin.ensures.crew
+
+pub returns-in-AsOf-clause-crew : goal.returns-in-AsOf-clause-crew
+returns-in-AsOf-clause-crew c = c.as_of.ensures.crew
+
+pub returns-in-Insert-clause-crew : goal.returns-in-Insert-clause-crew
+returns-in-Insert-clause-crew c = c.insert.ensures.crew
+
+pub returns-in-Update-clause-crew : goal.returns-in-Update-clause-crew
+returns-in-Update-clause-crew c = c.update.ensures.crew
+
+pub returns-in-Delete-clause-crew : goal.returns-in-Delete-clause-crew
+returns-in-Delete-clause-crew c = c.delete.ensures.crew
+
+pub returns-in-Get-clause-crew : goal.returns-in-Get-clause-crew
+returns-in-Get-clause-crew c = c.get.ensures.crew
+
+pub returns-in-Commit-clause-crew : goal.returns-in-Commit-clause-crew
+returns-in-Commit-clause-crew c = c.commit.ensures.crew
+
+pub returns-in-Abort-clause-crew : goal.returns-in-Abort-clause-crew
+returns-in-Abort-clause-crew c = c.abort.ensures.crew

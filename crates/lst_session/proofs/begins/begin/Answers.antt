@@ -1,0 +1,71 @@
+use Rattle.std.proofs.Common.{refl, ◌∙◌}
+use Rattle.lst_rule.specs.Rule.{knows}
+use Rattle.lst_txn.specs.declared.begins.BeginFault.TheVariants.{Active, Spent, Future}
+use Rattle.lst_session.proofs.Refusals.{neither, refused_there, refused_as, not_opened, ok_err, unpinned, host_after, own_after}
+use Rattle.lst_session.proofs.begins.begin.Goals as goal
+
+pub may_begin-requires : goal.may_begin-requires
+may_begin-requires c = c.requires.host
+
+pub returns-in-Err-clause-seat : goal.returns-in-Err-clause-seat
+returns-in-Err-clause-seat c = c.requires.seat
+
+pub returns-in-Err-clause-hosted : goal.returns-in-Err-clause-hosted
+returns-in-Err-clause-hosted c = refl
+
+pub returns-in-Err-clause-ok : goal.returns-in-Err-clause-ok
+returns-in-Err-clause-ok c = tt
+
+pub returns-in-Err-clause-active : goal.returns-in-Err-clause-active
+returns-in-Err-clause-active c = refused_as c.in-Err.fault Active _ c.in-Err.ensures.active
+
+pub returns-in-Err-clause-spent : goal.returns-in-Err-clause-spent
+returns-in-Err-clause-spent c = refused_as c.in-Err.fault Spent _ c.in-Err.ensures.spent
+
+pub returns-in-Err-clause-future : goal.returns-in-Err-clause-future
+returns-in-Err-clause-future c = λ clock same. c.in-Err.ensures.future clock (refused_there c.in-Err.fault (Future clock) same)
+
+pub returns-in-Err-clause-err : goal.returns-in-Err-clause-err
+returns-in-Err-clause-err c = refl
+
+pub pin-requires-clause-seat : goal.pin-requires-clause-seat
+pin-requires-clause-seat c = c.requires.seat
+
+pub pin-requires-clause-host : goal.pin-requires-clause-host
+pin-requires-clause-host c = c.requires.host
+
+pub pin-requires-clause-own : goal.pin-requires-clause-own
+pin-requires-clause-own c = c.requires.own
+
+pub pin-requires-clause-free : goal.pin-requires-clause-free
+pin-requires-clause-free c = unpinned (knows c.args.seat.now.view c.args.s) c.requires.pinned c.in_default.ensures.ok.0
+
+pub begin-requires-clause-seat : goal.begin-requires-clause-seat
+begin-requires-clause-seat c = c.pin.ensures.seat
+
+pub begin-requires-clause-host : goal.begin-requires-clause-host
+begin-requires-clause-host c = host_after _ _ _ _ _ c.pin.ensures.pins.view c.requires.host
+
+pub begin-requires-clause-own : goal.begin-requires-clause-own
+begin-requires-clause-own c = own_after _ _ _ _ _ c.pin.ensures.pins.view c.requires.own
+
+pub returns-clause-seat : goal.returns-clause-seat
+returns-clause-seat c = c.begin.ensures.seat
+
+pub returns-clause-hosted : goal.returns-clause-hosted
+returns-clause-hosted c = c.begin.ensures.hosted ∙ c.pin.ensures.pins.view.hosted
+
+pub returns-clause-active : goal.returns-clause-active
+returns-clause-active c = neither _ _ (ok_err _ _ _ _) (not_opened _ c.in_default.ensures.ok.0)
+
+pub returns-clause-spent : goal.returns-clause-spent
+returns-clause-spent c = neither _ _ (ok_err _ _ _ _) (λ h. c.in_default.ensures.ok.1 h.1)
+
+pub returns-clause-ok : goal.returns-clause-ok
+returns-clause-ok c = record { between = c.pin.new.seat.view; pins = c.pin.ensures.pins; opens = c.in-Ok.ensures.ok }
+
+pub returns-clause-future : goal.returns-clause-future
+returns-clause-future c = λ clock. ok_err _ _ _ _
+
+pub returns-clause-err : goal.returns-clause-err
+returns-clause-err c = tt
