@@ -38,3 +38,12 @@ returns-clause-text c =
     let lead : get_or field 0 0 ≡ 48 → ⊥ = search rules in
     all_copied field c.make_room.new.bytes.items c.loop-byte.bytes.items c.loop-byte.byte-index c.loop-byte.value some lead c.loop-byte-test.false c.loop-byte.invariant.0 c.loop-byte.invariant.1
     ∙ ap (λ (text : List ℕ). text ++ decimal c.loop-byte.value) c.make_room.ensures.same
+
+pub returns-then-is_empty-clause-read : goal.returns-then-is_empty-clause-read
+returns-then-is_empty-clause-read c = c.push_parsed.ensures.read
+
+pub returns-then-is_empty-clause-text : goal.returns-then-is_empty-clause-text
+returns-then-is_empty-clause-text c = c.push_parsed.ensures.text
+
+pub returns-then-not-is_ascii_digit-clause-text : goal.returns-then-not-is_ascii_digit-clause-text
+returns-then-not-is_ascii_digit-clause-text c = tt
