@@ -1,5 +1,5 @@
 -- The check at a commit.
-use Rattle.std.proofs.Common.{◌≡◌, ℕ, ◌<◌, ◌≤◌, List, [], ◌∷◌, ◌++◌, Bool, true, false, length, refl, sym, subst, ap, ◌∙◌, arith, true≢false, append_assoc, append-nil}
+use Rattle.std.proofs.Common.{◌≡◌, ℕ, ◌<◌, ◌≤◌, List, [], ◌∷◌, ◌++◌, true, false, length, refl, sym, subst, ap, ◌∙◌, arith, true≢false, append_assoc, append-nil}
 use Rattle.std.specs.Prelude.{Option, Some, None, IfSome, IfNone}
 use Rattle.std.specs.List.{All, list_any}
 use Rattle.std.specs.BTreeMap.{is_at}
@@ -16,10 +16,9 @@ use Rattle.lst_session.specs.Held.{IsHeld, LooksStill}
 use Rattle.lst_serial.proofs.Looking.{still_same, still_on}
 use Rattle.lst_serial.specs.declared.checks.Change.{Change}
 use Rattle.lst_serial.specs.declared.keys.KeySet.{KeySet}
-use Rattle.lst_serial.specs.Keys.{members, has}
+use Rattle.lst_serial.specs.Keys.{members}
 use Rattle.lst_serial.specs.Searches.{IsLeast, IsLeastChange, StaysLeast, Searching}
-use Rattle.lst_serial.specs.Serials.{FirstChanged, IsStaleAt}
-use Rattle.lst_serial_laws.specs.Places.{IsUnchanged}
+use Rattle.lst_serial.specs.Serials.{IsStaleAt}
 use Rattle.lst_serial.proofs.Sets.{apart, any_front, any_last, any_without, last_or_before, each_has}
 
 -- where all keys were read

@@ -12,7 +12,7 @@ use Rattle.std.specs.BTreeMap.{is_at}
 use Rattle.std.specs.BTreeSet.{Updates}
 use Rattle.std.specs.Cmp.{unsigned_tied}
 use Rattle.lst_serial.specs.declared.keys.KeySet.{KeySet}
-use Rattle.lst_serial.specs.Keys.{members, has, Joins, SameKeys}
+use Rattle.lst_serial.specs.Keys.{has, Joins, SameKeys}
 
 -- ---- lists of keys
 

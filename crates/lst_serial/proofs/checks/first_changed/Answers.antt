@@ -1,11 +1,11 @@
-use Rattle.std.proofs.Common.{rules, ◌≡◌, ℕ, ◌+◌, ◌<◌, [], ◌∷◌, ◌++◌, List, length, drop, slice_index_or, refl, sym, subst, ap}
+use Rattle.std.proofs.Common.{◌≡◌, ℕ, ◌+◌, ◌<◌, [], ◌∷◌, ◌++◌, List, length, drop, slice_index_or, subst, ap}
 use Rattle.std.proofs.lemmas.List.{drop_more}
 use Rattle.std.proofs.lemmas.Map.Iter.{rest_more, rest_all}
 use Rattle.std.specs.Map.Iter.{deref}
 use Rattle.lst_rule.specs.Rule.{knows}
 use Rattle.lst_session.proofs.Growing.{begun_early}
-use Rattle.lst_serial.specs.Searches.{Searching, StaysLeast}
-use Rattle.lst_serial.proofs.Checking.{search_starts, search_none, search_some, search_as, search_on}
+use Rattle.lst_serial.specs.Searches.{StaysLeast}
+use Rattle.lst_serial.proofs.Checking.{search_starts, search_none, search_on}
 use Rattle.lst_serial.proofs.checks.first_changed.Goals as goal
 
 pub loop-key-init : goal.loop-key-init
@@ -35,3 +35,18 @@ returns-in-None-least-clause-stale c =
     let none : c.loop-other.other-iterator ≡ [] = rest_all (deref {X = ℕ}) c.loop-other.other-iterator c.next.new.self c.next.result c.in-None.is c.next.ensures.steps in
     search_none c.args.store.now c.args.session.now c.loop-other.session c.args.keys.now c.loop-other.other-iterator c.loop-other.least c.loop-other.invariant none c.in-None-least.is
     (begun_early c.args.session.now.seat.view c.args.session.now.number c.consider.ensures c.requires.held.holder.host c.requires.held.holder.on)
+
+pub least_with-least-requires : goal.least_with-least-requires
+least_with-least-requires c = record { held = c.loop-key.invariant.held }
+
+pub least_with-least-requires-in-loop-other : goal.least_with-least-requires-in-loop-other
+least_with-least-requires-in-loop-other c = record { held = c.loop-other.invariant.held }
+
+pub returns-in-None-least-clause-held : goal.returns-in-None-least-clause-held
+returns-in-None-least-clause-held c = c.loop-other.invariant.held
+
+pub returns-in-None-least-clause-number : goal.returns-in-None-least-clause-number
+returns-in-None-least-clause-number c = c.loop-other.invariant.number
+
+pub returns-in-None-least-clause-looks : goal.returns-in-None-least-clause-looks
+returns-in-None-least-clause-looks c = c.loop-other.invariant.still

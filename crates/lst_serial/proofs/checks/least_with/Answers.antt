@@ -1,6 +1,6 @@
-use Rattle.std.proofs.Common.{ℕ, ◌<◌, arith}
+use Rattle.std.proofs.Common.{arith}
 use Rattle.lst_rule.specs.Rule.{knows}
-use Rattle.lst_serial.proofs.Checking.{least_above, least_first, least_lower, least_kept}
+use Rattle.lst_serial.proofs.Checking.{least_first, least_lower, least_kept}
 use Rattle.lst_serial.proofs.checks.least_with.Goals as goal
 
 pub returns-in_default-clause-least : goal.returns-in_default-clause-least
