@@ -29,3 +29,24 @@ returns-in-Err-clause-bad c =
     let head = c.in-Some.ensures.some in
     let whole : c.as_bytes.result.now ≡ c.args.bytes = c.as_bytes.ensures in
     (λ e. absurd (cc), λ not. absurd (not (subst IsSomeBlock whole (c.in-Some.head.columns, c.in-Some.head.until, head.chains, head.block))))
+
+pub returns-in-Ok-clause-bytes : goal.returns-in-Ok-clause-bytes
+returns-in-Ok-clause-bytes c = c.from_parts.ensures
+
+pub returns-in-Ok-clause-block : goal.returns-in-Ok-clause-block
+returns-in-Ok-clause-block c =
+    let head = c.in-Some.ensures.some in
+    let whole : c.as_bytes.result.now ≡ c.args.bytes = c.as_bytes.ensures in
+    λ ok. subst IsSomeBlock whole (c.in-Some.head.columns, c.in-Some.head.until, head.chains, head.block)
+
+pub returns-in-Ok-clause-bad : goal.returns-in-Ok-clause-bad
+returns-in-Ok-clause-bad c =
+    let head = c.in-Some.ensures.some in
+    let whole : c.as_bytes.result.now ≡ c.args.bytes = c.as_bytes.ensures in
+    (λ e. absurd (cc), λ not. absurd (not (subst IsSomeBlock whole (c.in-Some.head.columns, c.in-Some.head.until, head.chains, head.block))))
+
+pub returns-in_default-clause-bytes : goal.returns-in_default-clause-bytes
+returns-in_default-clause-bytes c = tt
+
+pub returns-in-Err-clause-bytes : goal.returns-in-Err-clause-bytes
+returns-in-Err-clause-bytes c = tt

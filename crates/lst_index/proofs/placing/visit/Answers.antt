@@ -5,8 +5,10 @@ use Rattle.lst_core_state.specs.Index.{size, position_of}
 use Rattle.lst_index.proofs.Views.{works_on, works_host}
 use Rattle.lst_index.proofs.Searching.{passed_on}
 use Rattle.lst_core_state.specs.declared.facts.Find.{Find}
+use Rattle.lst_core_state.specs.declared.known.Placing.{Placing}
 use Rattle.lst_rule.specs.Rule.{knows}
 use Rattle.lst_index.specs.Searches.{Works}
+use Rattle.lst_index.specs.Visits.{Holds}
 use Rattle.lst_index.proofs.Visiting.{found_full, finds_of_err, on_err, keeps_drawn, looked_first, look_passed, look_drawn, settled_uses, settled_passed}
 use Rattle.lst_index.proofs.Leaving.{found_leaves, refused_full, settled_leaves}
 use Rattle.lst_index.proofs.placing.visit.Goals as goal
@@ -63,3 +65,90 @@ returns-in-Some-clause-after_look c = λ is. inl (keeps_drawn (knows c.args.seat
 pub returns-clause-after_look : goal.returns-clause-after_look
 returns-clause-after_look c = λ is. looked_first c.args.seat.now.view c.look.new.seat.view c.settle.new.seat.view c.args.s c.args.key c.requires.host c.requires.own c.look.ensures.works c.look.ensures.placing
     (c.in_default.ensures.none c.args.key c.args.offset c.requires.offset (c.position-at.ensures.position ∙ ap (λ (y : Layout). position_of y.limits c.args.key c.args.offset) c.layout.ensures) c.requires.passed)
+
+pub position-at-requires : goal.position-at-requires
+position-at-requires c = subst (λ (l : Limits). c.args.offset < size l) (sym (ap (λ (y : Layout). y.limits) c.layout.ensures)) c.requires.offset
+
+pub look-requires-clause-seat : goal.look-requires-clause-seat
+look-requires-clause-seat c = c.requires.seat
+
+pub look-requires-clause-host : goal.look-requires-clause-host
+look-requires-clause-host c = c.requires.host
+
+pub look-requires-clause-position : goal.look-requires-clause-position
+look-requires-clause-position c = subst (λ (l : Limits). c.position-at.result < size l) (ap (λ (y : Layout). y.limits) c.layout.ensures) c.position-at.ensures.below
+
+pub compare-requires-clause-seat : goal.compare-requires-clause-seat
+compare-requires-clause-seat c = c.look.ensures.seat
+
+pub compare-requires-clause-host : goal.compare-requires-clause-host
+compare-requires-clause-host c = works_host _ _ _ _ c.look.ensures.works c.requires.host
+
+pub compare-requires-clause-own : goal.compare-requires-clause-own
+compare-requires-clause-own c = subst (λ (l : Limits). c.args.s < l.sessions) (sym c.look.ensures.works.view.limits) c.requires.own
+
+pub compare-requires-clause-number : goal.compare-requires-clause-number
+compare-requires-clause-number c = c.in-Some.ensures.some.0
+
+pub compare-requires-clause-shows : goal.compare-requires-clause-shows
+compare-requires-clause-shows c = c.in-Some.ensures.some.1
+
+pub take_record-requires-clause-seat : goal.take_record-requires-clause-seat
+take_record-requires-clause-seat c = c.look.ensures.seat
+
+pub take_record-requires-clause-host : goal.take_record-requires-clause-host
+take_record-requires-clause-host c = works_host _ _ _ _ c.look.ensures.works c.requires.host
+
+pub take_record-requires-clause-own : goal.take_record-requires-clause-own
+take_record-requires-clause-own c = subst (λ (l : Limits). c.args.s < l.sessions) (sym c.look.ensures.works.view.limits) c.requires.own
+
+pub take_record-requires-clause-holds : goal.take_record-requires-clause-holds
+take_record-requires-clause-holds c = subst (λ (p : Placing). Holds p c.args.key) (sym c.look.ensures.placing) c.requires.holds
+
+pub settle-requires-clause-seat : goal.settle-requires-clause-seat
+settle-requires-clause-seat c = c.in_ok-take_record.ensures.seat
+
+pub settle-requires-clause-host : goal.settle-requires-clause-host
+settle-requires-clause-host c = works_host _ _ _ _ c.in_ok-take_record.ensures.works (works_host _ _ _ _ c.look.ensures.works c.requires.host)
+
+pub settle-requires-clause-own : goal.settle-requires-clause-own
+settle-requires-clause-own c = subst (λ (l : Limits). c.args.s < l.sessions) (sym c.in_ok-take_record.ensures.works.view.limits) (subst (λ (l : Limits). c.args.s < l.sessions) (sym c.look.ensures.works.view.limits) c.requires.own)
+
+pub settle-requires-clause-offset : goal.settle-requires-clause-offset
+settle-requires-clause-offset c = c.requires.offset
+
+pub settle-requires-clause-position : goal.settle-requires-clause-position
+settle-requires-clause-position c = subst (λ (l : Limits). c.position-at.result < size l) (ap (λ (y : Layout). y.limits) c.layout.ensures) c.position-at.ensures.below
+
+pub settle-requires-clause-is : goal.settle-requires-clause-is
+settle-requires-clause-is c = c.position-at.ensures.position ∙ ap (λ (y : Layout). position_of y.limits c.args.key c.args.offset) c.layout.ensures
+
+pub settle-requires-clause-has : goal.settle-requires-clause-has
+settle-requires-clause-has c = c.in_ok-take_record.ensures.has.0
+
+pub returns-in-Some-clause-seat : goal.returns-in-Some-clause-seat
+returns-in-Some-clause-seat c = c.compare.ensures.seat
+
+pub returns-in-Some-clause-full : goal.returns-in-Some-clause-full
+returns-in-Some-clause-full c = tt
+
+pub returns-in-Some-clause-none : goal.returns-in-Some-clause-none
+returns-in-Some-clause-none c = tt
+
+pub returns-in-Some-clause-kept : goal.returns-in-Some-clause-kept
+returns-in-Some-clause-kept c = tt
+
+pub returns-in_err-take_record-clause-seat : goal.returns-in_err-take_record-clause-seat
+returns-in_err-take_record-clause-seat c = c.in_err-take_record.ensures.seat
+
+pub returns-clause-seat : goal.returns-clause-seat
+returns-clause-seat c = c.settle.ensures.seat
+
+pub returns-clause-full : goal.returns-clause-full
+returns-clause-full c = tt
+
+pub returns-clause-none : goal.returns-clause-none
+returns-clause-none c = tt
+
+pub returns-clause-kept : goal.returns-clause-kept
+returns-clause-kept c = tt

@@ -1,4 +1,5 @@
 use Rattle.std.proofs.Common.{◌≡◌, ℕ, List, slice_index, slice_index_or, refl, sym, subst, ◌∙◌, arith, true≢false}
+use borrow.Author.Count.{below_more}
 use Rattle.lst_pack.specs.Forms.{Packs}
 use Rattle.lst_pages.specs.Entries.{blank}
 use Rattle.lst_pages.specs.Frames as frame
@@ -24,3 +25,15 @@ returns c = let words : ℕ → ℕ = slice_index c.args.words.now in
       }),
       (λ has. refl),
     )
+
+pub returns-then-not-is_packed : goal.returns-then-not-is_packed
+returns-then-not-is_packed c = (
+  (λ no. absurd (true≢false (sym no))),
+  (λ has. absurd (true≢false (sym (c.is_packed.ensures.1 (has.values, subst (λ (ws : List ℕ). Packs ws has.values) (sym c.packed_words.ensures) has.packed)) ∙ c.if-not-is_packed.true))),
+)
+
+pub unpack-requires : goal.unpack-requires
+unpack-requires c = let packed = c.is_packed.ensures.0 c.if-not-is_packed.false in (packed.0, subst (λ (ws : List ℕ). Packs ws packed.0) (c.packed_words.ensures ∙ sym c.packed_words-2.ensures) packed.1)
+
+pub loop-slot-preserved : goal.loop-slot-preserved
+loop-slot-preserved c = below_more (λ (i : ℕ). frame.IsEntry (slice_index c.args.words.now) (slice_index c.unpack.new.out i) i (slice_index_or c.args.entries.now i blank)) c.loop-slot.slot c.loop-slot.invariant (c.is_entry.ensures.0 c.if-not-is_entry.false)

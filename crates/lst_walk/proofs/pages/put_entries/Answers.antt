@@ -25,3 +25,24 @@ taken-requires-clause-pinned c = let some = pin_some c.pinned.result (knows c.ar
 
 pub taken-requires-clause-begin : goal.taken-requires-clause-begin
 taken-requires-clause-begin c = c.begin-begin.ensures ∙ sym (ap (λ (k : Known). k.begin) c.loop-column.invariant.skims.watched.watches.is)
+
+pub pinned-requires : goal.pinned-requires
+pinned-requires c = c.requires.reader.host
+
+pub returns-then-is_none-clause-reader : goal.returns-then-is_none-clause-reader
+returns-then-is_none-clause-reader c = c.requires.reader
+
+pub begin-begin-requires-clause-host : goal.begin-begin-requires-clause-host
+begin-begin-requires-clause-host c = c.requires.reader.host
+
+pub begin-begin-requires-clause-is_open : goal.begin-begin-requires-clause-is_open
+begin-begin-requires-clause-is_open c = c.requires.reader.opened
+
+pub taken-requires-clause-reader : goal.taken-requires-clause-reader
+taken-requires-clause-reader c = c.loop-column.invariant.reader
+
+pub taken-requires-clause-rec : goal.taken-requires-clause-rec
+taken-requires-clause-rec c = c.requires.rec
+
+pub returns-clause-reader : goal.returns-clause-reader
+returns-clause-reader c = c.loop-column.invariant.reader

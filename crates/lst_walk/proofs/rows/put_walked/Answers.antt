@@ -136,3 +136,39 @@ first_word-start-requires-clause-range c = range_low c.args.store.now.layout.lim
 
 pub first_word-start-requires-clause-number : goal.first_word-start-requires-clause-number
 first_word-start-requires-clause-number c = (omega arith, c.args.store.now.layout.valid.tails.0)
+
+pub put_entries-requires-clause-reader : goal.put_entries-requires-clause-reader
+put_entries-requires-clause-reader c = c.requires.reader
+
+pub put_entries-requires-clause-rec : goal.put_entries-requires-clause-rec
+put_entries-requires-clause-rec c = c.requires.rec
+
+pub fill-requires-clause-number : goal.fill-requires-clause-number
+fill-requires-clause-number c = c.loop-number-test.true
+
+pub returns-in-Absent-clause-reader : goal.returns-in-Absent-clause-reader
+returns-in-Absent-clause-reader c = c.fill.ensures.reader
+
+pub returns-in-Whole-clause-reader : goal.returns-in-Whole-clause-reader
+returns-in-Whole-clause-reader c = c.fill.ensures.reader
+
+pub first_after-first-requires-clause-start : goal.first_after-first-requires-clause-start
+first_after-first-requires-clause-start c = c.first_word-start.ensures
+
+pub look-requires-clause-first : goal.look-requires-clause-first
+look-requires-clause-first c = c.first_after-first.ensures
+
+pub row_under-requires-clause-reader : goal.row_under-requires-clause-reader
+row_under-requires-clause-reader c = c.look.ensures.reader
+
+pub returns-in-Row-clause-reader : goal.returns-in-Row-clause-reader
+returns-in-Row-clause-reader c = c.row_under.ensures.reader
+
+pub returns-in-NoRow-clause-reader : goal.returns-in-NoRow-clause-reader
+returns-in-NoRow-clause-reader c = c.look.ensures.reader
+
+pub below_from-number-requires-clause-seat : goal.below_from-number-requires-clause-seat
+below_from-number-requires-clause-seat c = c.look.ensures.reader.seat_of
+
+pub below_from-number-requires-clause-host : goal.below_from-number-requires-clause-host
+below_from-number-requires-clause-host c = c.look.ensures.reader.host

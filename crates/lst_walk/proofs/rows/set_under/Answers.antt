@@ -54,3 +54,18 @@ loop-column-preserved c =
 pub returns-clause-patch : goal.returns-clause-patch
 returns-clause-patch c = λ d at. merges_whole c.args.store.now c.args.s c.args.tail (λ (e : Version). merged c.args.patch.now (patched c.args.encoding.mask 0 (cells_of c.args.encoding.nulls 0 e.values))) c.args.seat.now.view c.loop-column.seat c.loop-column.column c.args.patch.now c.loop-column.patch c.loop-column.invariant d at
     (length-merged c.args.patch.now (patched c.args.encoding.mask 0 (cells_of c.args.encoding.nulls 0 d.values))) (let l = ap (λ (y : Layout). y.limits.columns) c.layout.ensures in let t = c.loop-column-test.false in let w = c.requires.wide in omega arith)
+
+pub cell_from-requires-clause-reader : goal.cell_from-requires-clause-reader
+cell_from-requires-clause-reader c = c.loop-column.invariant.reader
+
+pub cell_from-requires-clause-first : goal.cell_from-requires-clause-first
+cell_from-requires-clause-first c = c.requires.first
+
+pub returns-clause-reader : goal.returns-clause-reader
+returns-clause-reader c = c.loop-column.invariant.reader
+
+pub returns-clause-watched : goal.returns-clause-watched
+returns-clause-watched c = c.loop-column.invariant.watched
+
+pub returns-clause-loads : goal.returns-clause-loads
+returns-clause-loads c = c.loop-column.invariant.loads

@@ -4,7 +4,7 @@ use Rattle.lst_layout.specs.declared.place.Place.TheVariants.{HeadWord}
 use Rattle.lst_core_state.specs.Cells.{record_count}
 use Rattle.lst_rule.specs.Rule.{knows}
 use Rattle.lst_rule.specs.Loads.{ChainFound}
-use Rattle.lst_walk.proofs.Reading.{looked_watched, looked_possible}
+use Rattle.lst_walk.proofs.Reading.{looked_watched, looked_possible, reader_on}
 use Rattle.lst_walk.proofs.Meanings.{head_found, head_word}
 use Rattle.lst_walk.proofs.words.head.Goals as goal
 
@@ -25,3 +25,15 @@ returns-clause-chain c = subst (λ (n : ℕ). ChainFound c.args.store.now.layout
 
 pub returns-clause-looked : goal.returns-clause-looked
 returns-clause-looked c = (c.load_head.result, c.load_head.ensures.looked, c.unpack_head.ensures.head)
+
+pub load_head-requires-clause-seat : goal.load_head-requires-clause-seat
+load_head-requires-clause-seat c = c.requires.reader.seat_of
+
+pub load_head-requires-clause-host : goal.load_head-requires-clause-host
+load_head-requires-clause-host c = c.requires.reader.host
+
+pub load_head-requires-clause-place : goal.load_head-requires-clause-place
+load_head-requires-clause-place c = (subst (λ (l : Limits). c.args.rec.number < record_count l) (sym c.requires.reader.seat_of.limits) c.requires.rec)
+
+pub returns-clause-reader : goal.returns-clause-reader
+returns-clause-reader c = reader_on c.args.store.now c.args.seat.now c.load_head.new.seat c.args.s c.requires.reader (looked_watched c.args.seat.now.view c.load_head.new.seat.view c.args.s c.load_head.result (HeadWord c.args.rec.number) c.requires.reader.host (subst (λ (l : Limits). c.args.rec.number < record_count l) (sym c.requires.reader.seat_of.limits) c.requires.rec) tt c.load_head.ensures.looked) c.load_head.ensures.seat
