@@ -1,4 +1,4 @@
-use Rattle.std.proofs.Common.{◌≡◌, ◌≤◌, ◌+◌, ◌++◌, [], ◌∷◌, ℕ, List, length, inl, ⊎_elim, ◌∙◌, ap, sym, subst, arith}
+use Rattle.std.proofs.Common.{◌≡◌, ◌≤◌, ◌+◌, ◌++◌, [], ◌∷◌, ℕ, List, length, inl, ⊎_elim, ◌∙◌, ap, refl, sym, subst, arith}
 use Rattle.lst_redo.specs.Format.{body}
 use Rattle.lst_redo.specs.Journals.{StandsForOrOneMore}
 use Rattle.lst_redo.specs.Stores.{opened, HalfStored}
@@ -61,3 +61,18 @@ returns-in-Ok-store_gated-clause-written g c =
     let disk = log.disk in
     c.in-Ok-store_gated.ensures.stored ∙ ap (λ (content : List ℕ). opened content log.end c.as_slice.result.now) c.room.ensures.content
     ∙ ap (opened (g.D.Disk.content disk) log.end) (c.as_slice.ensures.value ∙ c.in-Ok.ensures)
+
+pub piece_of-requires-clause-columns : goal.piece_of-requires-clause-columns
+piece_of-requires-clause-columns g c = c.requires.columns
+
+pub piece_of-requires-clause-record : goal.piece_of-requires-clause-record
+piece_of-requires-clause-record g c = c.requires.record
+
+pub returns-in-Ok-store_gated-clause-columns : goal.returns-in-Ok-store_gated-clause-columns
+returns-in-Ok-store_gated-clause-columns g c = refl
+
+pub returns-clause-columns : goal.returns-clause-columns
+returns-clause-columns g c = refl
+
+pub store_gated-requires-clause-lasts : goal.store_gated-requires-clause-lasts
+store_gated-requires-clause-lasts g c = λ image left. c.requires.open.1.lasts image (c.room.ensures.crash image left) ∙ sym c.room.ensures.content
