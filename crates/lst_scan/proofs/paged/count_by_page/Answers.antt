@@ -12,6 +12,7 @@ use Rattle.lst_scan.specs.Savings.{SavesPart}
 use Rattle.lst_scan.proofs.Folded.{none_saves, saves_join}
 use Rattle.lst_scan.proofs.Sheets.{hand_low, stamps_loaded, stamps_skim, count_before}
 use Rattle.lst_scan.proofs.Untold.{stamps_told}
+use Rattle.lst_walk.proofs.Reading.{reader_on}
 use Rattle.lst_scan.proofs.paged.count_by_page.Goals as goal
 
 pub load_times-requires-clause-run : goal.load_times-requires-clause-run
@@ -54,3 +55,27 @@ returns-clause-count c = let r = c.requires.reader in
     (λ place places. lanes
     ∙ subst (λ (n : ℕ). c.count_untold-walked.result.total + entries_add (knows c.load_times.new.seat.view c.args.s).begin (λ (slot : ℕ). 1) c.count_untold-walked.new.times 256 ≡ count_of (between place (256 * c.args.range) n (table_seen (knows c.load_times.new.seat.view c.args.s)))) end
     (c.count_untold-walked.ensures.count place places))
+
+pub load_frame-tps-requires-clause-seat : goal.load_frame-tps-requires-clause-seat
+load_frame-tps-requires-clause-seat c = c.requires.reader.seat_of
+
+pub load_frame-tps-requires-clause-host : goal.load_frame-tps-requires-clause-host
+load_frame-tps-requires-clause-host c = c.requires.reader.host
+
+pub load_times-requires-clause-seat : goal.load_times-requires-clause-seat
+load_times-requires-clause-seat c = c.load_frame-tps.ensures.seat
+
+pub count_untold-walked-requires-clause-reader : goal.count_untold-walked-requires-clause-reader
+count_untold-walked-requires-clause-reader c = let r = c.requires.reader in
+    let skims : Skims c.args.seat.now.view c.load_times.new.seat.view c.args.s = stamps_skim c.args.seat.now.view c.load_frame-tps.new.seat.view c.load_times.new.seat.view c.args.s c.args.frame c.load_frame-tps.result (slice_index c.load_times.new.out) r.host
+    (hand_low c.args.seat.now.view c.args.s c.args.range 0 c.args.frame c.consider.ensures r.host r.own c.requires.frame) c.load_frame-tps.ensures.loaded c.load_times.ensures.loads c.load_times.ensures.found in
+    reader_on c.args.store.now c.args.seat.now c.load_times.new.seat c.args.s r skims.watched c.load_times.ensures.seat
+
+pub count_untold-walked-requires-clause-range : goal.count_untold-walked-requires-clause-range
+count_untold-walked-requires-clause-range c = c.requires.range
+
+pub returns-clause-reader : goal.returns-clause-reader
+returns-clause-reader c = c.count_untold-walked.ensures.reader
+
+pub returns-clause-few : goal.returns-clause-few
+returns-clause-few c = c.with_rows.ensures.few

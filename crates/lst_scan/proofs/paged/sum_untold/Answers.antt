@@ -119,3 +119,23 @@ pub column_from-found-requires-clause-begin : goal.column_from-found-requires-cl
 column_from-found-requires-clause-begin c = let r = c.requires.reader in
     let skims : Skims c.args.seat.now.view c.load_heads.new.seat.view c.args.s = heads_skim c.args.seat.now.view c.load_heads.new.seat.view c.args.s c.args.range (slice_index c.load_heads.new.out) r.host (subst (λ l. c.args.range < l.ranges) (sym r.seat_of.limits) c.requires.range) c.load_heads.ensures.loads c.load_heads.ensures.found in
     c.begin-begin.ensures ∙ (ap (λ (k : Known). k.begin) skims.watched.watches.is ∙ sym (ap (λ (k : Known). k.begin) c.loop-slot.invariant.0.scans.watched.watches.is))
+
+pub load_heads-requires-clause-seat : goal.load_heads-requires-clause-seat
+load_heads-requires-clause-seat c = c.requires.reader.seat_of
+
+pub load_heads-requires-clause-host : goal.load_heads-requires-clause-host
+load_heads-requires-clause-host c = c.requires.reader.host
+
+pub returns-then-known-clause-reader : goal.returns-then-known-clause-reader
+returns-then-known-clause-reader c = let r = c.requires.reader in
+    let skims : Skims c.args.seat.now.view c.load_heads.new.seat.view c.args.s = heads_skim c.args.seat.now.view c.load_heads.new.seat.view c.args.s c.args.range (slice_index c.load_heads.new.out) r.host (subst (λ l. c.args.range < l.ranges) (sym r.seat_of.limits) c.requires.range) c.load_heads.ensures.loads c.load_heads.ensures.found in
+    reader_on c.args.store.now c.args.seat.now c.load_heads.new.seat c.args.s r skims.watched c.load_heads.ensures.seat
+
+pub column_from-found-requires-clause-reader : goal.column_from-found-requires-clause-reader
+column_from-found-requires-clause-reader c = c.loop-slot.invariant.0.scans.reader
+
+pub returns-clause-reader : goal.returns-clause-reader
+returns-clause-reader c = c.loop-slot.invariant.0.scans.reader
+
+pub returns-clause-watched : goal.returns-clause-watched
+returns-clause-watched c = c.loop-slot.invariant.0.scans.watched
