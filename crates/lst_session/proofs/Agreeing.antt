@@ -14,7 +14,7 @@ use Rattle.lst_rule.specs.declared.view.View.{View}
 use Rattle.lst_rule.specs.Rule.{knows, hosts}
 use Rattle.lst_rule.specs.Learned.{Possible}
 use Rattle.lst_rule.specs.Copies.{Version, IsCopy, Includes}
-use Rattle.lst_rule.specs.Seen.{sees, SeesAlike, HasKey}
+use Rattle.lst_rule.specs.Seen.{SeesAlike, HasKey}
 use Rattle.lst_rule.specs.Judging.{IsJudged}
 use Rattle.lst_rule.specs.Watching.{Watched}
 use Rattle.lst_rule.specs.Laws.{KeptBy}

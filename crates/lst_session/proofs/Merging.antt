@@ -5,7 +5,6 @@ use Rattle.lst_layout.specs.declared.limits.Limits.{Limits}
 use Rattle.lst_layout.specs.Words.{Words}
 use Rattle.lst_model.specs.declared.lines.Line.TheVariants as line
 use Rattle.lst_model.specs.declared.replies.Reply.{Reply}
-use Rattle.lst_machine.specs.State.{Store as Machine}
 use Rattle.lst_machine.specs.Merges as machine
 use Rattle.lst_core_state.specs.declared.known.Known.{Known}
 use Rattle.lst_core_state.specs.declared.pages.MergerFrames.{MergerFrames}
@@ -16,7 +15,7 @@ use Rattle.lst_pages.specs.Step.{lets_go}
 use Rattle.lst_pages.specs.Runs.{tps_known}
 use Rattle.lst_rule.specs.declared.store.Store.{Store}
 use Rattle.lst_rule.specs.declared.view.View.{View}
-use Rattle.lst_rule.specs.Rule.{knows, hosts}
+use Rattle.lst_rule.specs.Rule.{knows}
 use Rattle.lst_rule.specs.Learned.{Possible}
 use Rattle.lst_rule.specs.PageSteps.{stock_of}
 use Rattle.lst_rule.specs.Stores.{IsSeatOf}

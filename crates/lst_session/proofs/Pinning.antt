@@ -3,7 +3,6 @@ use Rattle.std.proofs.Common.{◌≡◌, ◌≢◌, ℕ, ◌+◌, ◌<◌, false
 use Rattle.lst_layout.specs.declared.limits.Limits.{Limits}
 use Rattle.lst_layout.specs.declared.place.Place.TheVariants.{PinWord}
 use Rattle.lst_layout.specs.Addresses.{address}
-use Rattle.lst_layout.specs.Areas as areas
 use Rattle.lst_layout.specs.Words.{Words, with_word}
 use Rattle.lst_model.specs.declared.lines.Call.{Call}
 use Rattle.lst_model.specs.declared.replies.Reply.{Reply}

@@ -1,41 +1,16 @@
 -- What the parts of a call tell, handed on.
-use Rattle.std.proofs.Common.{◌≡◌, ℕ, zero, suc, ◌↔◌, ◌<◌, ◌≤◌, Bool, true, false, Result, Ok, Err, refl, sym, subst, ap, ◌∙◌, arith, nat_lt, lt-ltb, true≢false, List, slice_index_or}
-use Rattle.lst_layout.specs.declared.limits.Limits.{Limits}
+use Rattle.std.proofs.Common.{◌≡◌, ℕ, zero, suc, ◌↔◌, ◌<◌, Bool, true, false, Result, Err, refl, sym, ap, ◌∙◌, arith, nat_lt, lt-ltb, true≢false}
 use Rattle.lst_core_state.specs.declared.known.Known.{Known}
 use Rattle.lst_refinement.specs.Crews.{IsIdle, IsPinnedWhereOpen}
-use Rattle.lst_rule.specs.declared.view.View.{View}
-use Rattle.lst_rule.specs.Rule.{hosts}
-use Rattle.lst_rule.specs.Learned.{Learns}
 use Rattle.lst_txn.specs.Transactions.{IsFree}
+use Rattle.lst_txn.proofs.Refusing.{not_false}
 use Rattle.lst_txn.specs.declared.ends.TurnFault.{TurnFault}
 use Rattle.lst_txn.specs.declared.ends.TurnFault.TheVariants as turns
 use Rattle.lst_session.specs.declared.kinds.CommitRefusal.{CommitRefusal}
 use Rattle.lst_session.specs.declared.kinds.CommitRefusal.TheVariants as refusals
 use Rattle.lst_txn.specs.declared.begins.BeginFault.{BeginFault}
-use Rattle.lst_txn.specs.declared.begins.BeginFault.TheVariants.{Active, Spent, Future}
 
 -- ---- an answer is one thing and no other
-
-pub neither : (P Q : Type 0) → ¬ P → ¬ Q → P ↔ Q
-neither P Q p q = (λ h. absurd (p h), λ h. absurd (q h))
-
-pub not_false : (o : Bool) → o ≡ true → ¬ (o ≡ false)
-not_false o is same = cc
-
-pub not_opened : (o : Bool) → o ≡ false → ¬ (o ≡ true)
-not_opened o is same = cc
-
-pub ok_err : (A E : Type 0) (a : A) (e : E) → ¬ (Ok a ≡ Err e)
-ok_err A E a e same = cc
-
-pub active_future : (r : Result ℕ BeginFault) (clock : ℕ) → r ≡ Err Active → ¬ (r ≡ Err (Future clock))
-active_future r clock is same = cc
-
-pub spent_future : (r : Result ℕ BeginFault) (clock : ℕ) → r ≡ Err Spent → ¬ (r ≡ Err (Future clock))
-spent_future r clock is same = cc
-
-pub future_is : (r : Result ℕ BeginFault) (x y : ℕ) → r ≡ Err (Future x) → r ≡ Err (Future y) → x ≡ y
-future_is r x y is same = cc
 
 -- what may_begin refuses, its caller refuses
 fault_is : (A : Type 0) (r : Result A BeginFault) (f g : BeginFault) → r ≡ Err f → r ≡ Err g → f ≡ g
@@ -61,12 +36,6 @@ opened_by true some = refl
 opened_by false some = absurd (some refl)
 
 -- ---- what a session is
-
-pub host_after : (v w : View) (s t : ℕ) (k : Known) → Learns v w s k → hosts v t ≡ true → hosts w t ≡ true
-host_after v w s t k l h = ap (λ (bs : List Bool). slice_index_or bs t false) l.hosted ∙ h
-
-pub own_after : (v w : View) (s t : ℕ) (k : Known) → Learns v w s k → t < v.limits.sessions → t < w.limits.sessions
-own_after v w s t k l h = subst (λ (m : Limits). t < m.sessions) (sym l.limits) h
 
 pub idle_free : (k : Known) → IsIdle k → IsFree k
 idle_free k idle = (idle.turn, ap (λ h. h.latch) idle.hold)

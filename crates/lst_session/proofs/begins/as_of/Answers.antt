@@ -1,7 +1,8 @@
 use Rattle.std.proofs.Common.{ℕ, ◌<◌, ⊎_elim, refl, subst, ◌∙◌, arith}
 use Rattle.lst_txn.specs.Transactions.{Sees}
 use Rattle.lst_txn.specs.declared.begins.BeginFault.TheVariants.{Active, Spent, Future}
-use Rattle.lst_session.proofs.Refusals.{neither, refused_there, refused_as, not_opened, ok_err, active_future, spent_future, future_is, host_after, own_after}
+use Rattle.lst_txn.proofs.Refusing.{neither, not_true, ok_err, active_future, spent_future, future_is, hosts_on, own_on}
+use Rattle.lst_session.proofs.Refusals.{refused_there, refused_as}
 use Rattle.lst_txn.proofs.Transacting.{sees}
 use Rattle.lst_session.proofs.begins.as_of.Goals as goal
 
@@ -48,7 +49,7 @@ pub returns-then-clock-time-clause-ok : goal.returns-then-clock-time-clause-ok
 returns-then-clock-time-clause-ok c = tt
 
 pub returns-then-clock-time-clause-active : goal.returns-then-clock-time-clause-active
-returns-then-clock-time-clause-active c = neither _ _ (λ same. active_future _ _ same refl) (not_opened _ c.in_default.ensures.ok.0)
+returns-then-clock-time-clause-active c = neither _ _ (λ same. active_future _ _ same refl) (not_true _ c.in_default.ensures.ok.0)
 
 pub returns-then-clock-time-clause-spent : goal.returns-then-clock-time-clause-spent
 returns-then-clock-time-clause-spent c = neither _ _ (λ same. spent_future _ _ same refl) (λ h. c.in_default.ensures.ok.1 h.1)
@@ -66,19 +67,19 @@ pub pin-requires-clause-seat : goal.pin-requires-clause-seat
 pin-requires-clause-seat c = c.load_clock-clock.ensures.seat
 
 pub pin-requires-clause-host : goal.pin-requires-clause-host
-pin-requires-clause-host c = host_after _ _ _ _ _ c.load_clock-clock.ensures.clocked.view c.requires.host
+pin-requires-clause-host c = hosts_on _ _ _ _ _ c.load_clock-clock.ensures.clocked.view c.requires.host
 
 pub pin-requires-clause-own : goal.pin-requires-clause-own
-pin-requires-clause-own c = own_after _ _ _ _ _ c.load_clock-clock.ensures.clocked.view c.requires.own
+pin-requires-clause-own c = own_on _ _ _ _ _ c.load_clock-clock.ensures.clocked.view c.requires.own
 
 pub as_of-requires-clause-seat : goal.as_of-requires-clause-seat
 as_of-requires-clause-seat c = c.pin.ensures.seat
 
 pub as_of-requires-clause-host : goal.as_of-requires-clause-host
-as_of-requires-clause-host c = host_after _ _ _ _ _ c.pin.ensures.pins.view (host_after _ _ _ _ _ c.load_clock-clock.ensures.clocked.view c.requires.host)
+as_of-requires-clause-host c = hosts_on _ _ _ _ _ c.pin.ensures.pins.view (hosts_on _ _ _ _ _ c.load_clock-clock.ensures.clocked.view c.requires.host)
 
 pub as_of-requires-clause-own : goal.as_of-requires-clause-own
-as_of-requires-clause-own c = own_after _ _ _ _ _ c.pin.ensures.pins.view (own_after _ _ _ _ _ c.load_clock-clock.ensures.clocked.view c.requires.own)
+as_of-requires-clause-own c = own_on _ _ _ _ _ c.pin.ensures.pins.view (own_on _ _ _ _ _ c.load_clock-clock.ensures.clocked.view c.requires.own)
 
 pub returns-clause-seat : goal.returns-clause-seat
 returns-clause-seat c = c.as_of.ensures.seat
@@ -87,7 +88,7 @@ pub returns-clause-hosted : goal.returns-clause-hosted
 returns-clause-hosted c = c.as_of.ensures.hosted ∙ (c.pin.ensures.pins.view.hosted ∙ c.load_clock-clock.ensures.clocked.view.hosted)
 
 pub returns-clause-active : goal.returns-clause-active
-returns-clause-active c = neither _ _ (ok_err _ _ _ _) (not_opened _ c.in_default.ensures.ok.0)
+returns-clause-active c = neither _ _ (ok_err _ _ _ _) (not_true _ c.in_default.ensures.ok.0)
 
 pub returns-clause-spent : goal.returns-clause-spent
 returns-clause-spent c = neither _ _ (ok_err _ _ _ _) (λ h. c.in_default.ensures.ok.1 h.1)

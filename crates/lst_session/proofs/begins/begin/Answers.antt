@@ -1,7 +1,8 @@
 use Rattle.std.proofs.Common.{refl, ◌∙◌}
 use Rattle.lst_rule.specs.Rule.{knows}
 use Rattle.lst_txn.specs.declared.begins.BeginFault.TheVariants.{Active, Spent, Future}
-use Rattle.lst_session.proofs.Refusals.{neither, refused_there, refused_as, not_opened, ok_err, unpinned, host_after, own_after}
+use Rattle.lst_txn.proofs.Refusing.{neither, not_true, ok_err, hosts_on, own_on}
+use Rattle.lst_session.proofs.Refusals.{refused_there, refused_as, unpinned}
 use Rattle.lst_session.proofs.begins.begin.Goals as goal
 
 pub may_begin-requires : goal.may_begin-requires
@@ -44,10 +45,10 @@ pub begin-requires-clause-seat : goal.begin-requires-clause-seat
 begin-requires-clause-seat c = c.pin.ensures.seat
 
 pub begin-requires-clause-host : goal.begin-requires-clause-host
-begin-requires-clause-host c = host_after _ _ _ _ _ c.pin.ensures.pins.view c.requires.host
+begin-requires-clause-host c = hosts_on _ _ _ _ _ c.pin.ensures.pins.view c.requires.host
 
 pub begin-requires-clause-own : goal.begin-requires-clause-own
-begin-requires-clause-own c = own_after _ _ _ _ _ c.pin.ensures.pins.view c.requires.own
+begin-requires-clause-own c = own_on _ _ _ _ _ c.pin.ensures.pins.view c.requires.own
 
 pub returns-clause-seat : goal.returns-clause-seat
 returns-clause-seat c = c.begin.ensures.seat
@@ -56,7 +57,7 @@ pub returns-clause-hosted : goal.returns-clause-hosted
 returns-clause-hosted c = c.begin.ensures.hosted ∙ c.pin.ensures.pins.view.hosted
 
 pub returns-clause-active : goal.returns-clause-active
-returns-clause-active c = neither _ _ (ok_err _ _ _ _) (not_opened _ c.in_default.ensures.ok.0)
+returns-clause-active c = neither _ _ (ok_err _ _ _ _) (not_true _ c.in_default.ensures.ok.0)
 
 pub returns-clause-spent : goal.returns-clause-spent
 returns-clause-spent c = neither _ _ (ok_err _ _ _ _) (λ h. c.in_default.ensures.ok.1 h.1)

@@ -4,7 +4,8 @@ use Rattle.lst_core_state.specs.State.{rank}
 use Rattle.lst_rule.specs.Rule.{knows, hosts}
 use Rattle.lst_txn.specs.declared.ends.TurnFault.{TurnFault}
 use Rattle.lst_txn.specs.Transactions.{HoldsTurn, Commits}
-use Rattle.lst_session.proofs.Refusals.{ok_err, busy_idle, host_after, own_after, idle_free, some_writes, no_writes}
+use Rattle.lst_txn.proofs.Refusing.{ok_err, hosts_on, own_on}
+use Rattle.lst_session.proofs.Refusals.{busy_idle, idle_free, some_writes, no_writes}
 use Rattle.lst_session.proofs.commits.end.Goals as goal
 
 pub has_writes-requires : goal.has_writes-requires
@@ -62,10 +63,10 @@ pub commit-time-requires-clause-seat : goal.commit-time-requires-clause-seat
 commit-time-requires-clause-seat c = c.take_turn.ensures.seat
 
 pub commit-time-requires-clause-host : goal.commit-time-requires-clause-host
-commit-time-requires-clause-host c = subst (λ (t : ℕ). hosts c.take_turn.new.seat.view t ≡ true) (sym c.in-Ok-take_turn.ensures.ok.0) (host_after _ _ _ _ _ c.in-Ok-take_turn.ensures.ok.1 c.requires.host)
+commit-time-requires-clause-host c = subst (λ (t : ℕ). hosts c.take_turn.new.seat.view t ≡ true) (sym c.in-Ok-take_turn.ensures.ok.0) (hosts_on _ _ _ _ _ c.in-Ok-take_turn.ensures.ok.1 c.requires.host)
 
 pub commit-time-requires-clause-own : goal.commit-time-requires-clause-own
-commit-time-requires-clause-own c = subst (λ (t : ℕ). t < c.take_turn.new.seat.view.limits.sessions) (sym c.in-Ok-take_turn.ensures.ok.0) (own_after _ _ _ _ _ c.in-Ok-take_turn.ensures.ok.1 c.requires.own)
+commit-time-requires-clause-own c = subst (λ (t : ℕ). t < c.take_turn.new.seat.view.limits.sessions) (sym c.in-Ok-take_turn.ensures.ok.0) (own_on _ _ _ _ _ c.in-Ok-take_turn.ensures.ok.1 c.requires.own)
 
 pub commit-time-requires-clause-turn : goal.commit-time-requires-clause-turn
 commit-time-requires-clause-turn c = subst (λ (t : ℕ). HoldsTurn (knows c.take_turn.new.seat.view t)) (sym c.in-Ok-take_turn.ensures.ok.0) (inl (ap (λ (k : Known). rank k.turn) c.in-Ok-take_turn.ensures.ok.1.now))
@@ -74,10 +75,10 @@ pub unpin-requires-clause-seat : goal.unpin-requires-clause-seat
 unpin-requires-clause-seat c = c.commit-time.ensures.seat
 
 pub unpin-requires-clause-host : goal.unpin-requires-clause-host
-unpin-requires-clause-host c = host_after _ _ _ _ _ (subst (λ (t : ℕ). Commits c.take_turn.new.seat.view c.commit-time.new.seat.view t c.commit-time.result) c.in-Ok-take_turn.ensures.ok.0 c.commit-time.ensures.commits).view (host_after _ _ _ _ _ c.in-Ok-take_turn.ensures.ok.1 c.requires.host)
+unpin-requires-clause-host c = hosts_on _ _ _ _ _ (subst (λ (t : ℕ). Commits c.take_turn.new.seat.view c.commit-time.new.seat.view t c.commit-time.result) c.in-Ok-take_turn.ensures.ok.0 c.commit-time.ensures.commits).view (hosts_on _ _ _ _ _ c.in-Ok-take_turn.ensures.ok.1 c.requires.host)
 
 pub unpin-requires-clause-own : goal.unpin-requires-clause-own
-unpin-requires-clause-own c = own_after _ _ _ _ _ (subst (λ (t : ℕ). Commits c.take_turn.new.seat.view c.commit-time.new.seat.view t c.commit-time.result) c.in-Ok-take_turn.ensures.ok.0 c.commit-time.ensures.commits).view (own_after _ _ _ _ _ c.in-Ok-take_turn.ensures.ok.1 c.requires.own)
+unpin-requires-clause-own c = own_on _ _ _ _ _ (subst (λ (t : ℕ). Commits c.take_turn.new.seat.view c.commit-time.new.seat.view t c.commit-time.result) c.in-Ok-take_turn.ensures.ok.0 c.commit-time.ensures.commits).view (own_on _ _ _ _ _ c.in-Ok-take_turn.ensures.ok.1 c.requires.own)
 
 pub unpin-requires-clause-pinned : goal.unpin-requires-clause-pinned
 unpin-requires-clause-pinned c = subst (λ (n : ℕ). 0 < n) (sym (ap (λ (k : Known). k.pages.session.pin) (subst (λ (t : ℕ). Commits c.take_turn.new.seat.view c.commit-time.new.seat.view t c.commit-time.result) c.in-Ok-take_turn.ensures.ok.0 c.commit-time.ensures.commits).view.now ∙ ap (λ (k : Known). k.pages.session.pin) c.in-Ok-take_turn.ensures.ok.1.now)) (c.requires.pinned.1 c.requires.opened)

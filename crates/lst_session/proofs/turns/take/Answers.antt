@@ -1,6 +1,7 @@
 use Rattle.std.proofs.Common.{Err, refl, ap}
 use Rattle.lst_txn.specs.declared.ends.TurnFault.{TurnFault}
-use Rattle.lst_session.proofs.Refusals.{neither, ok_err, busy_idle, held_idle, opened_by, host_after}
+use Rattle.lst_txn.proofs.Refusing.{neither, ok_err, hosts_on}
+use Rattle.lst_session.proofs.Refusals.{busy_idle, held_idle, opened_by}
 use Rattle.lst_session.proofs.Taking.{takes_turn, took_it}
 use Rattle.lst_session.proofs.turns.take.Goals as goal
 
@@ -23,7 +24,7 @@ pub load_clock-requires-clause-seat : goal.load_clock-requires-clause-seat
 load_clock-requires-clause-seat c = c.take_turn.ensures.seat
 
 pub load_clock-requires-clause-host : goal.load_clock-requires-clause-host
-load_clock-requires-clause-host c = host_after _ _ _ _ _ c.in-Ok.ensures.ok.1 c.requires.host
+load_clock-requires-clause-host c = hosts_on _ _ _ _ _ c.in-Ok.ensures.ok.1 c.requires.host
 
 pub returns-in-Ok-clause-seat : goal.returns-in-Ok-clause-seat
 returns-in-Ok-clause-seat c = c.load_clock.ensures.seat

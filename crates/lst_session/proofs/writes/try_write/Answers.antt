@@ -1,4 +1,4 @@
-use Rattle.lst_session.proofs.Refusals.{host_after, own_after}
+use Rattle.lst_txn.proofs.Refusing.{hosts_on, own_on}
 use Rattle.lst_session.proofs.Tried.{released_tries}
 use Rattle.lst_session.proofs.writes.try_write.Goals as goal
 
@@ -26,10 +26,10 @@ pub prepare-requires-clause-seat : goal.prepare-requires-clause-seat
 prepare-requires-clause-seat c = c.latch.ensures.seat
 
 pub prepare-requires-clause-host : goal.prepare-requires-clause-host
-prepare-requires-clause-host c = host_after _ _ _ _ _ c.in-Ok.ensures.ok.view c.requires.host
+prepare-requires-clause-host c = hosts_on _ _ _ _ _ c.in-Ok.ensures.ok.view c.requires.host
 
 pub prepare-requires-clause-own : goal.prepare-requires-clause-own
-prepare-requires-clause-own c = own_after _ _ _ _ _ c.in-Ok.ensures.ok.view c.requires.own
+prepare-requires-clause-own c = own_on _ _ _ _ _ c.in-Ok.ensures.ok.view c.requires.own
 
 pub install-requires-clause-seat : goal.install-requires-clause-seat
 install-requires-clause-seat c = c.prepare.ensures.seat
