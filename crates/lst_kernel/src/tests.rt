@@ -1,6 +1,13 @@
 ghost use Rattle.std.specs.Prelude.{◌<◌, ◌≤◌, ◌^◌};
 
 use super::*;
+use std::fmt::Debug;
+use std::process::Abort;
+
+/// What was found is what was wanted. `at` tells which of a test's comparisons this is.
+fn same<T: PartialEq + Debug + Drop>(rt: &impl Abort, found: T, wanted: T, at: impl Debug + Drop) {
+    assert_eq!(rt; found, wanted, "{at:?}");
+}
 
 /// The time word of an entry that is present.
 fn present(time: u64) -> u64
@@ -12,19 +19,17 @@ fn present(time: u64) -> u64
 #[test]
 fn a_page_of_fives_at_time_1_is_seen_from_1_on(rt: HostRuntime) {
     let times = [present(1); 256];
-    assert_eq!(rt; sum_where(&[5; 256], &times, 1), 1280);
-    assert_eq!(rt; sum_where(&[5; 256], &times, 0), 0);
-    assert_eq!(rt; count_where(&times, 1), 256);
-    assert_eq!(rt; count_where(&times, 0), 0);
+    for (begin, wanted) in [(1, (1280, 256)), (0, (0, 0))] {
+        let sum = sum_where(&[5; 256], &times, begin);
+        same(&rt, (sum, count_where(&times, begin)), wanted, begin);
+    }
 }
 
 #[test]
 fn the_greatest_sum_is_256_greatest_words(rt: HostRuntime) {
     let times = [present(0); 256];
-    assert_eq!(rt;
-        sum_where(&[u64::MAX; 256], &times, 0),
-        256 * 18_446_744_073_709_551_615
-    );
+    let sum = sum_where(&[u64::MAX; 256], &times, 0);
+    same(&rt, sum, 256 * 18_446_744_073_709_551_615, "the sum");
 }
 
 #[test]
@@ -32,12 +37,9 @@ fn absent_entries_are_left_out_at_any_begin(rt: HostRuntime) {
     for word in [0, 2, u64::MAX - 1, 1 << 63] {
         for begin in [0, 1, (1 << 62) - 1, (1 << 63) - 1, 1 << 63, u64::MAX] {
             let times = [word; 256];
-            assert_eq!(rt;
-                sum_where(&[u64::MAX; 256], &times, begin),
-                0,
-                "{word} at {begin}"
-            );
-            assert_eq!(rt; count_where(&times, begin), 0, "{word} at {begin}");
+            let sum = sum_where(&[u64::MAX; 256], &times, begin);
+            let found = (sum, count_where(&times, begin));
+            same(&rt, found, (0, 0), (word, begin));
         }
     }
 }
@@ -46,10 +48,11 @@ fn absent_entries_are_left_out_at_any_begin(rt: HostRuntime) {
 fn a_time_of_the_begin_is_seen_and_one_above_is_not(rt: HostRuntime) {
     for time in [0, 1, 1 << 31, (1 << 62) - 1, 1 << 62, (1 << 63) - 1] {
         let times = [present(time); 256];
-        assert_eq!(rt; count_where(&times, time), 256, "{time}");
-        assert_eq!(rt; count_where(&times, u64::MAX), 256, "{time}");
+        for begin in [time, u64::MAX] {
+            same(&rt, count_where(&times, begin), 256, (time, begin));
+        }
         if time > 0 {
-            assert_eq!(rt; count_where(&times, time - 1), 0, "{time}");
+            same(&rt, count_where(&times, time - 1), 0, (time, time - 1));
         }
     }
 }
@@ -93,13 +96,14 @@ fn drawn_pages_come_to_what_a_plain_loop_adds(rt: HostRuntime) {
         let values = drawn_words(&mut seed, 64);
         let times = drawn_words(&mut seed, bits);
         for begin in [0, drawn(&mut seed) >> (64 - bits) >> 1, u64::MAX] {
-            let (total, count) = added_plainly(&values, &times, begin);
-            assert_eq!(rt;
-                sum_where(&values, &times, begin),
-                total,
-                "{bits} bits at {begin}"
+            let sum = sum_where(&values, &times, begin);
+            let wanted = added_plainly(&values, &times, begin);
+            same(
+                &rt,
+                (sum, count_where(&times, begin)),
+                wanted,
+                (bits, begin),
             );
-            assert_eq!(rt; count_where(&times, begin), count, "{bits} bits at {begin}");
         }
     }
 }
@@ -109,12 +113,9 @@ fn a_rest_of_up_to_seven_entries_is_counted(rt: HostRuntime) {
     let values = [1 << 40; 23];
     let times = [present(3); 23];
     for long in 0..24 {
-        assert_eq!(rt;
-            sum_seen(&values[..long], &times[..long], 3),
-            long as u128 * (1 << 40),
-            "{long}"
-        );
-        assert_eq!(rt; count_seen(&times[..long], 3), long as u32, "{long}");
+        let sum = sum_seen(&values[..long], &times[..long], 3);
+        let found = (sum, count_seen(&times[..long], 3));
+        same(&rt, found, (long as u128 * (1 << 40), long as u32), long);
     }
 }
 
@@ -150,14 +151,14 @@ fn count_of_page(times: &[u64; 256], begin: u64) -> u32 {
 #[test]
 fn a_page_written_over_256_times_comes_to_more_with_each_begin(rt: HostRuntime) {
     let (values, times) = page();
-    for (begin, sum, count) in [
-        (0, 0, 0),
-        (1, 4_354_685_564_936_845_354, 1),
-        (100, 876_357_179_779_209_390_696, 94),
-        (255, 2_219_738_988_732_810_668_976, 240),
+    for (begin, wanted) in [
+        (0, (0, 0)),
+        (1, (4_354_685_564_936_845_354, 1)),
+        (100, (876_357_179_779_209_390_696, 94)),
+        (255, (2_219_738_988_732_810_668_976, 240)),
     ] {
-        assert_eq!(rt; sum_of_page(&values, &times, begin), sum, "{begin}");
-        assert_eq!(rt; count_of_page(&times, begin), count, "{begin}");
+        let sum = sum_of_page(&values, &times, begin);
+        same(&rt, (sum, count_of_page(&times, begin)), wanted, begin);
     }
 }
 
@@ -175,22 +176,20 @@ fn all_values_are_added(rt: HostRuntime) {
         *value = next;
         next = next.wrapping_add(1);
     }
-    assert_eq!(rt; sum_of_all(&values), 32_640);
-    assert_eq!(rt;
-        sum_of_all(&[u64::MAX; 256]),
-        256 * 18_446_744_073_709_551_615
-    );
+    same(&rt, sum_of_all(&values), 32_640, "0 to 255");
     for (greatest, sum) in [
         ((1 << 56) - 1, 72_057_594_037_960_320),
         (1 << 56, 72_057_594_037_960_321),
         (1 << 63, 9_223_372_036_854_808_193),
     ] {
         values[255] = greatest;
-        assert_eq!(rt; sum_of_all(&values), sum, "{greatest}");
+        same(&rt, sum_of_all(&values), sum, greatest);
     }
-    assert_eq!(rt;
-        sum_of_all(&[(1 << 56) - 1; 256]),
-        18_446_744_073_709_551_360
-    );
-    assert_eq!(rt; sum_of_all(&[1 << 56; 256]), 18_446_744_073_709_551_616);
+    for (value, sum) in [
+        ((1 << 56) - 1, 18_446_744_073_709_551_360),
+        (1 << 56, 18_446_744_073_709_551_616),
+        (u64::MAX, 256 * 18_446_744_073_709_551_615),
+    ] {
+        same(&rt, sum_of_all(&[value; 256]), sum, value);
+    }
 }

@@ -1,10 +1,12 @@
 //! What a begin time sees of chains of two types of version.
 
+use crate::same::same;
 use lst_chain::{
     Seen, Version, acts_in_order, column_at, column_laws, first_visible, nullable_columns,
 };
 
 // A version with one column.
+#[derive(Drop)]
 struct Entry {
     time: u64,
     held: Option<Option<u64>>,
@@ -65,60 +67,56 @@ impl Version for Nullable {
     }
 }
 
-#[test]
-fn reads_a_cell_by_its_number_and_its_null_flag(rt: HostRuntime) {
-    let held = [
+/// A cell for each form that a version has: a number, no column, null, and a deleted record.
+fn nullable_chain() -> [Nullable; 5] {
+    [
         (9, Some(Some(Some(90)))),
         (7, None),
         (5, Some(Some(None))),
         (3, Some(None)),
         (1, Some(Some(Some(10)))),
-    ];
-    let chain = held.map(|(time, held)| Nullable { time, held });
-    for (begin, number, flag) in [
-        (9, Some(90), Some(0)),
-        (8, Some(0), Some(1)),
-        (4, None, None),
-        (2, Some(10), Some(0)),
+    ]
+    .map(|(time, held)| Nullable { time, held })
+}
+
+#[test]
+fn reads_a_cell_by_its_number_and_its_null_flag(rt: HostRuntime) {
+    let chain = nullable_chain();
+    for (begin, wanted) in [
+        (9, (Some(90), Some(0))),
+        (8, (Some(0), Some(1))),
+        (4, (None, None)),
+        (2, (Some(10), Some(0))),
     ] {
-        assert_eq!(rt; column_at(&chain, begin, 0), number, "at {begin}");
-        assert_eq!(rt; column_at(&chain, begin, 8), flag, "at {begin}");
+        let found = (column_at(&chain, begin, 0), column_at(&chain, begin, 8));
+        same(&rt, found, wanted, begin);
     }
     nullable_columns::<Nullable>();
 }
 
-const CHAIN: [Entry; 5] = [
-    Entry {
-        time: 9,
-        held: Some(Some(90)),
-    },
-    Entry {
-        time: 7,
-        held: None,
-    },
-    Entry {
-        time: 5,
-        held: Some(Some(50)),
-    },
-    Entry {
-        time: 3,
-        held: Some(None),
-    },
-    Entry {
-        time: 1,
-        held: Some(Some(10)),
-    },
-];
+/// An entry for each form that a version has: a number, no column, and a deleted record.
+fn chain() -> [Entry; 5] {
+    [
+        (9, Some(Some(90))),
+        (7, None),
+        (5, Some(Some(50))),
+        (3, Some(None)),
+        (1, Some(Some(10))),
+    ]
+    .map(|(time, held)| Entry { time, held })
+}
 
 #[test]
 fn finds_the_newest_version_that_a_begin_sees(rt: HostRuntime) {
+    let chain = chain();
     for (begin, want) in [(9, Some(0)), (8, Some(1)), (4, Some(3)), (0, None)] {
-        assert_eq!(rt; first_visible(&CHAIN, begin), want, "at {begin}");
+        same(&rt, first_visible(&chain, begin), want, begin);
     }
 }
 
 #[test]
 fn reads_a_column_through_versions_that_do_not_hold_it(rt: HostRuntime) {
+    let chain = chain();
     for (begin, want) in [
         (9, Some(90)),
         (8, Some(50)),
@@ -126,9 +124,9 @@ fn reads_a_column_through_versions_that_do_not_hold_it(rt: HostRuntime) {
         (2, Some(10)),
         (0, None),
     ] {
-        assert_eq!(rt; column_at(&CHAIN, begin, 0), want, "at {begin}");
+        same(&rt, column_at(&chain, begin, 0), want, begin);
     }
-    assert_eq!(rt; column_at(&CHAIN, 9, 1), None);
+    same(&rt, column_at(&chain, 9, 1), None, "column 1");
 }
 
 #[test]

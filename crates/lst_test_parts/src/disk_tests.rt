@@ -2,6 +2,7 @@
 ghost use Rattle.std.specs.Prelude.{◌≡◌, ◌+◌, ◌≤◌, ◌<◌, length, IfSome, IsSome};
 ghost use Rattle.lst_disk.specs.Disk.{Only};
 
+use crate::same::same;
 use lst_disk::{Disk, MemDisk, images_differ_in_pending_bytes};
 use std::alloc::Global;
 use std::test::Fail;
@@ -34,10 +35,20 @@ fn read_back<D: Disk>(disk: &mut D, at: u64, piece: &[u8]) -> Option<[u8; 4]>
 fn a_client_reads_what_it_stored_on_any_disk(rt: HostRuntime) -> Result<(), Fail> {
     let alloc = rt.alloc();
     let mut disk = MemDisk::new(alloc, 8, 3, false)?;
-    assert_eq!(rt; read_back(&mut disk, 4, &[1, 2, 3, 4]), Some([1, 2, 3, 4]));
-    assert_eq!(rt; read_back(&mut disk, 0, &[5, 6, 7, 8]), None);
+    same(
+        &rt,
+        read_back(&mut disk, 4, &[1, 2, 3, 4]),
+        Some([1, 2, 3, 4]),
+        "first",
+    );
+    same(&rt, read_back(&mut disk, 0, &[5, 6, 7, 8]), None, "stopped");
     let mut disk = disk.crash();
-    assert_eq!(rt; read_back(&mut disk, 2, &[9, 9, 9, 9]), Some([9, 9, 9, 9]));
+    same(
+        &rt,
+        read_back(&mut disk, 2, &[9, 9, 9, 9]),
+        Some([9, 9, 9, 9]),
+        "crashed",
+    );
     images_differ_in_pending_bytes();
     Ok(())
 }
@@ -151,10 +162,8 @@ fn drawn_calls_and_a_crash_behind_each_are_those_of_plain_arrays(
     for seed in 0..200 {
         for calls in 0..9 {
             for torn in [false, true] {
-                assert!(rt;
-                    agree_to_the_crash(rt.alloc(), seed, calls, torn)?,
-                    "seed {seed}, {calls} calls"
-                );
+                let agree = agree_to_the_crash(rt.alloc(), seed, calls, torn)?;
+                same(&rt, agree, true, (seed, calls, torn));
             }
         }
     }

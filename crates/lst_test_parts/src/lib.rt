@@ -22,3 +22,7 @@ mod pack_tests;
 mod probe_tests;
 #[cfg(test)]
 mod reply_queue_tests;
+#[cfg(test)]
+mod rows;
+#[cfg(test)]
+mod same;

@@ -2,6 +2,7 @@
 ghost use Rattle.std.specs.Prelude.{◌<◌};
 ghost use Rattle.lst_pack.specs.Forms.{IsPacked};
 
+use crate::same::same;
 use lst_pack::{Words, get, get_from, pack, packed_words, unpack};
 use std::process::Abort;
 
@@ -42,9 +43,13 @@ fn packed(rt: &impl Abort, values: &[u64; 256]) -> (usize, [u64; 3]) {
     let mut read = [0; 256];
     unpack(&words, &mut read);
     for place in 0..256 {
-        assert_eq!(rt; get(&words, place), values[place]);
-        assert_eq!(rt; loaded_value(words, place as u32), values[place]);
-        assert_eq!(rt; read[place], values[place]);
+        let loaded = loaded_value(words, place as u32);
+        same(
+            rt,
+            [get(&words, place), loaded, read[place]],
+            [values[place]; 3],
+            place,
+        );
     }
     (count, [words[0], words[1], words[2]])
 }
@@ -75,33 +80,47 @@ fn drawn(base: u64, top: u64) -> [u64; 256] {
     values
 }
 
+// Two runs: 3 at the first 200 places, and 9 at the rest.
+fn two_runs() -> [u64; 256] {
+    let mut values = [3; 256];
+    for place in 200..256 {
+        values[place] = 9;
+    }
+    values
+}
+
 #[test]
 fn values_take_the_words_that_are_known(rt: HostRuntime) {
     let (count, [first, second, _]) = packed(&rt, &[5; 256]);
-    assert_eq!(rt; (count, first, second), (2, 1, 5));
+    same(&rt, (count, first, second), (2, 1, 5), "fives");
 
-    let mut two = [3; 256];
-    for place in 200..256 {
-        two[place] = 9;
-    }
-    assert_eq!(rt; packed(&rt, &two), (5, [19, 3, 200]));
+    let two = two_runs();
+    same(&rt, packed(&rt, &two), (5, [19, 3, 200]), "two runs");
     let mut words = [0; 257];
     let _ = pack(&two, &mut words);
-    assert_eq!(rt; (words[3], words[4], words[5]), (9, 256, 0));
+    same(
+        &rt,
+        (words[3], words[4], words[5]),
+        (9, 256, 0),
+        "the second run",
+    );
 
-    assert_eq!(rt;
+    let differences = (34, [68, 100, 506_097_522_914_230_528]);
+    same(
+        &rt,
         packed(&rt, &counted(100, 1, 17)),
-        (34, [68, 100, 506_097_522_914_230_528])
+        differences,
+        "differences",
     );
     let (count, [first, ..]) = packed(&rt, &counted(0, 1 << 40, 256));
-    assert_eq!(rt; (count, first), (257, 0));
+    same(&rt, (count, first), (257, 0), "plain words");
 }
 
 #[test]
 fn sixteen_distinct_values_have_a_dictionary_and_seventeen_none(rt: HostRuntime) {
     for (distinct, count, first) in [(2u64, 19, 18), (16, 33, 130), (17, 257, 0)] {
         let (words, [word, ..]) = packed(&rt, &counted(9, 1 << 40, distinct));
-        assert_eq!(rt; (words, word), (count, first), "{distinct} distinct values");
+        same(&rt, (words, word), (count, first), distinct);
     }
 }
 
@@ -112,10 +131,10 @@ fn a_hundred_and_twenty_eight_runs_are_written_and_one_more_is_not(rt: HostRunti
         values[place] = (place as u64 / 2) << 40;
     }
     let (words, [word, ..]) = packed(&rt, &values);
-    assert_eq!(rt; (words, word), (257, 3 + 8 * 128));
+    same(&rt, (words, word), (257, 3 + 8 * 128), "128 runs");
     values[255] = 1;
     let (words, [word, ..]) = packed(&rt, &values);
-    assert_eq!(rt; (words, word), (257, 0));
+    same(&rt, (words, word), (257, 0), "129 runs");
 }
 
 #[test]
@@ -133,7 +152,7 @@ fn runs_of_one_place_and_more_are_read(rt: HostRuntime) {
     }
     // 22 runs of 1 to 22 places, and one of 3.
     let (words, [word, ..]) = packed(&rt, &values);
-    assert_eq!(rt; (words, word), (47, 3 + 8 * 23));
+    same(&rt, (words, word), (47, 3 + 8 * 23), ());
 }
 
 #[test]
@@ -153,7 +172,7 @@ fn differences_take_the_least_width_that_holds_them(rt: HostRuntime) {
     ] {
         let base = u64::MAX - top;
         let (words, [word, ..]) = packed(&rt, &drawn(base, top));
-        assert_eq!(rt; (words, word), (count, first), "differences up to {top}");
+        same(&rt, (words, word), (count, first), top);
     }
 }
 

@@ -1,5 +1,6 @@
 //! Probes of small tables, and where a run begins.
 
+use crate::same::same;
 use lst_probe::{
     Found, distinct_within, empty_position, find, one_answer, pigeonhole, reachable_positions,
     run_positions, start,
@@ -7,7 +8,7 @@ use lst_probe::{
 
 #[test]
 fn a_run_begins_at_the_high_bits_of_the_hash(rt: HostRuntime) {
-    assert_eq!(rt; start(7, 11), 668);
+    same(&rt, start(7, 11), 668, ());
 }
 
 #[test]
@@ -19,10 +20,11 @@ fn a_probe_wraps_round_to_an_equal_value_or_an_empty_position(rt: HostRuntime) {
         (6, 40, Found::Free { position: 1 }),
         (1, 10, Found::Free { position: 1 }),
     ] {
-        assert_eq!(rt;
+        same(
+            &rt,
             find(&positions, from, |other| other == word),
             want,
-            "{word} from {from}"
+            (word, from),
         );
     }
 }
@@ -36,7 +38,7 @@ fn equality_may_be_told_by_what_a_word_points_to(rt: HostRuntime) {
         (40, Found::Free { position: 1 }),
     ] {
         let found = find(&positions, 2, |word| keys[word as usize - 1] == key);
-        assert_eq!(rt; found, want, "{key}");
+        same(&rt, found, want, key);
     }
 }
 

@@ -1,24 +1,14 @@
 //! What is put into a queue comes out of it.
 
-use arrayvec::ArrayVec;
-use lst_model::{Cause, KeyList, Reply, Row, RowList};
+use crate::rows::row;
+use crate::same::same;
+use lst_model::{Cause, KeyList, Reply, RowList};
 use lst_reply_queue::ReplyQueue;
 use std::alloc::Global;
 use std::test::Fail;
 
-/// A row of so many columns, of which each second one is null.
-fn row(columns: u64) -> Row {
-    let mut row = Row::of_numbers(ArrayVec::new());
-    for column in 0..columns {
-        if row.len() < 8 {
-            row.push(if column % 2 == 0 { Some(column) } else { None });
-        }
-    }
-    row
-}
-
 /// A reply by its number: each kind of reply, and then rows of each number of columns.
-fn reply(alloc: Global, number: u64) -> Reply {
+fn reply(alloc: Global, number: usize) -> Reply {
     match number {
         0 => Reply::Begun { time: 7 },
         1 => Reply::Done,
@@ -49,27 +39,26 @@ fn reply(alloc: Global, number: u64) -> Reply {
 
 /// With `rt try --test --fail-alloc N` memory is refused the Nth time; the replies that were put before and after that come back all the same.
 #[test]
-fn each_kind_of_reply_comes_back_in_its_place(rt: HostRuntime) -> Result<(), Fail> {
+fn each_kind_of_reply_comes_back_in_its_place(rt: HostRuntime) {
     let alloc = rt.alloc();
     let mut queue = ReplyQueue::new(alloc);
     let mut kept = [false; 24];
-    for number in 0..24usize {
-        kept[number] = queue.push(reply(alloc, number as u64)).is_ok();
+    for number in 0..24 {
+        kept[number] = queue.push(reply(alloc, number)).is_ok();
     }
-    for number in 0..24usize {
+    for number in 0..24 {
         if kept[number] {
-            assert_eq!(rt; queue.pop(), Some(reply(alloc, number as u64)));
+            same(&rt, queue.pop(), Some(reply(alloc, number)), number);
         }
     }
-    assert_eq!(rt; queue.pop(), None);
-    Ok(())
+    same(&rt, queue.pop(), None, "end");
 }
 
 #[test]
 fn replies_are_put_behind_those_that_are_left(rt: HostRuntime) -> Result<(), Fail> {
     let alloc = rt.alloc();
     let mut queue = ReplyQueue::new(alloc);
-    for number in 0..1_000u64 {
+    for number in 0..1_000 {
         queue.push(reply(alloc, number % 24))?;
         queue.push(reply(alloc, (number + 5) % 24))?;
         let next = if number % 2 == 0 {
@@ -77,7 +66,7 @@ fn replies_are_put_behind_those_that_are_left(rt: HostRuntime) -> Result<(), Fai
         } else {
             number / 2 + 5
         };
-        assert_eq!(rt; queue.pop(), Some(reply(alloc, next % 24)));
+        same(&rt, queue.pop(), Some(reply(alloc, next % 24)), number);
     }
     Ok(())
 }
