@@ -23,31 +23,3 @@ impl Transfer {
         Some((paid, received))
     }
 }
-
-#[cfg(test)]
-mod tests {
-    use super::Transfer;
-    use std::process::Abort;
-
-    /// What a payer and a payee have after a transfer of this amount.
-    fn after(payer: u64, payee: u64, amount: u64) -> Option<(u64, u64)> {
-        let transfer = Transfer {
-            from: 1,
-            to: 2,
-            amount,
-        };
-        transfer.balances(payer, payee)
-    }
-
-    #[test]
-    fn a_transfer_takes_and_gives(rt: HostRuntime) {
-        assert_eq!(rt; after(10, 5, 3), Some((7, 8)));
-        assert_eq!(rt; after(10, 5, 10), Some((0, 15)));
-    }
-
-    #[test]
-    fn a_transfer_is_refused(rt: HostRuntime) {
-        assert_eq!(rt; after(10, 5, 11), None);
-        assert_eq!(rt; after(1, u64::MAX, 1), None);
-    }
-}

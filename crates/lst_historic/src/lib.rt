@@ -5,8 +5,6 @@
 #![tactic(auto)]
 
 mod building;
-#[cfg(test)]
-mod changed_tests;
 mod changing;
 mod checking;
 mod decoding;
@@ -23,8 +21,6 @@ mod reading;
 mod steps;
 mod sums;
 mod tables;
-#[cfg(test)]
-mod tests;
 mod writing;
 
 pub use building::build;

@@ -5,8 +5,6 @@
 
 mod lines;
 mod past;
-#[cfg(test)]
-mod tests;
 
 pub use lines::push_number_line;
 pub use past::print_past;

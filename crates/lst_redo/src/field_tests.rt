@@ -3,6 +3,7 @@
 use crate::read::read_record;
 use lst_model::Act;
 use std::alloc::Global;
+use std::process::Abort;
 use std::test::Fail;
 
 /// Session, number, begin and count of writes; key, kind, mask, nulls and two numbers of a write.
@@ -74,59 +75,74 @@ fn read_fields(alloc: Global, bytes: &[u8]) -> Result<Option<Fields>, Fail> {
     )))
 }
 
-#[test]
-fn each_field_is_read_at_its_edges(rt: HostRuntime) -> Result<(), Fail> {
-    let alloc = rt.alloc();
-    let rows: [Fields; 13] = [
-        (0, 1, 0, 1, 7, 1, 3, 0, 10, 20),
-        (LAST_U32, 1, 0, 1, 7, 1, 3, 0, 10, 20),
-        (0, 0, 0, 1, 7, 1, 3, 0, 10, 20),
-        (0, LAST_U32, 0, 1, 7, 1, 3, 0, 10, 20),
-        (0, 1, LAST_U64, 1, 7, 1, 3, 0, 10, 20),
-        (0, 1, 0, 1, 0, 1, 3, 0, 10, 20),
-        (0, 1, 0, 1, LAST_U64, 1, 3, 0, 10, 20),
-        (0, 1, 0, 1, 7, 1, 3, 0, LAST_U64, LAST_U64),
-        (0, 1, 0, 1, 7, 1, 3, 3, 0, 0),
-        (0, 1, 0, 1, 7, 2, 3, 0, 10, 20),
-        (0, 1, 0, 1, 7, 2, 2, 2, 0, 0),
-        (0, 1, 0, 1, 7, 2, 1, 0, LAST_U64, 0),
-        (0, 1, 0, 1, 7, 3, 0, 0, 0, 0),
-    ];
-    for fields in rows {
-        let bytes = spelled(alloc, fields)?;
-        assert_eq!(rt; read_fields(alloc, bytes.as_slice())?, Some(fields));
+/// Records, of which each has fields at their edges.
+const AT_EDGES: [Fields; 13] = [
+    (0, 1, 0, 1, 7, 1, 3, 0, 10, 20),
+    (LAST_U32, 1, 0, 1, 7, 1, 3, 0, 10, 20),
+    (0, 0, 0, 1, 7, 1, 3, 0, 10, 20),
+    (0, LAST_U32, 0, 1, 7, 1, 3, 0, 10, 20),
+    (0, 1, LAST_U64, 1, 7, 1, 3, 0, 10, 20),
+    (0, 1, 0, 1, 0, 1, 3, 0, 10, 20),
+    (0, 1, 0, 1, LAST_U64, 1, 3, 0, 10, 20),
+    (0, 1, 0, 1, 7, 1, 3, 0, LAST_U64, LAST_U64),
+    (0, 1, 0, 1, 7, 1, 3, 3, 0, 0),
+    (0, 1, 0, 1, 7, 2, 3, 0, 10, 20),
+    (0, 1, 0, 1, 7, 2, 2, 2, 0, 0),
+    (0, 1, 0, 1, 7, 2, 1, 0, LAST_U64, 0),
+    (0, 1, 0, 1, 7, 3, 0, 0, 0, 0),
+];
+
+/// Counts; kinds; masks of a put; masks and numbers of a set; nulls; a delete that holds something.
+const NEXT_TO_A_RECORD: [Fields; 17] = [
+    (0, 1, 0, 0, 7, 1, 3, 0, 10, 20),
+    (0, 1, 0, 2, 7, 1, 3, 0, 10, 20),
+    (0, 1, 0, LAST_U32, 7, 1, 3, 0, 10, 20),
+    (0, 1, 0, 1, 7, 0, 3, 0, 10, 20),
+    (0, 1, 0, 1, 7, 4, 3, 0, 10, 20),
+    (0, 1, 0, 1, 7, 9, 3, 0, 10, 20),
+    (0, 1, 0, 1, 7, 1, 1, 0, 10, 0),
+    (0, 1, 0, 1, 7, 1, 7, 0, 10, 20),
+    (0, 1, 0, 1, 7, 2, 0, 0, 0, 0),
+    (0, 1, 0, 1, 7, 2, 4, 0, 0, 0),
+    (0, 1, 0, 1, 7, 2, 1, 0, 10, 20),
+    (0, 1, 0, 1, 7, 1, 3, 1, 10, 20),
+    (0, 1, 0, 1, 7, 1, 3, 4, 10, 20),
+    (0, 1, 0, 1, 7, 2, 1, 2, 10, 0),
+    (0, 1, 0, 1, 7, 3, 1, 0, 0, 0),
+    (0, 1, 0, 1, 7, 3, 0, 1, 0, 0),
+    (0, 1, 0, 1, 7, 3, 0, 0, 1, 0),
+];
+
+/// What is read at the front of bytes that spell these fields.
+fn read_again(alloc: Global, fields: Fields) -> Result<Option<Fields>, Fail> {
+    let bytes = spelled(alloc, fields)?;
+    read_fields(alloc, bytes.as_slice())
+}
+
+/// Each of these is read as the record that it is.
+fn are_read(rt: &impl Abort, alloc: Global, records: &[Fields]) -> Result<(), Fail> {
+    for fields in records {
+        assert_eq!(rt; read_again(alloc, *fields)?, Some(*fields));
+    }
+    Ok(())
+}
+
+/// None of these is read as a record.
+fn are_none(rt: &impl Abort, alloc: Global, others: &[Fields]) -> Result<(), Fail> {
+    for fields in others {
+        assert_eq!(rt; read_again(alloc, *fields)?, None);
     }
     Ok(())
 }
 
 #[test]
+fn each_field_is_read_at_its_edges(rt: HostRuntime) -> Result<(), Fail> {
+    are_read(&rt, rt.alloc(), &AT_EDGES)
+}
+
+#[test]
 fn bytes_next_to_a_record_are_none(rt: HostRuntime) -> Result<(), Fail> {
-    let alloc = rt.alloc();
-    // counts; kinds; masks of a put; masks and numbers of a set; nulls; a delete that holds something
-    let rows: [Fields; 17] = [
-        (0, 1, 0, 0, 7, 1, 3, 0, 10, 20),
-        (0, 1, 0, 2, 7, 1, 3, 0, 10, 20),
-        (0, 1, 0, LAST_U32, 7, 1, 3, 0, 10, 20),
-        (0, 1, 0, 1, 7, 0, 3, 0, 10, 20),
-        (0, 1, 0, 1, 7, 4, 3, 0, 10, 20),
-        (0, 1, 0, 1, 7, 9, 3, 0, 10, 20),
-        (0, 1, 0, 1, 7, 1, 1, 0, 10, 0),
-        (0, 1, 0, 1, 7, 1, 7, 0, 10, 20),
-        (0, 1, 0, 1, 7, 2, 0, 0, 0, 0),
-        (0, 1, 0, 1, 7, 2, 4, 0, 0, 0),
-        (0, 1, 0, 1, 7, 2, 1, 0, 10, 20),
-        (0, 1, 0, 1, 7, 1, 3, 1, 10, 20),
-        (0, 1, 0, 1, 7, 1, 3, 4, 10, 20),
-        (0, 1, 0, 1, 7, 2, 1, 2, 10, 0),
-        (0, 1, 0, 1, 7, 3, 1, 0, 0, 0),
-        (0, 1, 0, 1, 7, 3, 0, 1, 0, 0),
-        (0, 1, 0, 1, 7, 3, 0, 0, 1, 0),
-    ];
-    for fields in rows {
-        let bytes = spelled(alloc, fields)?;
-        assert_eq!(rt; read_fields(alloc, bytes.as_slice())?, None);
-    }
-    Ok(())
+    are_none(&rt, rt.alloc(), &NEXT_TO_A_RECORD)
 }
 
 #[test]

@@ -6,16 +6,12 @@
 #![tactic(auto)]
 
 #[cfg(test)]
-mod drawn_tests;
-#[cfg(test)]
 mod field_tests;
 mod laws;
 mod log;
 mod opening;
 mod read;
 mod store;
-#[cfg(test)]
-mod tests;
 mod write;
 
 pub use laws::image_has_one_history;

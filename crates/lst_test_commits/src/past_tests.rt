@@ -2,8 +2,9 @@
 ghost use Rattle.std.specs.Prelude.{◌<◌, IsTrue};
 ghost use Rattle.lst_model.specs.Lines.{CallFits};
 
+use crate::blocks::{self, block_of};
+use crate::checks::{is_so, same};
 use arrayvec::ArrayVec;
-use lst_historic::open_block;
 use lst_layout::Limits;
 use lst_machine::Machine;
 use lst_model::{Call, Cause, Key, Line, Patch, Reply, Row, Text, Time};
@@ -145,6 +146,19 @@ fn row_told(reply: &Reply) -> Option<Option<Row>> {
     }
 }
 
+/// The machine answers this to a call.
+fn is_answered(
+    rt: &impl Abort,
+    machine: &mut Machine,
+    asked: Asked,
+    wanted: Reply,
+    time: Time,
+) -> Result<(), Fail> {
+    let found = answer(rt, machine, asked)?;
+    same(rt, found, wanted, time);
+    Ok(())
+}
+
 /// What a transaction as of a time reads of a key.
 fn seen(
     rt: &impl Abort,
@@ -152,12 +166,28 @@ fn seen(
     key: Key,
     time: Time,
 ) -> Result<Option<Option<Row>>, Fail> {
-    let begun = answer(rt, machine, Asked::AsOf(3, time))?;
-    assert_eq!(rt; begun, Reply::Begun { time });
-    let reply = answer(rt, machine, Asked::Get(3, key))?;
-    let ended = answer(rt, machine, Asked::Commit(3))?;
-    assert_eq!(rt; ended, Reply::Ended { time });
-    Ok(row_told(&reply))
+    is_answered(
+        rt,
+        machine,
+        Asked::AsOf(3, time),
+        Reply::Begun { time },
+        time,
+    )?;
+    let told = row_told(&answer(rt, machine, Asked::Get(3, key))?);
+    is_answered(rt, machine, Asked::Commit(3), Reply::Ended { time }, time)?;
+    Ok(told)
+}
+
+/// The machine behind a script.
+fn machine_behind(rt: &impl Abort, alloc: Global, script: &[Asked]) -> Result<Machine, Fail> {
+    let Ok(layout) = Limits::default().check() else {
+        return Err(Fail::from("the limits are in range"));
+    };
+    let mut machine = Machine::new(alloc, &layout)?;
+    for line in script {
+        let _ = answer(rt, &mut machine, *line)?;
+    }
+    Ok(machine)
 }
 
 /// The rows of keys in a block are those that are seen behind the script as of each time, up to the last one that there is.
@@ -168,55 +198,39 @@ fn rows_are_seen(
     bytes: &[u8],
     keys: &[Key],
 ) -> Result<(), Fail> {
-    let Ok(layout) = Limits::default().check() else {
-        return Err(Fail::from("the limits are in range"));
-    };
-    let mut machine = Machine::new(alloc, &layout)?;
-    for line in script {
-        let _ = answer(rt, &mut machine, *line)?;
-    }
-    let mut text = Text::new(alloc);
-    text.push_bytes(bytes)?;
-    let Ok(block) = open_block(alloc, text) else {
-        return Err(Fail::from("the bytes are a block"));
-    };
+    let mut machine = machine_behind(rt, alloc, script)?;
+    let block = block_of(alloc, bytes)?;
     let until = block.until();
     for time in 0..until.saturating_add(1) {
         for &key in keys {
             let told = seen(rt, &mut machine, key, time)?;
-            assert!(rt; told.is_some());
-            assert_eq!(rt; block.row(key, time).ok(), told);
+            is_so(rt, told.is_some(), (key, time));
+            same(rt, block.row(key, time).ok(), told, (key, time));
         }
     }
-    let late = answer(rt, &mut machine, Asked::AsOf(3, until.saturating_add(1)))?;
+    let late = until.saturating_add(1);
     let cause = Cause::Future { clock: until };
-    assert_eq!(rt; late, Reply::Refused { cause });
-    Ok(())
-}
-
-#[test]
-fn rows_of_a_row_that_is_put_again_are_seen(rt: HostRuntime) -> Result<(), Fail> {
-    let block = [2, 3, 1, 7, 3, 1, 4, 20, 40, 1, 0, 1, 4, 60, 80];
-    rows_are_seen(&rt, rt.alloc(), &PUT_AGAIN, &block, &[6, 7, 8])
-}
-
-#[test]
-fn rows_of_a_stock_are_seen(rt: HostRuntime) -> Result<(), Fail> {
-    let block = [
-        2, 2, 3, 233, 7, 1, 1, 4, 80, 244, 3, 1, 2, 1, 4, 30, 136, 14, 1, 2, 1, 1, 2, 1, 4, 16,
-        224, 18, 1, 2, 3,
-    ];
-    rows_are_seen(
-        &rt,
-        rt.alloc(),
-        &STOCK,
-        &block,
-        &[1000, 1001, 1002, 1003, 1004],
+    is_answered(
+        rt,
+        &mut machine,
+        Asked::AsOf(3, late),
+        Reply::Refused { cause },
+        late,
     )
 }
 
 #[test]
+fn rows_of_a_row_that_is_put_again_are_seen(rt: HostRuntime) -> Result<(), Fail> {
+    rows_are_seen(&rt, rt.alloc(), &PUT_AGAIN, &blocks::PUT_AGAIN, &[6, 7, 8])
+}
+
+#[test]
+fn rows_of_a_stock_are_seen(rt: HostRuntime) -> Result<(), Fail> {
+    let keys = [1000, 1001, 1002, 1003, 1004];
+    rows_are_seen(&rt, rt.alloc(), &STOCK, &blocks::STOCK, &keys)
+}
+
+#[test]
 fn rows_of_a_row_that_is_changed_are_seen(rt: HostRuntime) -> Result<(), Fail> {
-    let block = [2, 2, 1, 7, 2, 1, 4, 20, 40, 1, 2, 2];
-    rows_are_seen(&rt, rt.alloc(), &CHANGED, &block, &[7])
+    rows_are_seen(&rt, rt.alloc(), &CHANGED, &blocks::CHANGED, &[7])
 }
