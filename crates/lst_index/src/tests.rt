@@ -13,6 +13,8 @@ use crate::{find, place};
 use lst_layout::Limits;
 use lst_rule::{Seat, Store, open_store};
 use std::alloc::Global;
+use std::fmt::Debug;
+use std::process::Abort;
 use std::test::Fail;
 
 /// One range: 256 records, and 512 positions.
@@ -176,19 +178,52 @@ fn draw_is_full(store: &Store, seat: &mut Seat, key: u64) -> bool
     }
 }
 
-#[test]
-fn keys_come_to_their_records_until_the_table_is_full(rt: HostRuntime) -> Result<(), Fail> {
-    let (store, mut seat) = open_pair(rt.alloc())?;
-    assert_eq!(rt; get(&store, &mut seat, 7), None);
-    assert_eq!(rt; put(&store, &mut seat, 7), Some(0));
-    assert_eq!(rt; put(&store, &mut seat, 7), Some(0));
-    assert!(rt; puts(&store, &mut seat, 1, 255));
-    assert_eq!(rt; put(&store, &mut seat, 8), None);
-    assert_eq!(rt; put(&store, &mut seat, 7), Some(0));
-    assert_eq!(rt; get(&store, &mut seat, 1254), Some(255));
-    assert_eq!(rt; get(&store, &mut seat, 8), None);
-    Ok(())
+/// What was found is what was wanted, at this place of a test.
+fn same<T: PartialEq + Debug + Drop>(rt: &impl Abort, found: T, wanted: T, at: impl Debug + Drop) {
+    assert_eq!(rt; found, wanted, "{at:?}");
 }
+
+/// What a session does with a key, and the record that it is answered.
+#[derive(Clone, Copy)]
+enum Step {
+    /// Session 0 places it.
+    Puts(u64, Option<u32>),
+    /// Session 0 finds it.
+    Gets(u64, Option<u32>),
+    /// Session 1 places it.
+    Overtakes(u64, Option<u32>),
+}
+
+/// Whether the session is answered as the step says.
+fn takes(store: &Store, seat: &mut Seat, step: Step) -> bool
+    requires pair { IsPair store.now seat.old }
+    requires idle { IsIdle seat.old 0 }
+    ensures pair { IsPair store.now seat.new }
+    ensures idle { IsIdle seat.new 0 }
+{
+    match step {
+        Step::Puts(key, answer) => put(store, seat, key) == answer,
+        Step::Gets(key, answer) => get(store, seat, key) == answer,
+        Step::Overtakes(key, answer) => overtake(store, seat, key) == answer,
+    }
+}
+
+/// Takes steps in order, each of which is answered as it says.
+fn play(rt: &impl Abort, store: &Store, seat: &mut Seat, script: &[Step])
+    requires pair { IsPair store.now seat.old }
+    requires idle { IsIdle seat.old 0 }
+{
+    for (at, &step) in script.iter().enumerate() {
+        assert!(rt; takes(store, seat, step), "at step {at}");
+    }
+}
+
+const AFTER_THE_SAME_KEY: [Step; 3] = [
+    // The record 0, drawn in vain, counts, and its key word finds it for nobody.
+    Step::Puts(LAST_TOO, Some(2)),
+    Step::Gets(LAST, Some(1)),
+    Step::Puts(LAST, Some(1)),
+];
 
 #[test]
 fn a_claim_is_lost_to_the_same_key(rt: HostRuntime) -> Result<(), Fail> {
@@ -196,17 +231,22 @@ fn a_claim_is_lost_to_the_same_key(rt: HostRuntime) -> Result<(), Fail> {
     let Some(at) = set_out(&store, &mut seat, LAST) else {
         return Err(Fail::from("the table is empty"));
     };
-    assert_eq!(rt; overtake(&store, &mut seat, LAST), Some(1));
+    same(&rt, overtake(&store, &mut seat, LAST), Some(1), "overtaken");
     let Some(number) = arrive(&store, &mut seat, LAST, at) else {
         return Err(Fail::from("the key has a record"));
     };
-    assert_eq!(rt; number, 1);
-    // The record 0, drawn in vain, counts, and its key word finds it for nobody.
-    assert_eq!(rt; put(&store, &mut seat, LAST_TOO), Some(2));
-    assert_eq!(rt; get(&store, &mut seat, LAST), Some(1));
-    assert_eq!(rt; put(&store, &mut seat, LAST), Some(1));
+    same(&rt, number, 1, "arrived");
+    play(&rt, &store, &mut seat, &AFTER_THE_SAME_KEY);
     Ok(())
 }
+
+const AFTER_ANOTHER_KEY: [Step; 5] = [
+    Step::Gets(LAST, Some(0)),
+    Step::Gets(LAST_TOO, Some(1)),
+    Step::Overtakes(LAST, Some(0)),
+    Step::Puts(LAST_TOO, Some(1)),
+    Step::Puts(7, Some(2)),
+];
 
 #[test]
 fn a_claim_is_lost_to_another_key_of_the_run(rt: HostRuntime) -> Result<(), Fail> {
@@ -214,8 +254,13 @@ fn a_claim_is_lost_to_another_key_of_the_run(rt: HostRuntime) -> Result<(), Fail
     let Some(at) = set_out(&store, &mut seat, LAST) else {
         return Err(Fail::from("the table is empty"));
     };
-    assert_eq!(rt; at, 511);
-    assert_eq!(rt; overtake(&store, &mut seat, LAST_TOO), Some(1));
+    same(&rt, at, 511, "set out");
+    same(
+        &rt,
+        overtake(&store, &mut seat, LAST_TOO),
+        Some(1),
+        "overtaken",
+    );
     let None = arrive(&store, &mut seat, LAST, at) else {
         return Err(Fail::from("the position has the other key"));
     };
@@ -223,30 +268,30 @@ fn a_claim_is_lost_to_another_key_of_the_run(rt: HostRuntime) -> Result<(), Fail
     let Some(number) = arrive_next(&store, &mut seat, LAST) else {
         return Err(Fail::from("the next position is free"));
     };
-    assert_eq!(rt; number, 0);
-    assert_eq!(rt; get(&store, &mut seat, LAST), Some(0));
-    assert_eq!(rt; get(&store, &mut seat, LAST_TOO), Some(1));
-    assert_eq!(rt; overtake(&store, &mut seat, LAST), Some(0));
-    assert_eq!(rt; put(&store, &mut seat, LAST_TOO), Some(1));
-    assert_eq!(rt; put(&store, &mut seat, 7), Some(2));
+    same(&rt, number, 0, "arrived");
+    play(&rt, &store, &mut seat, &AFTER_ANOTHER_KEY);
     Ok(())
 }
+
+const FULL: [Step; 3] = [
+    // Now a load finds it full.
+    Step::Puts(8, None),
+    Step::Puts(7, Some(255)),
+    Step::Gets(8, None),
+];
 
 #[test]
 fn the_last_record_is_drawn_by_another_session(rt: HostRuntime) -> Result<(), Fail> {
     let (store, mut seat) = open_pair(rt.alloc())?;
-    assert!(rt; puts(&store, &mut seat, 0, 255));
+    same(&rt, puts(&store, &mut seat, 0, 255), true, "placed");
     let true = record_is_left(&store, &mut seat) else {
         return Err(Fail::from("one record is left"));
     };
-    assert_eq!(rt; overtake(&store, &mut seat, 7), Some(255));
+    same(&rt, overtake(&store, &mut seat, 7), Some(255), "overtaken");
     // The load found the counter below its limit, and the draw finds it full.
     let true = draw_is_full(&store, &mut seat, 8) else {
         return Err(Fail::from("every record is drawn"));
     };
-    // Now a load finds it full.
-    assert_eq!(rt; put(&store, &mut seat, 8), None);
-    assert_eq!(rt; put(&store, &mut seat, 7), Some(255));
-    assert_eq!(rt; get(&store, &mut seat, 8), None);
+    play(&rt, &store, &mut seat, &FULL);
     Ok(())
 }

@@ -4,4 +4,3 @@ pub mod Pages
 pub mod Builds
 pub mod Swaps
 pub mod Tails
-pub mod Pairs

@@ -1,16 +1,12 @@
-//! A store without tails, and pages in hand.
-ghost use Rattle.std.specs.Prelude.{◌<◌, IfOk};
-ghost use Rattle.lst_merge.specs.Pairs.{IsPair};
+//! Pages in hand.
+ghost use Rattle.std.specs.Prelude.{◌<◌};
 
 use crate::entries::{put_entry, read_values};
 use crate::words::write_page;
-use crate::{Run, run_end};
-use lst_layout::{FRAME_NULLS, FRAME_TIMES, FRAME_VALUES, FRAME_WORDS, Limits};
+use lst_layout::{FRAME_NULLS, FRAME_TIMES, FRAME_VALUES, FRAME_WORDS};
 use lst_pages::Entry;
-use lst_rule::{Seat, Store, open_store};
-use std::alloc::Global;
+use std::fmt::Debug;
 use std::process::Abort;
-use std::test::Fail;
 
 const WORDS: usize = FRAME_WORDS as usize;
 
@@ -20,42 +16,9 @@ const TIMES: usize = FRAME_TIMES as usize;
 
 const NULLS: usize = FRAME_NULLS as usize;
 
-/// Two pages, whose frames are 0 and 1, and a spare frame.
-const SMALL: Limits = Limits {
-    columns: 1,
-    ranges: 2,
-    tails: 1,
-    sessions: 1,
-    txns: 1,
-    spare: 1,
-    indexed: 0,
-};
-
-fn open_pair(alloc: Global) -> Result<(Store, Seat), Fail>
-    ensures { IfOk result (λ opened. IsPair opened.0 opened.1) }
-{
-    let limits = SMALL;
-    let Ok(layout) = limits.check() else {
-        return Err(Fail::from("the small limits are in range"));
-    };
-    Ok(open_store(alloc, &layout)?)
-}
-
-/// The run of the page of a range.
-fn run_of(store: &Store, seat: &mut Seat, range: u32) -> Run
-    requires pair { IsPair store.now seat.old }
-    requires low { range < 2 }
-    ensures pair { IsPair store.now seat.new }
-{
-    run_end(store, seat, range, 0)
-}
-
-#[test]
-fn a_range_without_tails_has_an_empty_run(rt: HostRuntime) -> Result<(), Fail> {
-    let (store, mut seat) = open_pair(rt.alloc())?;
-    assert_eq!(rt; run_of(&store, &mut seat, 0), Run { tps: 0, end: 0 });
-    assert_eq!(rt; run_of(&store, &mut seat, 1), Run { tps: 0, end: 0 });
-    Ok(())
+/// What was found is what was wanted, at this place of a test.
+fn same<T: PartialEq + Debug + Drop>(rt: &impl Abort, found: T, wanted: T, at: impl Debug + Drop) {
+    assert_eq!(rt; found, wanted, "{at:?}");
 }
 
 /// Makes the words of a page with these numbers, of TPS 3 and times 9, and reads the values off them. Tells the first packed word.
@@ -73,10 +36,10 @@ fn form_of(rt: &impl Abort, numbers: &[u64; 256]) -> u64 {
     let mut read = [7; 256];
     read_values(&words, &mut read);
     for slot in 0..256 {
-        assert_eq!(rt; read[slot], numbers[slot]);
-        assert_eq!(rt; words[TIMES + slot], 19);
+        let found = (read[slot], words[TIMES + slot]);
+        same(rt, found, (numbers[slot], 19), slot);
     }
-    assert_eq!(rt; words[0], 3);
+    same(rt, words[0], 3, "the TPS");
     words[VALUES]
 }
 
@@ -95,19 +58,36 @@ fn drawn(count: u64, step: u64) -> [u64; 256]
     numbers
 }
 
-#[test]
-fn a_page_of_each_form_says_its_numbers(rt: HostRuntime) {
-    assert_eq!(rt; form_of(&rt, &[5; 256]), 1);
-    assert_eq!(rt; form_of(&rt, &drawn(4, 1 << 40)), 2 + 8 * 4);
-    assert_eq!(rt; form_of(&rt, &drawn(16, 1 << 40)), 2 + 8 * 16);
+/// A page of numbers that are drawn so has this first packed word.
+fn draws(rt: &impl Abort, count: u64, step: u64, word: u64)
+    requires { 0 < count }
+{
+    same(rt, form_of(rt, &drawn(count, step)), word, count);
+}
+
+/// At each place a number; eight places have one together.
+fn in_eights() -> [u64; 256] {
     let mut numbers = [0; 256];
     for slot in 0..256 {
         numbers[slot] = (slot as u64 / 8) << 40;
     }
-    assert_eq!(rt; form_of(&rt, &numbers), 3 + 8 * 32);
-    assert_eq!(rt; form_of(&rt, &drawn(256, 1)), 4 + 8 * 8);
-    assert_eq!(rt; form_of(&rt, &drawn(1 << 16, 1)), 4 + 8 * 16);
-    assert_eq!(rt; form_of(&rt, &drawn(1 << 40, 1)), 0);
+    numbers
+}
+
+#[test]
+fn a_page_of_each_form_says_its_numbers(rt: HostRuntime) {
+    same(&rt, form_of(&rt, &[5; 256]), 1, "one number");
+    draws(&rt, 4, 1 << 40, 2 + 8 * 4);
+    draws(&rt, 16, 1 << 40, 2 + 8 * 16);
+    same(&rt, form_of(&rt, &in_eights()), 3 + 8 * 32, "in eights");
+    draws(&rt, 256, 1, 4 + 8 * 8);
+    draws(&rt, 1 << 16, 1, 4 + 8 * 16);
+    draws(&rt, 1 << 40, 1, 0);
+}
+
+/// The first two words of nulls.
+fn nulls_of(words: &[u64; WORDS]) -> (u64, u64) {
+    (words[NULLS], words[NULLS + 1])
 }
 
 #[test]
@@ -124,9 +104,9 @@ fn each_null_has_its_bit(rt: HostRuntime) {
     };
     put_entry(&mut words, &mut values, 70, null);
     put_entry(&mut words, &mut values, 71, nought);
-    assert_eq!(rt; (words[NULLS], words[NULLS + 1]), (0, 64));
+    same(&rt, nulls_of(&words), (0, 64), "70");
     put_entry(&mut words, &mut values, 71, null);
-    assert_eq!(rt; (words[NULLS], words[NULLS + 1]), (0, 192));
+    same(&rt, nulls_of(&words), (0, 192), "70 and 71");
     put_entry(&mut words, &mut values, 70, nought);
-    assert_eq!(rt; (words[NULLS], words[NULLS + 1]), (0, 128));
+    same(&rt, nulls_of(&words), (0, 128), "71");
 }

@@ -14,6 +14,3 @@ pub use lists::{SeatCause, SeatList, SeatRefusal};
 pub use lst_rule::open_store;
 pub use notes::{Note, hear, tell};
 pub use parts::part;
-
-#[cfg(test)]
-mod tests;

@@ -9,8 +9,6 @@ mod listing;
 mod lists;
 mod positions;
 mod posting;
-#[cfg(test)]
-mod tests;
 mod visits;
 
 pub use listing::{CandidateFault, candidates};

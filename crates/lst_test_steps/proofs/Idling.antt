@@ -1,8 +1,11 @@
 -- Two sessions that one seat hosts, after the calls of one of them.
-use Rattle.std.proofs.Common.{◌≡◌, ℕ, ◌<◌, List, Bool, [], true, Option, None, slice_index_or, take, false, Contains, refl, sym, subst, ap, ◌∙◌, ⊎_elim}
+use Rattle.std.proofs.Common.{◌≡◌, ℕ, ◌+◌, ◌<◌, List, Bool, [], true, Option, None, slice_index_or, take, false, Contains, refl, sym, subst, ap, ◌∙◌, ⊎_elim, arith}
+use lib.ListN.{get_or-replicate}
 use Rattle.std.proofs.lemmas.List.Elements.{Contains-append_left}
 use mathlib.Core.Logic.{dite}
 use native.Mathlib.Decide.{ℕ_discrete}
+use Rattle.lst_layout.specs.declared.layout.Layout.{Layout}
+use Rattle.lst_layout.specs.declared.limits.Limits.{Limits}
 use Rattle.lst_model.specs.declared.acts.Act.{Act}
 use Rattle.lst_model.specs.Cells.{Cell}
 use Rattle.lst_model.specs.Histories.{row_from}
@@ -13,12 +16,13 @@ use Rattle.lst_core_state.specs.declared.known.Stage.{Stage}
 use Rattle.lst_core_state.specs.declared.known.Stage.TheVariants.{Away, Taken, Fresh, Logged, Stated, Done}
 use Rattle.lst_core_state.specs.declared.facts.Fact.TheVariants.{IndexAt}
 use Rattle.lst_core_state.specs.declared.facts.Find.{Find}
-use Rattle.lst_core_state.specs.State.{rank, no_hold}
+use Rattle.lst_core_state.specs.State.{newcomer, rank, no_hold}
 use Rattle.lst_core_state.specs.Step.{refreshed, took}
 use Rattle.lst_rule.specs.declared.view.View.{View}
-use Rattle.lst_rule.specs.Rule.{knows, hosts}
+use Rattle.lst_rule.specs.Rule.{knows, hosts, crew}
 use Rattle.lst_rule.specs.Learned.{Learns, Possible}
 use Rattle.lst_rule.proofs.Learning.{learns_on}
+use Rattle.lst_rule.proofs.Opening.{same_at}
 use Rattle.lst_rule.specs.declared.store.Store.{Store}
 use Rattle.lst_rule.specs.Seats.{Sitting}
 use Rattle.lst_rule.specs.Stores.{IsSeatOf}
@@ -48,6 +52,22 @@ still_away Logged e = absurd (cc)
 still_away Stated e = absurd (cc)
 still_away Done e = absurd (cc)
 
+-- ---- the opening
+
+pub pair_starts : (store : Store) (seat : Sitting) (layout : Layout) (l : Limits) → IsSeatOf store seat → store.layout ≡ layout → seat.view ≡ crew layout.limits → layout.limits ≡ l → l.columns ≡ 2 → l.sessions ≡ 2 → IsPair store seat
+pair_starts store seat layout l seat_of same is limits columns sessions = record {
+  seat_of = seat_of;
+  columns = ap (λ (y : Layout). y.limits.columns) same ∙ (ap (λ (m : Limits). m.columns) limits ∙ columns);
+  sessions = ap (λ (y : Layout). y.limits.sessions) same ∙ two;
+  hosted = λ s low. ap (λ (v : View). hosts v s) is ∙ get_or-replicate (layout.limits.sessions + 1) s true false (omega arith);
+  idle = λ s low. subst IsIdle (sym (ap (λ (v : View). knows v s) is ∙ same_at (layout.limits.sessions + 1) s (newcomer layout.limits))) record { hand = refl; away = refl; free = refl };
+}
+  where
+    two : layout.limits.sessions ≡ 2
+    two = ap (λ (m : Limits). m.sessions) limits ∙ sessions
+
+-- ---- after calls
+
 -- what a session knows after looks has the same in hand
 watched_hand : (u v : Known) → Watches u v → u.placing.hand ≡ 0 → v.placing.hand ≡ 0
 watched_hand u v w e = ap (λ (k : Known). k.placing.hand) w.is ∙ e
@@ -65,7 +85,8 @@ module _ (store : Store) (seat : Sitting) (s : ℕ) (p : IsPair store seat) (low
   pub pair_on : (on : Sitting) (k : Known) → IsSeatOf store on → Learns seat.view on.view s k → k.placing.hand ≡ 0 → rank k.turn ≡ 0 → k.hold.latch ≡ 0 → IsPair store on
   pair_on on k seat_of h hand away free = record {
     seat_of = seat_of;
-    limits = p.limits;
+    columns = p.columns;
+    sessions = p.sessions;
     hosted = λ t few. ap (λ (bs : List Bool). slice_index_or bs t false) h.hosted ∙ p.hosted t few;
     idle = λ t few. dite (ℕ_discrete t s)
         (λ e. subst (λ (n : ℕ). IsIdle (knows on.view n)) (sym e) (subst IsIdle (sym h.now) record { hand = hand; away = away; free = free }))

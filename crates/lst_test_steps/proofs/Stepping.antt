@@ -1,4 +1,4 @@
--- What a operation of one session leaves.
+-- What an operation of one session leaves.
 use Rattle.std.proofs.lemmas.List.Elements.{Contains-append_left}
 use Rattle.std.proofs.Common.{◌∷◌, ◌≡◌, ◌≢◌, ℕ, ◌+◌, ◌<◌, List, [], ◌++◌, Bool, true, false, slice_index_or, refl, sym, subst, ap, ◌∙◌, arith}
 use lib.ListN.{get_or-replicate}
@@ -22,7 +22,7 @@ use Rattle.lst_rule.specs.declared.store.Store.{Store}
 use Rattle.lst_rule.specs.Seats.{Sitting}
 use Rattle.lst_rule.specs.Stores.{IsSeatOf}
 use Rattle.lst_txn.specs.Transactions.{IsFree, Opens, Commits}
-use Rattle.lst_test_steps.specs.declared.pairs.Pair.{Pair}
+use Rattle.lst_test_steps.specs.declared.stages.Pair.{Pair}
 use Rattle.lst_index.specs.Searches.{Works}
 use Rattle.lst_index.specs.Searches as index
 use Rattle.lst_write.specs.Holding.{MayLatch, IsPlaced, Latches}

@@ -12,7 +12,7 @@ use Rattle.lst_rule.specs.Seats.{Sitting}
 use Rattle.lst_rule.specs.Stores.{IsSeatOf}
 use Rattle.lst_rule.specs.Seen.{HasKey}
 use Rattle.lst_txn.specs.Transactions.{IsFree}
-use Rattle.lst_test_steps.specs.declared.pairs.Pair.{Pair}
+use Rattle.lst_test_steps.specs.declared.stages.Pair.{Pair}
 use Rattle.lst_test_steps.specs.declared.stages.Stage.{Stage}
 use Rattle.lst_test_steps.specs.declared.stages.Stage.TheVariants.{Out, In, Latching, Judged, Whole}
 use Rattle.lst_write.specs.Appending.{HasWhole}
@@ -49,7 +49,7 @@ pub record IsOpened (store : Store) (seat : Sitting) (pair : Pair) : Type 0 wher
   pub four : store.layout.limits.sessions ≡ 4
   pub both : ArePair seat pair
 
--- a operation of the session s brings it to the stage, and leaves each other session where it is
+-- an operation of the session s brings it to the stage, and leaves each other session where it is
 pub record MovesTo (store : Store) (old new : Sitting) (s : ℕ) (stage : Stage) : Type 0 where
   pub crew : HostsAll store new
   pub driven : IsAtStage new s stage

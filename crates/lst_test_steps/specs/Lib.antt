@@ -1,3 +1,4 @@
 pub mod Driving
 pub mod Idle
 pub mod Parted
+pub mod Merging

@@ -1,5 +1,5 @@
-//! Two sessions of one seat, which hosts them all, taken operation by operation: so that tests can hold every order of their operations against
-//! each other.
+//! Sessions of one seat, which hosts them all, taken operation by operation, so that tests can hold every order of their operations against each
+//! other; and tests of keys, postings, rows, seats, merges and transactions.
 #![tactic(auto)]
 
 #[cfg(test)]
@@ -9,23 +9,33 @@ mod greatest_tests;
 #[cfg(test)]
 mod history_tests;
 #[cfg(test)]
+mod index_tests;
+#[cfg(test)]
 mod machine;
+#[cfg(test)]
+mod merge_tests;
+#[cfg(test)]
 mod operations;
+#[cfg(test)]
 mod pairs;
+#[cfg(test)]
+mod part_tests;
 #[cfg(test)]
 mod post_tests;
 #[cfg(test)]
 mod read_tests;
 #[cfg(test)]
 mod seat_tests;
+#[cfg(test)]
+mod second_tests;
 mod stages;
 #[cfg(test)]
 mod tests;
+#[cfg(test)]
 mod turns;
+#[cfg(test)]
+mod txn_tests;
+#[cfg(test)]
 mod writes;
 
-pub use operations::step;
-pub use pairs::{Pair, load_word, open_pair, operate};
-pub use stages::{Answer, Operation, Stage};
-pub use turns::{commit_beside, open_as_of};
-pub use writes::put_set_and_delete;
+pub use stages::{Pair, Stage};

@@ -1,11 +1,11 @@
 //! The machine of one thread: what each operation of two sessions that write on one record comes to.
-use crate::stages::{Answer, Operation};
+use crate::operations::{Answer, Operation};
 use lst_model::Time;
 use lst_txn::{BeginFault, TurnFault};
 use lst_write::JudgeFault;
 
 /// What a session has in hand.
-#[derive(Clone, Copy, PartialEq, Eq, Debug)]
+#[derive(Clone, Copy, PartialEq, Eq)]
 enum Hand {
     Nothing,
     Latch,
@@ -14,7 +14,7 @@ enum Hand {
 }
 
 /// How a session's transaction stands.
-#[derive(Clone, Copy, PartialEq, Eq, Debug)]
+#[derive(Clone, Copy, PartialEq, Eq)]
 enum State {
     Unbegun,
     Open,
@@ -223,7 +223,7 @@ impl Machine {
         Answer::Closed
     }
 
-    /// What a operation comes to.
+    /// What an operation comes to.
     pub(crate) fn step(&mut self, s: u32, operation: Operation) -> Answer {
         match operation {
             Operation::Begin => self.begin(s),

@@ -3,14 +3,59 @@ ghost use Rattle.std.specs.Prelude.{◌≡◌, [], ◌∷◌};
 ghost use Rattle.lst_model.specs.declared.acts.Act.TheVariants.{Put};
 ghost use Rattle.lst_test_steps.specs.Driving.{HostsAll, IsAtStage, MovesTo};
 
-use crate::stages::{Answer, Operation, Stage};
+use crate::stages::Stage;
 use arrayvec::ArrayVec;
 use lst_index::place;
-use lst_model::{Act, Key, Row};
+use lst_model::{Act, Key, Row, Time};
 use lst_rule::{RecordId, Seat, Store};
 use lst_second::post_all;
-use lst_txn::{begin, close, take_turn};
-use lst_write::{append, install, judge, latch, release};
+use lst_txn::{BeginFault, TurnFault, begin, close, take_turn};
+use lst_write::{JudgeFault, append, install, judge, latch, release};
+
+/// What a session does.
+#[derive(Clone, Copy)]
+pub(crate) enum Operation {
+    Begin,
+    /// It places a key, and tries once to latch the key's record.
+    Latch { key: Key },
+    Judge,
+    /// It appends a put of 10 20, where its transaction began at 0 and has written nothing: then it sees no row of any key.
+    Append,
+    Install,
+    Release,
+    /// It takes the turn, and commits.
+    Commit,
+    Close,
+}
+
+/// What a session is answered.
+#[derive(Clone, Copy, PartialEq, Eq)]
+pub(crate) enum Answer {
+    /// The operation is none for its stage.
+    Skipped,
+    /// Its transaction has begun at this time.
+    Began { time: Time },
+    NotBegun { fault: BeginFault },
+    /// Each record is another key's.
+    TableFull,
+    /// The newest version has this number in its range.
+    Head { head: u32 },
+    /// Another session has the latch.
+    Latched,
+    /// The transaction may write.
+    Judged,
+    NotJudged { fault: JudgeFault },
+    /// The tail with this number in its range is whole.
+    Tail { tail: u32 },
+    TailFull,
+    Installed,
+    Released,
+    Committed { time: Time },
+    NotCommitted { fault: TurnFault },
+    Closed,
+    /// No transaction was open.
+    Idle,
+}
 
 fn begins(store: &Store, seat: &mut Seat, s: u32, stage: Stage) -> (Answer, Stage)
     requires crew { HostsAll store.now seat.old }
@@ -123,8 +168,8 @@ fn closes(store: &Store, seat: &mut Seat, s: u32) -> (Answer, Stage)
     }
 }
 
-/// Makes a operation of a session where its stage allows it, and answers what it came to, and the session's stage then.
-pub fn step(
+/// Makes an operation of a session where its stage allows it, and answers what it came to, and the session's stage then.
+pub(crate) fn step(
     store: &Store,
     seat: &mut Seat,
     s: u32,

@@ -3,23 +3,16 @@ ghost use Rattle.std.specs.Prelude.{◌≡◌, ℕ, ◌<◌, ◌≤◌, IfOk};
 ghost use Rattle.lst_layout.specs.Limits.{IsValid};
 ghost use Rattle.lst_test_steps.specs.Driving.{HostsAll, ArePair};
 
-use crate::operations::step;
-use crate::stages::{Answer, Operation, Stage};
+use crate::operations::{Answer, Operation, step};
+use crate::stages::{Pair, Stage};
 use lst_layout::Layout;
 use lst_model::OutOfMemory;
 use lst_rule::{Seat, Store, load};
 use lst_seat::open_store;
 use std::alloc::Global;
 
-/// How far the sessions 0 and 1 are.
-#[derive(Clone, Copy, PartialEq, Eq, Debug)]
-pub struct Pair {
-    pub first: Stage,
-    pub second: Stage,
-}
-
 /// A store with a layout of two columns and at least two sessions, and its seat.
-pub fn open_pair(alloc: Global, layout: &Layout) -> Result<(Store, Seat, Pair), OutOfMemory>
+pub(crate) fn open_pair(alloc: Global, layout: &Layout) -> Result<(Store, Seat, Pair), OutOfMemory>
     requires columns { layout.now.limits.columns ≡ 2 }
     requires sessions { 2 ≤ layout.now.limits.sessions }
     ensures layout { IfOk result (λ opened. opened.0.layout ≡ layout.now) }
@@ -34,8 +27,8 @@ pub fn open_pair(alloc: Global, layout: &Layout) -> Result<(Store, Seat, Pair), 
     Ok((store, seat, pair))
 }
 
-/// Makes a operation of one of the two.
-pub fn operate(
+/// Makes an operation of one of the two.
+pub(crate) fn operate(
     store: &Store,
     seat: &mut Seat,
     pair: &mut Pair,
@@ -60,7 +53,7 @@ pub fn operate(
 }
 
 /// The word at an address, loaded by a third session, or None where the store has no such word.
-pub fn load_word(store: &Store, seat: &mut Seat, pair: &Pair, address: u64) -> Option<u64>
+pub(crate) fn load_word(store: &Store, seat: &mut Seat, pair: &Pair, address: u64) -> Option<u64>
     requires crew { HostsAll store.now seat.old }
     requires pair { ArePair seat.old pair.now }
     requires three { 2 < store.now.layout.limits.sessions }

@@ -1,8 +1,9 @@
 //! Where the tails of two indexed columns are posted.
-ghost use Rattle.std.specs.Prelude.{◌<◌};
+ghost use Rattle.std.specs.Prelude.{◌≡◌};
 ghost use Rattle.lst_test_steps.specs.Idle.{IsPair};
 
-use crate::read_tests::{Deed, open_pair, start, writes};
+use crate::read_tests::{Deed, SMALL, open_with, start, writes};
+use lst_layout::Limits;
 use lst_model::Key;
 use lst_rule::{Seat, Store, load_posting};
 use std::alloc::Global;
@@ -41,7 +42,7 @@ fn postings(store: &Store, seat: &mut Seat, column: u32) -> u32
 
 /// A write of session 0, or what the columns' positions hold then.
 #[derive(Clone, Copy)]
-enum Step {
+pub(crate) enum Step {
     /// A write under a key, whose tail record has this number.
     Writes(Key, Deed, u32),
     /// A column, a position, and the word there.
@@ -73,99 +74,97 @@ fn play(rt: &impl Abort, store: &Store, seat: &mut Seat, script: &[Step])
     }
 }
 
-/// The same in the first transaction of session 0, on a store that opens.
-fn run(rt: &impl Abort, alloc: Global, script: &[Step]) -> Result<(), Fail> {
-    let (store, mut seat) = open_pair(alloc)?;
+/// The same in the first transaction of session 0, on a store that opens with these limits.
+pub(crate) fn run(
+    rt: &impl Abort,
+    alloc: Global,
+    limits: Limits,
+    script: &[Step],
+) -> Result<(), Fail>
+    requires columns { limits.columns ≡ 2 }
+    requires sessions { limits.sessions ≡ 2 }
+{
+    let (store, mut seat) = open_with(alloc, limits)?;
     assert_eq!(rt; start(&store, &mut seat, 0), Some(0));
     play(rt, &store, &mut seat, script);
     Ok(())
 }
 
+const POSTED_IN_BOTH: [Step; 5] = [
+    Step::Writes(7, Deed::Put(10, 20), 1),
+    Step::Posting(0, 5, 1),
+    Step::Posting(1, 11, 1),
+    Step::Postings(0, 1),
+    Step::Postings(1, 1),
+];
+
 #[test]
 fn a_put_is_posted_in_both_columns(rt: HostRuntime) -> Result<(), Fail> {
-    run(
-        &rt,
-        rt.alloc(),
-        &[
-            Step::Writes(7, Deed::Put(10, 20), 1),
-            Step::Posting(0, 5, 1),
-            Step::Posting(1, 11, 1),
-            Step::Postings(0, 1),
-            Step::Postings(1, 1),
-        ],
-    )
+    run(&rt, rt.alloc(), SMALL, &POSTED_IN_BOTH)
 }
+
+const POSTED_ONCE: [Step; 9] = [
+    Step::Writes(7, Deed::Put(10, 20), 1),
+    Step::Writes(7, Deed::SetFirst(10), 2),
+    Step::Postings(0, 1),
+    Step::Writes(7, Deed::SetFirst(3), 3),
+    Step::Posting(0, 27, 3),
+    // The record had 10 before.
+    Step::Writes(7, Deed::SetFirst(10), 4),
+    Step::Posting(0, 5, 1),
+    Step::Postings(0, 2),
+    Step::Postings(1, 1),
+];
 
 #[test]
 fn a_number_of_a_record_is_posted_once(rt: HostRuntime) -> Result<(), Fail> {
-    run(
-        &rt,
-        rt.alloc(),
-        &[
-            Step::Writes(7, Deed::Put(10, 20), 1),
-            Step::Writes(7, Deed::SetFirst(10), 2),
-            Step::Postings(0, 1),
-            Step::Writes(7, Deed::SetFirst(3), 3),
-            Step::Posting(0, 27, 3),
-            // The record had 10 before.
-            Step::Writes(7, Deed::SetFirst(10), 4),
-            Step::Posting(0, 5, 1),
-            Step::Postings(0, 2),
-            Step::Postings(1, 1),
-        ],
-    )
+    run(&rt, rt.alloc(), SMALL, &POSTED_ONCE)
 }
+
+const ONE_NUMBER: [Step; 8] = [
+    Step::Writes(7, Deed::Put(10, 20), 1),
+    Step::Writes(8, Deed::Put(10, 3), 2),
+    Step::Posting(0, 5, 1),
+    Step::Posting(0, 6, 2),
+    // The run of 31 begins there too.
+    Step::Writes(7, Deed::SetFirst(31), 3),
+    Step::Posting(0, 7, 3),
+    Step::Writes(8, Deed::SetFirst(10), 4),
+    Step::Postings(0, 3),
+];
 
 #[test]
 fn two_records_with_one_number_stand_in_two_positions(rt: HostRuntime) -> Result<(), Fail> {
-    run(
-        &rt,
-        rt.alloc(),
-        &[
-            Step::Writes(7, Deed::Put(10, 20), 1),
-            Step::Writes(8, Deed::Put(10, 3), 2),
-            Step::Posting(0, 5, 1),
-            Step::Posting(0, 6, 2),
-            // The run of 31 begins there too.
-            Step::Writes(7, Deed::SetFirst(31), 3),
-            Step::Posting(0, 7, 3),
-            Step::Writes(8, Deed::SetFirst(10), 4),
-            Step::Postings(0, 3),
-        ],
-    )
+    run(&rt, rt.alloc(), SMALL, &ONE_NUMBER)
 }
+
+const LAST_AND_FIRST: [Step; 5] = [
+    Step::Writes(7, Deed::Put(21, 20), 1),
+    Step::Writes(8, Deed::Put(55, 20), 2),
+    Step::Posting(0, 31, 1),
+    Step::Posting(0, 0, 2),
+    Step::Postings(0, 2),
+];
 
 #[test]
 fn a_run_goes_on_at_the_first_position(rt: HostRuntime) -> Result<(), Fail> {
-    run(
-        &rt,
-        rt.alloc(),
-        &[
-            Step::Writes(7, Deed::Put(21, 20), 1),
-            Step::Writes(8, Deed::Put(55, 20), 2),
-            Step::Posting(0, 31, 1),
-            Step::Posting(0, 0, 2),
-            Step::Postings(0, 2),
-        ],
-    )
+    run(&rt, rt.alloc(), SMALL, &LAST_AND_FIRST)
 }
+
+const NULLS: [Step; 8] = [
+    Step::Writes(7, Deed::PutNullAnd(20), 1),
+    Step::Postings(0, 0),
+    Step::Postings(1, 1),
+    // The number 0 is none.
+    Step::Writes(7, Deed::SetFirst(0), 2),
+    Step::Posting(0, 0, 2),
+    // A delete holds no column.
+    Step::Writes(7, Deed::Delete, 3),
+    Step::Postings(0, 1),
+    Step::Postings(1, 1),
+];
 
 #[test]
 fn a_null_is_not_posted(rt: HostRuntime) -> Result<(), Fail> {
-    run(
-        &rt,
-        rt.alloc(),
-        &[
-            Step::Writes(7, Deed::PutNullAnd(20), 1),
-            Step::Postings(0, 0),
-            Step::Postings(1, 1),
-            // The number 0 is none.
-            Step::Writes(7, Deed::SetFirst(0), 2),
-            Step::Posting(0, 0, 2),
-            // A delete holds no column.
-            Step::Writes(7, Deed::Delete, 3),
-            Step::Postings(0, 1),
-            Step::Postings(1, 1),
-        ],
-    )
+    run(&rt, rt.alloc(), SMALL, &NULLS)
 }

@@ -24,7 +24,7 @@ use std::process::Abort;
 use std::test::Fail;
 
 /// One range, 16 tail records, and two indexed columns of 32 positions.
-const SMALL: Limits = Limits {
+pub(crate) const SMALL: Limits = Limits {
     columns: 2,
     ranges: 1,
     tails: 16,
@@ -34,12 +34,14 @@ const SMALL: Limits = Limits {
     indexed: 3,
 };
 
-pub(crate) fn open_pair(alloc: Global) -> Result<(Store, Seat), Fail>
+/// A store with these limits, and its seat.
+pub(crate) fn open_with(alloc: Global, limits: Limits) -> Result<(Store, Seat), Fail>
+    requires columns { limits.columns ≡ 2 }
+    requires sessions { limits.sessions ≡ 2 }
     ensures { IfOk result (λ opened. IsPair opened.0 opened.1) }
 {
-    let limits = SMALL;
     let Ok(layout) = limits.check() else {
-        return Err(Fail::from("the small limits are in range"));
+        return Err(Fail::from("the limits are in range"));
     };
     Ok(open_store(alloc, &layout)?)
 }
@@ -235,54 +237,40 @@ fn see_cell(store: &Store, seat: &mut Seat, s: u32, key: Key, c: u32) -> Option<
     Some(column(store, seat, s, rec, c))
 }
 
-/// The row that session s sees of a record.
+/// The row that session s sees of a record, if the store has the record.
 fn read_record(store: &Store, seat: &mut Seat, s: u32, number: u32) -> Option<Option<Row>>
     requires pair { IsPair store.now seat.old }
     requires session { s < 2 }
-    requires record { number < 256 }
     ensures { IsPair store.now seat.new }
 {
-    if !seat.is_open(s) {
+    if !seat.is_open(s) || number as u64 >= store.layout().limits.record_count() {
         return None;
     }
     Some(row(store, seat, s, RecordId { number }))
 }
 
-/// What session s is answered where it stamps a tail record.
+/// What session s is answered where it stamps a tail record of the first range, if the range has it.
 fn stamp_tail(store: &Store, seat: &mut Seat, s: u32, tail: u32) -> Option<bool>
     requires pair { IsPair store.now seat.old }
     requires session { s < 2 }
-    requires some { 0 < tail }
-    requires few { tail ≤ 16 }
     ensures { IsPair store.now seat.new }
 {
-    if !seat.is_open(s) {
+    if !seat.is_open(s) || tail == 0 || tail > store.layout().limits.tails {
         return None;
     }
     Some(stamp(store, seat, s, 0, tail))
 }
 
-/// The word at a place of a tail record.
-fn cell_word(store: &Store, seat: &mut Seat, s: u32, tail: u32, place: u32) -> u64
+/// The word at a place of a tail record, or None where the store has no such word.
+fn cell_word(store: &Store, seat: &mut Seat, s: u32, tail: u32, place: u32) -> Option<u64>
     requires pair { IsPair store.now seat.old }
     requires session { s < 2 }
-    requires some { 0 < tail }
-    requires few { tail ≤ 16 }
-    requires place { place < 5 }
     ensures { IsPair store.now seat.new }
 {
-    load_cell(store, seat, s, tail, place)
-}
-
-/// The start word of a tail record.
-fn start_word(store: &Store, seat: &mut Seat, s: u32, tail: u32) -> u64
-    requires pair { IsPair store.now seat.old }
-    requires session { s < 2 }
-    requires some { 0 < tail }
-    requires few { tail ≤ 16 }
-    ensures { IsPair store.now seat.new }
-{
-    cell_word(store, seat, s, tail, 0)
+    if tail == 0 || tail as u64 > store.layout().limits.tail_count() || place >= 5 {
+        return None;
+    }
+    Some(load_cell(store, seat, s, tail, place))
 }
 
 /// An act on a row, as a value that is copied.
@@ -381,24 +369,11 @@ fn takes(store: &Store, seat: &mut Seat, s: u32, step: Step) -> bool
         Step::Closes => quit(store, seat, s),
         Step::Sees(key, seen) => see(store, seat, s, key) == Some(row_of(seen)),
         Step::SeesCell(key, c, cell) => c < 2 && see_cell(store, seat, s, key, c) == Some(cell),
-        Step::SeesRecord(rec, seen) => {
-            rec < 256 && read_record(store, seat, s, rec) == Some(row_of(seen))
-        }
-        Step::Stamps(tail, told) => {
-            is_tail(tail) && stamp_tail(store, seat, s, tail) == Some(told)
-        }
-        Step::StartWord(tail, word) => is_tail(tail) && start_word(store, seat, s, tail) == word,
-        Step::Word(tail, place, word) => {
-            is_tail(tail) && place < 5 && cell_word(store, seat, s, tail, place) == word
-        }
+        Step::SeesRecord(rec, seen) => read_record(store, seat, s, rec) == Some(row_of(seen)),
+        Step::Stamps(tail, told) => stamp_tail(store, seat, s, tail) == Some(told),
+        Step::StartWord(tail, word) => cell_word(store, seat, s, tail, 0) == Some(word),
+        Step::Word(tail, place, word) => cell_word(store, seat, s, tail, place) == Some(word),
     }
-}
-
-/// Whether the store has a tail record of this number.
-fn is_tail(tail: u32) -> bool
-    ensures { IsTrue result → (0 < tail) × (tail ≤ 16) }
-{
-    0 < tail && tail <= 16
 }
 
 /// Takes steps of sessions in order, each of which is answered as it says.
@@ -413,185 +388,169 @@ pub(crate) fn play(rt: &impl Abort, store: &Store, seat: &mut Seat, script: &[(u
 
 /// The same on a store that opens.
 fn run(rt: &impl Abort, alloc: Global, script: &[(u32, Step)]) -> Result<(), Fail> {
-    let (store, mut seat) = open_pair(alloc)?;
+    let (store, mut seat) = open_with(alloc, SMALL)?;
     play(rt, &store, &mut seat, script);
     Ok(())
 }
 
+const STAMPED: [(u32, Step); 10] = [
+    (0, Step::Begins(0)),
+    (0, Step::Writes(7, Deed::Put(10, 20), 1)),
+    (0, Step::Commits(1)),
+    (1, Step::Begins(1)),
+    // The name of transaction 1 of session 0.
+    (1, Step::StartWord(1, 33)),
+    (1, Step::Stamps(1, true)),
+    (1, Step::StartWord(1, 2)),
+    (1, Step::Stamps(1, true)),
+    (1, Step::StartWord(1, 2)),
+    (1, Step::Sees(7, Seen::Row(10, 20))),
+];
+
 #[test]
 fn a_stamp_has_the_time_of_a_commit(rt: HostRuntime) -> Result<(), Fail> {
-    run(
-        &rt,
-        rt.alloc(),
-        &[
-            (0, Step::Begins(0)),
-            (0, Step::Writes(7, Deed::Put(10, 20), 1)),
-            (0, Step::Commits(1)),
-            (1, Step::Begins(1)),
-            // The name of transaction 1 of session 0.
-            (1, Step::StartWord(1, 33)),
-            (1, Step::Stamps(1, true)),
-            (1, Step::StartWord(1, 2)),
-            (1, Step::Stamps(1, true)),
-            (1, Step::StartWord(1, 2)),
-            (1, Step::Sees(7, Seen::Row(10, 20))),
-        ],
-    )
+    run(&rt, rt.alloc(), &STAMPED)
 }
+
+const UNSTAMPED: [(u32, Step); 12] = [
+    (0, Step::Begins(0)),
+    (0, Step::Writes(7, Deed::Put(10, 20), 1)),
+    (1, Step::Begins(0)),
+    (1, Step::Stamps(1, false)),
+    (1, Step::Stamps(2, false)),
+    (1, Step::StartWord(1, 33)),
+    (1, Step::Sees(7, Seen::Nothing)),
+    (0, Step::Sees(7, Seen::Row(10, 20))),
+    (0, Step::Closes),
+    (1, Step::Stamps(1, false)),
+    (1, Step::StartWord(1, 33)),
+    (1, Step::Sees(7, Seen::Nothing)),
+];
 
 #[test]
 fn no_stamp_is_stored_for_open_and_closed_transactions(rt: HostRuntime) -> Result<(), Fail> {
-    run(
-        &rt,
-        rt.alloc(),
-        &[
-            (0, Step::Begins(0)),
-            (0, Step::Writes(7, Deed::Put(10, 20), 1)),
-            (1, Step::Begins(0)),
-            (1, Step::Stamps(1, false)),
-            (1, Step::Stamps(2, false)),
-            (1, Step::StartWord(1, 33)),
-            (1, Step::Sees(7, Seen::Nothing)),
-            (0, Step::Sees(7, Seen::Row(10, 20))),
-            (0, Step::Closes),
-            (1, Step::Stamps(1, false)),
-            (1, Step::StartWord(1, 33)),
-            (1, Step::Sees(7, Seen::Nothing)),
-        ],
-    )
+    run(&rt, rt.alloc(), &UNSTAMPED)
 }
+
+const NEWEST_CELLS: [(u32, Step); 13] = [
+    (0, Step::Begins(0)),
+    (0, Step::Writes(7, Deed::Put(10, 20), 1)),
+    (0, Step::Writes(7, Deed::SetFirst(11), 2)),
+    (0, Step::Commits(1)),
+    (0, Step::Begins(1)),
+    (0, Step::Writes(7, Deed::SetFirst(12), 3)),
+    (0, Step::Writes(7, Deed::SetSecond(22), 4)),
+    (0, Step::Sees(7, Seen::Row(12, 22))),
+    (1, Step::Begins(1)),
+    (1, Step::Sees(7, Seen::Row(11, 20))),
+    (1, Step::SeesCell(7, 0, Some(11))),
+    (0, Step::SeesCell(7, 0, Some(12))),
+    (0, Step::SeesCell(7, 1, Some(22))),
+];
 
 #[test]
 fn a_row_has_the_newest_cell_of_each_column(rt: HostRuntime) -> Result<(), Fail> {
-    run(
-        &rt,
-        rt.alloc(),
-        &[
-            (0, Step::Begins(0)),
-            (0, Step::Writes(7, Deed::Put(10, 20), 1)),
-            (0, Step::Writes(7, Deed::SetFirst(11), 2)),
-            (0, Step::Commits(1)),
-            (0, Step::Begins(1)),
-            (0, Step::Writes(7, Deed::SetFirst(12), 3)),
-            (0, Step::Writes(7, Deed::SetSecond(22), 4)),
-            (0, Step::Sees(7, Seen::Row(12, 22))),
-            (1, Step::Begins(1)),
-            (1, Step::Sees(7, Seen::Row(11, 20))),
-            (1, Step::SeesCell(7, 0, Some(11))),
-            (0, Step::SeesCell(7, 0, Some(12))),
-            (0, Step::SeesCell(7, 1, Some(22))),
-        ],
-    )
+    run(&rt, rt.alloc(), &NEWEST_CELLS)
 }
+
+const OLD_SNAPSHOT: [(u32, Step); 14] = [
+    (0, Step::Begins(0)),
+    (0, Step::Writes(7, Deed::Put(10, 20), 1)),
+    (0, Step::Commits(1)),
+    (1, Step::Begins(1)),
+    (0, Step::Begins(1)),
+    (0, Step::Writes(7, Deed::SetSecond(21), 2)),
+    (0, Step::Commits(2)),
+    (1, Step::Sees(7, Seen::Row(10, 20))),
+    (1, Step::SeesCell(7, 1, Some(20))),
+    // The walk has stamped both.
+    (1, Step::StartWord(1, 2)),
+    (1, Step::StartWord(2, 4)),
+    (1, Step::Closes),
+    (1, Step::Begins(2)),
+    (1, Step::Sees(7, Seen::Row(10, 21))),
+];
 
 #[test]
 fn an_old_snapshot_stays(rt: HostRuntime) -> Result<(), Fail> {
-    run(
-        &rt,
-        rt.alloc(),
-        &[
-            (0, Step::Begins(0)),
-            (0, Step::Writes(7, Deed::Put(10, 20), 1)),
-            (0, Step::Commits(1)),
-            (1, Step::Begins(1)),
-            (0, Step::Begins(1)),
-            (0, Step::Writes(7, Deed::SetSecond(21), 2)),
-            (0, Step::Commits(2)),
-            (1, Step::Sees(7, Seen::Row(10, 20))),
-            (1, Step::SeesCell(7, 1, Some(20))),
-            // The walk has stamped both.
-            (1, Step::StartWord(1, 2)),
-            (1, Step::StartWord(2, 4)),
-            (1, Step::Closes),
-            (1, Step::Begins(2)),
-            (1, Step::Sees(7, Seen::Row(10, 21))),
-        ],
-    )
+    run(&rt, rt.alloc(), &OLD_SNAPSHOT)
 }
+
+const DELETED: [(u32, Step); 15] = [
+    (0, Step::Begins(0)),
+    (0, Step::Writes(7, Deed::Put(10, 20), 1)),
+    (0, Step::Commits(1)),
+    (1, Step::Begins(1)),
+    (0, Step::Begins(1)),
+    (0, Step::Writes(7, Deed::Delete, 2)),
+    (0, Step::Sees(7, Seen::Nothing)),
+    (0, Step::SeesCell(7, 0, None)),
+    (0, Step::Commits(2)),
+    (1, Step::Sees(7, Seen::Row(10, 20))),
+    (1, Step::Closes),
+    (1, Step::Begins(2)),
+    (1, Step::Sees(7, Seen::Nothing)),
+    (1, Step::Writes(7, Deed::Put(30, 40), 3)),
+    (1, Step::Sees(7, Seen::Row(30, 40))),
+];
 
 #[test]
 fn a_deleted_row_is_gone(rt: HostRuntime) -> Result<(), Fail> {
-    run(
-        &rt,
-        rt.alloc(),
-        &[
-            (0, Step::Begins(0)),
-            (0, Step::Writes(7, Deed::Put(10, 20), 1)),
-            (0, Step::Commits(1)),
-            (1, Step::Begins(1)),
-            (0, Step::Begins(1)),
-            (0, Step::Writes(7, Deed::Delete, 2)),
-            (0, Step::Sees(7, Seen::Nothing)),
-            (0, Step::SeesCell(7, 0, None)),
-            (0, Step::Commits(2)),
-            (1, Step::Sees(7, Seen::Row(10, 20))),
-            (1, Step::Closes),
-            (1, Step::Begins(2)),
-            (1, Step::Sees(7, Seen::Nothing)),
-            (1, Step::Writes(7, Deed::Put(30, 40), 3)),
-            (1, Step::Sees(7, Seen::Row(30, 40))),
-        ],
-    )
+    run(&rt, rt.alloc(), &DELETED)
 }
+
+const COLUMN_READS: [(u32, Step); 10] = [
+    (0, Step::Begins(0)),
+    (0, Step::Writes(7, Deed::Put(10, 20), 1)),
+    (0, Step::Writes(7, Deed::SetFirst(11), 2)),
+    (0, Step::Commits(1)),
+    (1, Step::Begins(1)),
+    // The set decides the first column: the put below isn't looked at.
+    (1, Step::SeesCell(7, 0, Some(11))),
+    (1, Step::StartWord(2, 2)),
+    (1, Step::StartWord(1, 33)),
+    (1, Step::SeesCell(7, 1, Some(20))),
+    (1, Step::StartWord(1, 2)),
+];
 
 #[test]
 fn a_column_read_stamps_what_it_passes(rt: HostRuntime) -> Result<(), Fail> {
-    run(
-        &rt,
-        rt.alloc(),
-        &[
-            (0, Step::Begins(0)),
-            (0, Step::Writes(7, Deed::Put(10, 20), 1)),
-            (0, Step::Writes(7, Deed::SetFirst(11), 2)),
-            (0, Step::Commits(1)),
-            (1, Step::Begins(1)),
-            // The set decides the first column: the put below isn't looked at.
-            (1, Step::SeesCell(7, 0, Some(11))),
-            (1, Step::StartWord(2, 2)),
-            (1, Step::StartWord(1, 33)),
-            (1, Step::SeesCell(7, 1, Some(20))),
-            (1, Step::StartWord(1, 2)),
-        ],
-    )
+    run(&rt, rt.alloc(), &COLUMN_READS)
 }
+
+const UNSEEN_KEY: [(u32, Step); 6] = [
+    (0, Step::Begins(0)),
+    (0, Step::Writes(7, Deed::Put(10, 20), 1)),
+    (1, Step::Begins(0)),
+    (1, Step::SeesRecord(0, Seen::Nothing)),
+    (1, Step::SeesRecord(1, Seen::Nothing)),
+    (0, Step::SeesRecord(0, Seen::Row(10, 20))),
+];
 
 #[test]
 fn a_record_without_a_seen_key_has_no_row(rt: HostRuntime) -> Result<(), Fail> {
-    run(
-        &rt,
-        rt.alloc(),
-        &[
-            (0, Step::Begins(0)),
-            (0, Step::Writes(7, Deed::Put(10, 20), 1)),
-            (1, Step::Begins(0)),
-            (1, Step::SeesRecord(0, Seen::Nothing)),
-            (1, Step::SeesRecord(1, Seen::Nothing)),
-            (0, Step::SeesRecord(0, Seen::Row(10, 20))),
-        ],
-    )
+    run(&rt, rt.alloc(), &UNSEEN_KEY)
 }
+
+const NULLS: [(u32, Step); 13] = [
+    (0, Step::Begins(0)),
+    (0, Step::Writes(7, Deed::PutNullAnd(20), 1)),
+    // Mask 3, a put, slot 0, and the first column null; its value word is 0.
+    (0, Step::Word(1, 1, 16_777_475)),
+    (0, Step::Word(1, 3, 0)),
+    (0, Step::Sees(7, Seen::NullAnd(20))),
+    (0, Step::SeesCell(7, 0, Some(0))),
+    (0, Step::Writes(7, Deed::SetFirst(11), 2)),
+    (0, Step::Sees(7, Seen::Row(11, 20))),
+    (0, Step::Writes(7, Deed::SetFirstToNull, 3)),
+    // Mask 1, a set, slot 0, and the first column null.
+    (0, Step::Word(3, 1, 16_777_729)),
+    (0, Step::Sees(7, Seen::NullAnd(20))),
+    (0, Step::SeesCell(7, 0, Some(0))),
+    (0, Step::SeesCell(7, 1, Some(20))),
+];
 
 #[test]
 fn a_null_is_read_and_set(rt: HostRuntime) -> Result<(), Fail> {
-    run(
-        &rt,
-        rt.alloc(),
-        &[
-            (0, Step::Begins(0)),
-            (0, Step::Writes(7, Deed::PutNullAnd(20), 1)),
-            // Mask 3, a put, slot 0, and the first column null; its value word is 0.
-            (0, Step::Word(1, 1, 16_777_475)),
-            (0, Step::Word(1, 3, 0)),
-            (0, Step::Sees(7, Seen::NullAnd(20))),
-            (0, Step::SeesCell(7, 0, Some(0))),
-            (0, Step::Writes(7, Deed::SetFirst(11), 2)),
-            (0, Step::Sees(7, Seen::Row(11, 20))),
-            (0, Step::Writes(7, Deed::SetFirstToNull, 3)),
-            // Mask 1, a set, slot 0, and the first column null.
-            (0, Step::Word(3, 1, 16_777_729)),
-            (0, Step::Sees(7, Seen::NullAnd(20))),
-            (0, Step::SeesCell(7, 0, Some(0))),
-            (0, Step::SeesCell(7, 1, Some(20))),
-        ],
-    )
+    run(&rt, rt.alloc(), &NULLS)
 }

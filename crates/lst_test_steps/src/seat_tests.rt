@@ -5,7 +5,7 @@ ghost use Rattle.lst_rule.specs.Stores.{IsSeatOf};
 ghost use Rattle.lst_test_steps.specs.Parted.{HasOwn};
 ghost use Rattle.lst_model.specs.Lines.{IsPatch};
 
-use crate::put_set_and_delete;
+use crate::writes::put_set_and_delete;
 use arrayvec::ArrayVec;
 use lst_layout::Limits;
 use lst_model::{Key, Patch, Row, Time};

@@ -1,10 +1,7 @@
-//! How far a session is with its write, what it does, and what it is answered.
-use lst_model::{Key, Time};
-use lst_txn::{BeginFault, TurnFault};
-use lst_write::JudgeFault;
+//! How far sessions are with their writes.
 
 /// How far a session is with its write.
-#[derive(Clone, Copy, PartialEq, Eq, Debug)]
+#[derive(Clone, Copy)]
 pub enum Stage {
     /// Without a latch; whether a transaction is open isn't told.
     Out,
@@ -18,47 +15,9 @@ pub enum Stage {
     Whole { rec: u32, tail: u32 },
 }
 
-/// What a session does.
-#[derive(Clone, Copy, PartialEq, Eq, Debug)]
-pub enum Operation {
-    Begin,
-    /// It places a key, and tries once to latch the key's record.
-    Latch { key: Key },
-    Judge,
-    /// It appends a put of 10 20, where its transaction began at 0 and has written nothing: then it sees no row of any key.
-    Append,
-    Install,
-    Release,
-    /// It takes the turn, and commits.
-    Commit,
-    Close,
-}
-
-/// What a session is answered.
-#[derive(Clone, Copy, PartialEq, Eq, Debug)]
-pub enum Answer {
-    /// The operation is none for its stage.
-    Skipped,
-    /// Its transaction has begun at this time.
-    Began { time: Time },
-    NotBegun { fault: BeginFault },
-    /// Each record is another key's.
-    TableFull,
-    /// The newest version has this number in its range.
-    Head { head: u32 },
-    /// Another session has the latch.
-    Latched,
-    /// The transaction may write.
-    Judged,
-    NotJudged { fault: JudgeFault },
-    /// The tail with this number in its range is whole.
-    Tail { tail: u32 },
-    TailFull,
-    Installed,
-    Released,
-    Committed { time: Time },
-    NotCommitted { fault: TurnFault },
-    Closed,
-    /// No transaction was open.
-    Idle,
+/// How far the sessions 0 and 1 are.
+#[derive(Clone, Copy)]
+pub struct Pair {
+    pub first: Stage,
+    pub second: Stage,
 }

@@ -6,13 +6,14 @@ ghost use Rattle.lst_model.specs.Lines.{IsPatch};
 ghost use Rattle.lst_test_steps.specs.Driving.{HostsAll, ArePair, IsOpened};
 
 use crate::machine::Machine;
-use crate::{
-    Answer, Operation, Pair, Stage, commit_beside, load_word, open_as_of, open_pair, operate,
-    put_set_and_delete,
-};
+use crate::operations::{Answer, Operation};
+use crate::pairs::{load_word, open_pair, operate};
+use crate::stages::{Pair, Stage};
+use crate::turns::{commit_beside, open_as_of};
+use crate::writes::put_set_and_delete;
 use arrayvec::ArrayVec;
 use lst_layout::Limits;
-use lst_model::{Patch, Row};
+use lst_model::{Patch, Row, Time};
 use lst_rule::{Seat, Store};
 use lst_txn::{BeginFault, TurnFault};
 use lst_write::JudgeFault;
@@ -20,8 +21,13 @@ use std::alloc::Global;
 use std::process::Abort;
 use std::test::Fail;
 
-/// The default limits, but for the tails of a range.
-fn open_table(alloc: Global, ranges: u32, tails: u32) -> Result<(Store, Seat, Pair), Fail>
+/// The default limits, but for the ranges, the tails of a range, and the transactions of a session.
+fn open_table(
+    alloc: Global,
+    ranges: u32,
+    tails: u32,
+    txns: u32,
+) -> Result<(Store, Seat, Pair), Fail>
     ensures { IfOk result (λ opened. IsOpened opened.0 opened.1 opened.2) }
 {
     let limits = Limits {
@@ -29,7 +35,7 @@ fn open_table(alloc: Global, ranges: u32, tails: u32) -> Result<(Store, Seat, Pa
         ranges,
         tails,
         sessions: 4,
-        txns: 4,
+        txns,
         spare: 1,
         indexed: 0,
     };
@@ -39,12 +45,41 @@ fn open_table(alloc: Global, ranges: u32, tails: u32) -> Result<(Store, Seat, Pa
     Ok(open_pair(alloc, &layout)?)
 }
 
-/// An operation of a session with its answer, or a word of the store.
+/// The word of a record's newest version, or None where the store has no such record.
+fn head_word(store: &Store, seat: &mut Seat, pair: &Pair, rec: u32) -> Option<u64>
+    requires table { IsOpened store.now seat.old pair.now }
+    ensures table { IsOpened store.now seat.new pair.now }
+{
+    if rec as u64 >= store.layout().limits.record_count() {
+        return None;
+    }
+    load_word(store, seat, pair, store.layout().indirection(rec))
+}
+
+/// The word at a place of the first tail, or None where there is no such place.
+fn cell_word(store: &Store, seat: &mut Seat, pair: &Pair, place: u32) -> Option<u64>
+    requires table { IsOpened store.now seat.old pair.now }
+    ensures table { IsOpened store.now seat.new pair.now }
+{
+    if store.layout().limits.tail_count() == 0 || place >= 5 {
+        return None;
+    }
+    load_word(store, seat, pair, store.layout().cell_address(1, place))
+}
+
+/// A step of sessions with its answer, or a word of the store.
 #[derive(Clone, Copy)]
-enum Step {
+pub(crate) enum Step {
+    /// An operation of the session 0 or 1.
     Operation(u32, Operation, Answer),
-    /// The word at an address.
-    Word(u64, u64),
+    /// Session 0 takes the turn, session 1 is refused it, and session 0 commits at this time.
+    CommitsBeside(TurnFault, Time),
+    /// A third session opens a transaction as of a time.
+    OpensAsOf(Time, Result<Time, BeginFault>),
+    /// The word of a record's newest version.
+    Head(u32, u64),
+    /// The word at a place of the first tail.
+    Cell(u32, u64),
 }
 
 /// Whether the step comes to what it says.
@@ -56,7 +91,12 @@ fn takes(store: &Store, seat: &mut Seat, pair: &mut Pair, step: Step) -> bool
         Step::Operation(s, operation, answer) => {
             s < 2 && operate(store, seat, pair, s, operation) == answer
         }
-        Step::Word(address, word) => load_word(store, seat, pair, address) == Some(word),
+        Step::CommitsBeside(fault, time) => {
+            commit_beside(store, seat, pair) == Some((Some(fault), time))
+        }
+        Step::OpensAsOf(time, answer) => open_as_of(store, seat, pair, time) == answer,
+        Step::Head(rec, word) => head_word(store, seat, pair, rec) == Some(word),
+        Step::Cell(place, word) => cell_word(store, seat, pair, place) == Some(word),
     }
 }
 
@@ -70,96 +110,111 @@ fn play(rt: &impl Abort, store: &Store, seat: &mut Seat, pair: &mut Pair, script
     }
 }
 
+/// The same on a store that opens.
+pub(crate) fn run(
+    rt: &impl Abort,
+    alloc: Global,
+    ranges: u32,
+    tails: u32,
+    txns: u32,
+    script: &[Step],
+) -> Result<(), Fail> {
+    let (store, mut seat, mut pair) = open_table(alloc, ranges, tails, txns)?;
+    play(rt, &store, &mut seat, &mut pair, script);
+    Ok(())
+}
+
+const BEGUN: Answer = Answer::Began { time: 0 };
+
+const LATCH: Operation = Operation::Latch { key: 7 };
+
+const LATCH_OTHER: Operation = Operation::Latch { key: 8 };
+
+const WRITTEN: [Step; 12] = [
+    Step::Operation(0, Operation::Begin, BEGUN),
+    Step::Operation(0, LATCH, Answer::Head { head: 0 }),
+    Step::Operation(1, Operation::Begin, BEGUN),
+    Step::Operation(1, LATCH, Answer::Latched),
+    Step::Head(0, 1),
+    Step::Operation(0, Operation::Judge, Answer::Judged),
+    Step::Operation(0, Operation::Append, Answer::Tail { tail: 1 }),
+    // Its start word, and its encoding word.
+    Step::Cell(0, 33),
+    Step::Cell(1, 259),
+    Step::Head(0, 1),
+    Step::Operation(0, Operation::Install, Answer::Installed),
+    Step::Head(0, 2),
+];
+
 #[test]
 fn a_write_leaves_its_words(rt: HostRuntime) -> Result<(), Fail> {
-    let (store, mut seat, mut pair) = open_table(rt.alloc(), 4, 4096)?;
-    let head = store.layout().indirection(0);
-    let start = store.layout().tail_cells(0, 1, 0);
-    let encoding = store.layout().tail_cells(0, 1, 1);
-    let latch = Operation::Latch { key: 7 };
-    let script = [
-        Step::Operation(0, Operation::Begin, Answer::Began { time: 0 }),
-        Step::Operation(0, latch, Answer::Head { head: 0 }),
-        Step::Operation(1, Operation::Begin, Answer::Began { time: 0 }),
-        Step::Operation(1, latch, Answer::Latched),
-        Step::Word(head, 1),
-        Step::Operation(0, Operation::Judge, Answer::Judged),
-        Step::Operation(0, Operation::Append, Answer::Tail { tail: 1 }),
-        Step::Word(start, 33),
-        Step::Word(encoding, 259),
-        Step::Word(head, 1),
-        Step::Operation(0, Operation::Install, Answer::Installed),
-        Step::Word(head, 2),
-    ];
-    play(&rt, &store, &mut seat, &mut pair, &script);
-    Ok(())
+    run(&rt, rt.alloc(), 4, 4096, 4, &WRITTEN)
 }
 
-#[test]
-fn an_unfinished_version_stops_a_writer(rt: HostRuntime) -> Result<(), Fail> {
-    let (store, mut seat, mut pair) = open_table(rt.alloc(), 4, 1)?;
-    let (head, second) = (store.layout().indirection(0), store.layout().indirection(1));
-    let fault = JudgeFault::Unfinished {
+const UNFINISHED: Answer = Answer::NotJudged {
+    fault: JudgeFault::Unfinished {
         session: 0,
         number: 1,
-    };
-    let (latch, other) = (Operation::Latch { key: 7 }, Operation::Latch { key: 8 });
-    let script = [
-        Step::Operation(0, Operation::Begin, Answer::Began { time: 0 }),
-        Step::Operation(1, Operation::Begin, Answer::Began { time: 0 }),
-        Step::Operation(0, latch, Answer::Head { head: 0 }),
-        Step::Operation(0, Operation::Judge, Answer::Judged),
-        Step::Operation(0, Operation::Append, Answer::Tail { tail: 1 }),
-        Step::Operation(0, Operation::Install, Answer::Installed),
-        Step::Operation(1, latch, Answer::Head { head: 1 }),
-        Step::Operation(1, Operation::Judge, Answer::NotJudged { fault }),
-        Step::Operation(1, Operation::Release, Answer::Released),
-        Step::Word(head, 2),
-        // The one tail of the range is drawn.
-        Step::Operation(1, other, Answer::Head { head: 0 }),
-        Step::Operation(1, Operation::Judge, Answer::Judged),
-        Step::Operation(1, Operation::Append, Answer::TailFull),
-        Step::Word(second, 1),
-        Step::Operation(1, Operation::Release, Answer::Released),
-        Step::Word(second, 0),
-    ];
-    play(&rt, &store, &mut seat, &mut pair, &script);
-    Ok(())
-}
+    },
+};
 
-/// Both sessions begin and write, each on a key of its own.
-const BOTH_WRITE: [Step; 10] = [
-    Step::Operation(0, Operation::Begin, Answer::Began { time: 0 }),
-    Step::Operation(1, Operation::Begin, Answer::Began { time: 0 }),
-    Step::Operation(0, Operation::Latch { key: 7 }, Answer::Head { head: 0 }),
+const STOPPED: [Step; 16] = [
+    Step::Operation(0, Operation::Begin, BEGUN),
+    Step::Operation(1, Operation::Begin, BEGUN),
+    Step::Operation(0, LATCH, Answer::Head { head: 0 }),
     Step::Operation(0, Operation::Judge, Answer::Judged),
     Step::Operation(0, Operation::Append, Answer::Tail { tail: 1 }),
     Step::Operation(0, Operation::Install, Answer::Installed),
-    Step::Operation(1, Operation::Latch { key: 8 }, Answer::Head { head: 0 }),
+    Step::Operation(1, LATCH, Answer::Head { head: 1 }),
+    Step::Operation(1, Operation::Judge, UNFINISHED),
+    Step::Operation(1, Operation::Release, Answer::Released),
+    Step::Head(0, 2),
+    // The one tail of the range is drawn.
+    Step::Operation(1, LATCH_OTHER, Answer::Head { head: 0 }),
+    Step::Operation(1, Operation::Judge, Answer::Judged),
+    Step::Operation(1, Operation::Append, Answer::TailFull),
+    Step::Head(1, 1),
+    Step::Operation(1, Operation::Release, Answer::Released),
+    Step::Head(1, 0),
+];
+
+#[test]
+fn an_unfinished_version_stops_a_writer(rt: HostRuntime) -> Result<(), Fail> {
+    run(&rt, rt.alloc(), 4, 1, 4, &STOPPED)
+}
+
+const IDLE: Answer = Answer::NotCommitted {
+    fault: TurnFault::Idle,
+};
+
+const ACTIVE: Answer = Answer::NotBegun {
+    fault: BeginFault::Active,
+};
+
+/// Both sessions write, each on a key of its own, and both would commit.
+const ONE_AT_A_TIME: [Step; 17] = [
+    Step::Operation(0, Operation::Begin, BEGUN),
+    Step::Operation(1, Operation::Begin, BEGUN),
+    Step::Operation(0, LATCH, Answer::Head { head: 0 }),
+    Step::Operation(0, Operation::Judge, Answer::Judged),
+    Step::Operation(0, Operation::Append, Answer::Tail { tail: 1 }),
+    Step::Operation(0, Operation::Install, Answer::Installed),
+    Step::Operation(1, LATCH_OTHER, Answer::Head { head: 0 }),
     Step::Operation(1, Operation::Judge, Answer::Judged),
     Step::Operation(1, Operation::Append, Answer::Tail { tail: 2 }),
     Step::Operation(1, Operation::Install, Answer::Installed),
+    Step::CommitsBeside(TurnFault::Busy, 1),
+    Step::Operation(1, Operation::Close, Answer::Closed),
+    Step::Operation(1, Operation::Close, Answer::Idle),
+    Step::Operation(1, Operation::Commit, IDLE),
+    Step::Operation(1, Operation::Begin, Answer::Began { time: 1 }),
+    Step::Operation(1, Operation::Begin, ACTIVE),
+    Step::OpensAsOf(2, Err(BeginFault::Future { clock: 1 })),
 ];
 
 #[test]
 fn one_session_at_a_time_commits(rt: HostRuntime) -> Result<(), Fail> {
-    let (store, mut seat, mut pair) = open_table(rt.alloc(), 4, 4096)?;
-    play(&rt, &store, &mut seat, &mut pair, &BOTH_WRITE);
-    let committed = commit_beside(&store, &mut seat, &mut pair);
-    assert_eq!(rt; committed, Some((Some(TurnFault::Busy), 1)));
-    let fault = TurnFault::Idle;
-    let active = BeginFault::Active;
-    let script = [
-        Step::Operation(1, Operation::Close, Answer::Closed),
-        Step::Operation(1, Operation::Close, Answer::Idle),
-        Step::Operation(1, Operation::Commit, Answer::NotCommitted { fault }),
-        Step::Operation(1, Operation::Begin, Answer::Began { time: 1 }),
-        Step::Operation(1, Operation::Begin, Answer::NotBegun { fault: active }),
-    ];
-    play(&rt, &store, &mut seat, &mut pair, &script);
-    let future = BeginFault::Future { clock: 1 };
-    assert_eq!(rt; open_as_of(&store, &mut seat, &pair, 2), Err(future));
-    Ok(())
+    run(&rt, rt.alloc(), 4, 4096, 4, &ONE_AT_A_TIME)
 }
 
 /// Sets the second column alone.
@@ -174,11 +229,10 @@ fn second_alone(cell: u64) -> Patch
 
 #[test]
 fn one_transaction_puts_sets_and_deletes_a_row(rt: HostRuntime) -> Result<(), Fail> {
-    let (store, mut seat, pair) = open_table(rt.alloc(), 1, 3)?;
+    let (store, mut seat, pair) = open_table(rt.alloc(), 1, 3, 4)?;
     let mut cells = ArrayVec::new();
     cells.push(10);
     cells.push(20);
-    let head = store.layout().indirection(0);
     let Stage::Out = pair.first else {
         return Err(Fail::from("the session has not begun"));
     };
@@ -191,7 +245,6 @@ fn one_transaction_puts_sets_and_deletes_a_row(rt: HostRuntime) -> Result<(), Fa
         second_alone(21),
     );
     assert_eq!(rt; time, Some(1));
-    let _ = head;
     Ok(())
 }
 
@@ -251,7 +304,7 @@ fn agree(
 
 /// Whether all answers agree in an order of 12 turns, of which bit i says whose the turn i is. The plan has two bits a session.
 fn order_agrees(alloc: Global, order: u32, plan: u32) -> Result<bool, Fail> {
-    let (store, mut seat, mut pair) = open_table(alloc, 1, 2)?;
+    let (store, mut seat, mut pair) = open_table(alloc, 1, 2, 4)?;
     let mut machine = Machine::new();
     let mut turns = [0u32, 0];
     let mut bits = order;

@@ -4,8 +4,7 @@ ghost use Rattle.lst_rule.specs.Rule.{knows};
 ghost use Rattle.lst_rule.specs.Stores.{IsSeatOf};
 ghost use Rattle.lst_test_steps.specs.Driving.{HostsAll, IsAtStage, ArePair, Rests};
 
-use crate::pairs::Pair;
-use crate::stages::Stage;
+use crate::stages::{Pair, Stage};
 use lst_model::Time;
 use lst_rule::{Seat, Store};
 use lst_txn::{BeginFault, TurnFault, as_of, take_turn};
@@ -29,7 +28,7 @@ fn try_turn(store: &Store, seat: &mut Seat, s: u32) -> Option<TurnFault>
 
 /// Session 0 takes the turn, session 1 tries for it, and then session 0 commits. Why session 1 was refused, and the commit's time; None where
 /// one of the two has nothing to commit, or session 0 doesn't get the turn.
-pub fn commit_beside(
+pub(crate) fn commit_beside(
     store: &Store,
     seat: &mut Seat,
     pair: &mut Pair,
@@ -55,7 +54,7 @@ pub fn commit_beside(
 }
 
 /// A third session opens a transaction as of a time.
-pub fn open_as_of(
+pub(crate) fn open_as_of(
     store: &Store,
     seat: &mut Seat,
     pair: &Pair,

@@ -47,7 +47,7 @@ fn write(store: &Store, seat: &mut Seat, s: u32, rec: RecordId, act: &Act) -> Op
 
 /// Session s puts a row under a key that it doesn't see, sets some of its columns, deletes it, and commits all three as one transaction.
 /// The commit's time, or None where a call is refused.
-pub fn put_set_and_delete(
+pub(crate) fn put_set_and_delete(
     store: &Store,
     seat: &mut Seat,
     s: u32,

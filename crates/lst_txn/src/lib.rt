@@ -9,6 +9,3 @@ mod ends;
 
 pub use begins::{BeginFault, as_of, begin};
 pub use ends::{Idle, Turn, TurnFault, close, take_turn};
-
-#[cfg(test)]
-mod tests;

@@ -1,4 +1,4 @@
-use Rattle.std.proofs.Common.{◌<◌, ℕ, subst, sym, ap, ◌∙◌, arith}
+use Rattle.std.proofs.Common.{arith}
 use Rattle.lst_test_steps.proofs.Idling.{pair_on}
 use Rattle.lst_test_steps.proofs.post_tests.posting.Goals as goal
 

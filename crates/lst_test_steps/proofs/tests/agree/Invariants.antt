@@ -1,4 +1,4 @@
-use Rattle.std.proofs.Common.{◌-◌, ◌≤◌, length}
+use Rattle.std.proofs.Common.{◌-◌, length}
 use Rattle.lst_test_steps.specs.Driving.{IsOpened}
 use Rattle.lst_test_steps.proofs.tests.agree.Given as goal
 

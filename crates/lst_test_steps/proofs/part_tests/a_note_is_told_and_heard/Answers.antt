@@ -2,7 +2,7 @@ use Rattle.std.proofs.Common.{sym, subst}
 use Rattle.std.specs.List.{All}
 use Rattle.lst_rule.specs.Stores.{IsSeatOf}
 use Rattle.lst_seat.proofs.Gathering.{next_of, rest_of}
-use Rattle.lst_seat.proofs.tests.a_note_is_told_and_heard.Goals as goal
+use Rattle.lst_test_steps.proofs.part_tests.a_note_is_told_and_heard.Goals as goal
 
 pub tell-note-requires-clause-seat : goal.tell-note-requires-clause-seat
 tell-note-requires-clause-seat g c = let all = subst (All (IsSeatOf c.in_ok-store.store)) (sym c.into_vec-items.ensures) c.in_ok-store.ensures.seats in

@@ -2,7 +2,7 @@ use Rattle.std.proofs.Common.{◌∙◌, sym, subst}
 use Rattle.std.specs.List.{All}
 use Rattle.lst_rule.specs.Stores.{IsSeatOf}
 use Rattle.lst_seat.proofs.Gathering.{all_with, next_of, rest_of}
-use Rattle.lst_seat.proofs.tests.the_least_session_that_is_missing_is_named.Goals as goal
+use Rattle.lst_test_steps.proofs.part_tests.the_least_session_that_is_missing_is_named.Goals as goal
 
 pub gather-requires-clause-seats : goal.gather-requires-clause-seats
 gather-requires-clause-seats g c = let store = c.in_ok-store.store in let all = subst (All (IsSeatOf store)) (sym c.into_vec-items.ensures) c.in_ok-store.ensures.seats in

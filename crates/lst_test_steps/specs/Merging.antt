@@ -1,4 +1,4 @@
--- Two pages of a seat that hosts the merger, as the tests drive them.
+-- Two pages of a seat that hosts the merger.
 use Rattle.std.specs.Prelude.{◌≡◌, true}
 use Rattle.lst_rule.specs.declared.store.Store.{Store}
 use Rattle.lst_rule.specs.Rule.{hosts}
@@ -6,7 +6,7 @@ use Rattle.lst_rule.specs.Seats.{Sitting}
 use Rattle.lst_rule.specs.Stores.{IsSeatOf}
 
 -- the store has two ranges of one column, and its seat hosts the merger
-pub record IsPair (store : Store) (seat : Sitting) : Type 0 where
+pub record HasTwoPages (store : Store) (seat : Sitting) : Type 0 where
   pub seat_of : IsSeatOf store seat
   pub ranges : seat.view.limits.ranges ≡ 2
   pub columns : seat.view.limits.columns ≡ 1

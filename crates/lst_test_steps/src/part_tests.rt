@@ -4,10 +4,11 @@ ghost use Rattle.lst_rule.specs.Rule.{hosts};
 ghost use Rattle.lst_rule.specs.Stores.{IsSeatOf};
 ghost use Rattle.lst_rule.specs.Surveys.{HostsAll};
 
-use crate::{SeatCause, SeatList, gather, hear, open_store, part, tell};
 use lst_layout::Limits;
 use lst_rule::{Seat, Store};
+use lst_seat::{SeatCause, SeatList, gather, hear, open_store, part, tell};
 use std::alloc::Global;
+use std::process::Abort;
 use std::test::Fail;
 
 const SMALL: Limits = Limits {
@@ -60,17 +61,37 @@ fn open_parted(alloc: Global) -> Result<(Store, SeatList, Seat), Fail>
     Ok((store, seats, merger))
 }
 
+/// Whether the seat hosts a session, or the merger, whose number is that of the sessions; false where there is no such session.
+fn is_host(seat: &Seat, s: u32) -> bool
+    ensures { result ≡ true → hosts seat.now.view s ≡ true }
+{
+    s <= seat.limits().sessions && seat.hosts(s)
+}
+
+/// The seat hosts these of the three sessions and the merger, in order, and no other.
+fn hosts_these(rt: &impl Abort, seat: &Seat, hosted: [bool; 4], at: &str) {
+    assert_eq!(rt; seat.limits().sessions, 3);
+    for s in 0..4 {
+        assert_eq!(rt; is_host(seat, s), hosted[s as usize], "{at}: {s}");
+    }
+}
+
 #[test]
 fn parted_seats_are_gathered_in_any_order(rt: HostRuntime) -> Result<(), Fail> {
     let (store, seats, merger) = open_parted(rt.alloc())?;
-    assert!(rt; merger.hosts(3) && !merger.hosts(2) && !merger.hosts(0));
+    hosts_these(&rt, &merger, [false, false, false, true], "the merger's");
     let mut items = seats.into_vec();
     items.swap(0, 2);
-    assert!(rt; items[0].hosts(2) && !items[0].hosts(1) && !items[0].hosts(3));
+    hosts_these(
+        &rt,
+        &items[0],
+        [false, false, true, false],
+        "the last one's",
+    );
     let Ok(seat) = gather(&store, SeatList::from_vec(items), merger) else {
         return Err(Fail::from("no session is missing"));
     };
-    assert!(rt; seat.hosts(0) && seat.hosts(1) && seat.hosts(2) && seat.hosts(3));
+    hosts_these(&rt, &seat, [true, true, true, true], "gathered");
     assert_eq!(rt; seat.seen(1), 0);
     Ok(())
 }
@@ -86,10 +107,21 @@ fn the_least_session_that_is_missing_is_named(rt: HostRuntime) -> Result<(), Fai
         return Err(Fail::from("sessions 1 and 2 are missing"));
     };
     assert!(rt; matches!(refusal.cause, SeatCause::Gap { missing: 1 }));
-    assert!(rt; refusal.merger.hosts(3));
+    hosts_these(
+        &rt,
+        &refusal.merger,
+        [false, false, false, true],
+        "the merger's",
+    );
     // All that was handed back is gathered with the two that were missing.
     let mut items = refusal.seats.into_vec();
-    assert!(rt; items.len() == 1 && items[0].hosts(0));
+    assert_eq!(rt; items.len(), 1);
+    hosts_these(
+        &rt,
+        &items[0],
+        [true, false, false, false],
+        "the first one's",
+    );
     items.push(last)?;
     items.push(second)?;
     assert!(rt; gather(&store, SeatList::from_vec(items), refusal.merger).is_ok());
@@ -103,11 +135,17 @@ fn a_note_is_told_and_heard(rt: HostRuntime) -> Result<(), Fail> {
     let (Some(mut last), Some(mut second)) = (items.pop(), items.pop()) else {
         return Err(Fail::from("there are three sessions"));
     };
-    if !last.hosts(2) || !second.hosts(1) {
+    if !is_host(&last, 2) || !is_host(&second, 1) {
         return Err(Fail::from("each seat hosts its session"));
     }
     let note = tell(&store, &mut second);
     hear(&store, &mut last, note);
-    assert!(rt; last.hosts(2) && !last.hosts(1) && second.hosts(1));
+    hosts_these(&rt, &last, [false, false, true, false], "the last one's");
+    hosts_these(
+        &rt,
+        &second,
+        [false, true, false, false],
+        "the second one's",
+    );
     Ok(())
 }
