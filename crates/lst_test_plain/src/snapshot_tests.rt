@@ -429,18 +429,18 @@ fn is_told(
             rt,
             sight.row(swept.snapshots(), key),
             table.row(key),
-            (time, key),
+            ("sight", time, key),
         );
     }
     let present = (0..6u64).filter(|key| table.row(*key).is_some()).count();
-    same(rt, sight.count(swept), present as u128, time);
-    same(rt, sight.sum(swept, 0), first_sum(table), time);
+    same(rt, sight.count(swept), present as u128, ("count", time));
+    same(rt, sight.sum(swept, 0), first_sum(table), ("sum", time));
     let zeros = holders(alloc, table, 0)?;
     same(
         rt,
         sight.tells_keys(swept, zeros.as_slice(), 0, 0),
         true,
-        time,
+        ("keys", time),
     );
     Ok(())
 }

@@ -223,8 +223,8 @@ fn wanted_of(alloc: Global, step: Step<'_>) -> Result<Reply, OutOfMemory> {
 
 /// Whether both engines replied so.
 fn is_told(rt: &impl Abort, replies: &Replies, wanted: &Reply, at: usize) {
-    for reply in [&replies.plain, &replies.machine] {
-        assert_eq!(rt; reply, wanted, "at step {at}");
+    for (engine, reply) in [("plain", &replies.plain), ("machine", &replies.machine)] {
+        assert_eq!(rt; reply, wanted, "{engine} at step {at}");
     }
 }
 
