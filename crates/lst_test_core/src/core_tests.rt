@@ -3,6 +3,7 @@
 use lst_core::{Core, Event};
 use lst_layout::{Layout, Limits};
 use lst_probe::start;
+use std::process::Abort;
 use std::test::Fail;
 
 const SMALL: Limits = Limits {
@@ -34,6 +35,18 @@ fn first_wrong(core: &mut Core, steps: &[(Event, Option<u64>)]) -> Option<usize>
         }
     }
     None
+}
+
+/// Whether each of these steps answers as is said of it.
+fn is_answered(rt: &impl Abort, core: &mut Core, steps: &[(Event, Option<u64>)], what: &str) {
+    assert_eq!(rt; first_wrong(core, steps), None, "{what}");
+}
+
+fn layout_of(limits: Limits) -> Result<Layout, Fail> {
+    match limits.check() {
+        Ok(layout) => Ok(layout),
+        Err(_) => Err(Fail::from("the small limits are in range")),
+    }
 }
 
 fn look(session: u32, address: u64) -> Event {
@@ -188,39 +201,31 @@ fn tails_of_a_record_with_one_number_have_one_posting(rt: HostRuntime) -> Result
         indexed: 1,
         ..SMALL
     };
-    let Ok(layout) = limits.check() else {
-        return Err(Fail::from("the small limits are in range"));
-    };
+    let layout = layout_of(limits)?;
     let mut core = Core::new(rt.alloc(), &layout)?;
-    assert_eq!(rt; first_wrong(&mut core, &placing(&layout)), None);
-    assert_eq!(rt; first_wrong(&mut core, &drafting(&layout)), None);
-    assert_eq!(rt; first_wrong(&mut core, &posting()), None);
-    assert_eq!(rt; first_wrong(&mut core, &setting(&layout)), None);
+    is_answered(&rt, &mut core, &placing(&layout), "placing");
+    is_answered(&rt, &mut core, &drafting(&layout), "drafting");
+    is_answered(&rt, &mut core, &posting(), "posting");
+    is_answered(&rt, &mut core, &setting(&layout), "setting");
     Ok(())
 }
 
 #[test]
 fn a_session_begins_once(rt: HostRuntime) -> Result<(), Fail> {
-    let Ok(layout) = SMALL.check() else {
-        return Err(Fail::from("the small limits are in range"));
-    };
+    let layout = layout_of(SMALL)?;
     let mut core = Core::new(rt.alloc(), &layout)?;
-    assert_eq!(rt;
-        first_wrong(&mut core, &[(BEGIN, Some(0)), (BEGIN, None)]),
-        None
-    );
+    let steps = [(BEGIN, Some(0)), (BEGIN, None)];
+    is_answered(&rt, &mut core, &steps, "begins");
     Ok(())
 }
 
 #[test]
 fn a_put_is_committed_in_single_steps(rt: HostRuntime) -> Result<(), Fail> {
-    let Ok(layout) = SMALL.check() else {
-        return Err(Fail::from("the small limits are in range"));
-    };
+    let layout = layout_of(SMALL)?;
     let mut core = Core::new(rt.alloc(), &layout)?;
-    assert_eq!(rt; first_wrong(&mut core, &placing(&layout)), None);
-    assert_eq!(rt; first_wrong(&mut core, &drafting(&layout)), None);
-    assert_eq!(rt; first_wrong(&mut core, &WHOLE), None);
-    assert_eq!(rt; first_wrong(&mut core, &committing(&layout)), None);
+    is_answered(&rt, &mut core, &placing(&layout), "placing");
+    is_answered(&rt, &mut core, &drafting(&layout), "drafting");
+    is_answered(&rt, &mut core, &WHOLE, "whole");
+    is_answered(&rt, &mut core, &committing(&layout), "committing");
     Ok(())
 }

@@ -9,7 +9,18 @@ use lst_layout::{FRAME_NULLS, FRAME_TIMES, FRAME_VALUES, FRAME_WORDS, Limits, RA
 use lst_model::{OutOfMemory, Row};
 use lst_pages::{PageEvent, PageTail};
 use std::alloc::Global;
+use std::process::Abort;
 use std::test::Fail;
+
+/// What a step found is what was wanted.
+fn same(
+    rt: &impl Abort,
+    found: Result<u64, NotEnabled>,
+    wanted: Result<u64, NotEnabled>,
+    at: &str,
+) {
+    assert_eq!(rt; found, wanted, "{at}");
+}
 
 #[test]
 fn a_session_reads_a_page_only_while_it_is_pinned(rt: HostRuntime) -> Result<(), Fail> {
@@ -22,17 +33,16 @@ fn a_session_reads_a_page_only_while_it_is_pinned(rt: HostRuntime) -> Result<(),
         column: 0,
     };
     let mut core = PageCore::new(rt.alloc(), &layout)?;
-    assert_eq!(rt; core.step(PageEvent::Unpin { session: 0 }), Err(NotEnabled));
-    assert_eq!(rt;
-        core.step(PageEvent::Pin {
-            session: 0,
-            epoch: 0
-        }),
-        Ok(0)
-    );
-    assert_eq!(rt; core.step(look), Ok(0));
-    assert_eq!(rt; core.step(PageEvent::Unpin { session: 0 }), Ok(1));
-    assert_eq!(rt; core.step(look), Err(NotEnabled));
+    let pin = PageEvent::Pin {
+        session: 0,
+        epoch: 0,
+    };
+    let unpin = PageEvent::Unpin { session: 0 };
+    same(&rt, core.step(unpin), Err(NotEnabled), "unpinned");
+    same(&rt, core.step(pin), Ok(0), "pinned");
+    same(&rt, core.step(look), Ok(0), "read");
+    same(&rt, core.step(unpin), Ok(1), "unpinned again");
+    same(&rt, core.step(look), Err(NotEnabled), "not read");
     let tail = Tail {
         slot: 0,
         kind: Kind::Put,

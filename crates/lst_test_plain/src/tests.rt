@@ -208,16 +208,32 @@ fn merge(rt: &impl Abort, both: &mut Both, range: u32, column: u32) -> Result<Re
     })
 }
 
+fn ask(rt: &impl Abort, both: &mut Both, step: Step<'_>) -> Result<Replies, Fail> {
+    match step {
+        Step::Call(session, asked, _) => call(rt, both, session, call_of(asked)),
+        Step::Merge(range, column, _) => merge(rt, both, range, column),
+    }
+}
+
+fn wanted_of(alloc: Global, step: Step<'_>) -> Result<Reply, OutOfMemory> {
+    match step {
+        Step::Call(_, _, told) | Step::Merge(_, _, told) => reply_of(alloc, told),
+    }
+}
+
+/// Whether both engines replied so.
+fn is_told(rt: &impl Abort, replies: &Replies, wanted: &Reply, at: usize) {
+    for (engine, reply) in [("plain", &replies.plain), ("machine", &replies.machine)] {
+        assert_eq!(rt; reply, wanted, "{engine} at step {at}");
+    }
+}
+
 /// Asks the lines of a script, and compares the replies.
 fn play(rt: &impl Abort, alloc: Global, both: &mut Both, script: &[Step<'_>]) -> Result<(), Fail> {
     for (at, &step) in script.iter().enumerate() {
-        let (replies, told) = match step {
-            Step::Call(session, asked, told) => (call(rt, both, session, call_of(asked))?, told),
-            Step::Merge(range, column, told) => (merge(rt, both, range, column)?, told),
-        };
-        let wanted = reply_of(alloc, told)?;
-        assert_eq!(rt; replies.plain, wanted, "at step {at}");
-        assert_eq!(rt; replies.machine, wanted, "at step {at}");
+        let replies = ask(rt, both, step)?;
+        let wanted = wanted_of(alloc, step)?;
+        is_told(rt, &replies, &wanted, at);
     }
     Ok(())
 }
@@ -228,181 +244,167 @@ fn run(rt: &impl Abort, alloc: Global, limits: Limits, script: &[Step<'_>]) -> R
     play(rt, alloc, &mut both, script)
 }
 
+const INSERTED: [Step<'static>; 6] = [
+    Step::Call(0, Asked::Begin, Told::Begun(0)),
+    Step::Call(0, Asked::Insert(7, 10, 20), Told::Done),
+    Step::Call(0, Asked::Get(7), Told::Row(10, 20)),
+    Step::Call(0, Asked::Commit, Told::Committed(1)),
+    Step::Call(1, Asked::Begin, Told::Begun(1)),
+    Step::Call(1, Asked::Get(7), Told::Row(10, 20)),
+];
+
 #[test]
 fn a_row_is_inserted_and_read(rt: HostRuntime) -> Result<(), Fail> {
-    run(
-        &rt,
-        rt.alloc(),
-        Limits::default(),
-        &[
-            Step::Call(0, Asked::Begin, Told::Begun(0)),
-            Step::Call(0, Asked::Insert(7, 10, 20), Told::Done),
-            Step::Call(0, Asked::Get(7), Told::Row(10, 20)),
-            Step::Call(0, Asked::Commit, Told::Committed(1)),
-            Step::Call(1, Asked::Begin, Told::Begun(1)),
-            Step::Call(1, Asked::Get(7), Told::Row(10, 20)),
-        ],
-    )
+    run(&rt, rt.alloc(), Limits::default(), &INSERTED)
 }
+
+const NULL_AND_NUMBER: [Step<'static>; 16] = [
+    Step::Call(0, Asked::Begin, Told::Begun(0)),
+    Step::Call(0, Asked::InsertCells(7, (None, Some(0))), Told::Done),
+    Step::Call(0, Asked::Get(7), Told::Cells((None, Some(0)))),
+    Step::Call(0, Asked::Commit, Told::Committed(1)),
+    Step::Call(0, Asked::Begin, Told::Begun(1)),
+    Step::Call(
+        0,
+        Asked::UpdateCells(7, (Some(Some(0)), Some(None))),
+        Told::Done,
+    ),
+    Step::Call(0, Asked::Get(7), Told::Cells((Some(0), None))),
+    Step::Call(0, Asked::Commit, Told::Committed(2)),
+    Step::Call(0, Asked::Begin, Told::Begun(2)),
+    Step::Call(0, Asked::UpdateCells(7, (Some(None), None)), Told::Done),
+    Step::Call(0, Asked::Get(7), Told::Cells((None, None))),
+    Step::Call(1, Asked::AsOf(1), Told::Begun(1)),
+    Step::Call(1, Asked::Get(7), Told::Cells((None, Some(0)))),
+    Step::Call(0, Asked::Abort, Told::Aborted),
+    Step::Call(0, Asked::Begin, Told::Begun(2)),
+    Step::Call(0, Asked::Get(7), Told::Cells((Some(0), None))),
+];
 
 #[test]
 fn a_cell_is_null_then_a_number_then_null(rt: HostRuntime) -> Result<(), Fail> {
-    run(
-        &rt,
-        rt.alloc(),
-        Limits::default(),
-        &[
-            Step::Call(0, Asked::Begin, Told::Begun(0)),
-            Step::Call(0, Asked::InsertCells(7, (None, Some(0))), Told::Done),
-            Step::Call(0, Asked::Get(7), Told::Cells((None, Some(0)))),
-            Step::Call(0, Asked::Commit, Told::Committed(1)),
-            Step::Call(0, Asked::Begin, Told::Begun(1)),
-            Step::Call(
-                0,
-                Asked::UpdateCells(7, (Some(Some(0)), Some(None))),
-                Told::Done,
-            ),
-            Step::Call(0, Asked::Get(7), Told::Cells((Some(0), None))),
-            Step::Call(0, Asked::Commit, Told::Committed(2)),
-            Step::Call(0, Asked::Begin, Told::Begun(2)),
-            Step::Call(0, Asked::UpdateCells(7, (Some(None), None)), Told::Done),
-            Step::Call(0, Asked::Get(7), Told::Cells((None, None))),
-            Step::Call(1, Asked::AsOf(1), Told::Begun(1)),
-            Step::Call(1, Asked::Get(7), Told::Cells((None, Some(0)))),
-            Step::Call(0, Asked::Abort, Told::Aborted),
-            Step::Call(0, Asked::Begin, Told::Begun(2)),
-            Step::Call(0, Asked::Get(7), Told::Cells((Some(0), None))),
-        ],
-    )
+    run(&rt, rt.alloc(), Limits::default(), &NULL_AND_NUMBER)
 }
+
+const NEWER_COMMIT: [Step<'static>; 10] = [
+    Step::Call(0, Asked::Begin, Told::Begun(0)),
+    Step::Call(0, Asked::Insert(7, 10, 20), Told::Done),
+    Step::Call(0, Asked::Commit, Told::Committed(1)),
+    Step::Call(0, Asked::Begin, Told::Begun(1)),
+    Step::Call(1, Asked::Begin, Told::Begun(1)),
+    Step::Call(0, Asked::Update(7, Some(11), None), Told::Done),
+    Step::Call(0, Asked::Commit, Told::Committed(2)),
+    Step::Call(1, Asked::Get(7), Told::Row(10, 20)),
+    Step::Call(
+        1,
+        Asked::Update(7, None, Some(21)),
+        Told::Refused(Cause::Newer { time: 2 }),
+    ),
+    Step::Call(1, Asked::Commit, Told::Ended(1)),
+];
 
 #[test]
 fn a_newer_commit_is_a_conflict(rt: HostRuntime) -> Result<(), Fail> {
-    run(
-        &rt,
-        rt.alloc(),
-        Limits::default(),
-        &[
-            Step::Call(0, Asked::Begin, Told::Begun(0)),
-            Step::Call(0, Asked::Insert(7, 10, 20), Told::Done),
-            Step::Call(0, Asked::Commit, Told::Committed(1)),
-            Step::Call(0, Asked::Begin, Told::Begun(1)),
-            Step::Call(1, Asked::Begin, Told::Begun(1)),
-            Step::Call(0, Asked::Update(7, Some(11), None), Told::Done),
-            Step::Call(0, Asked::Commit, Told::Committed(2)),
-            Step::Call(1, Asked::Get(7), Told::Row(10, 20)),
-            Step::Call(
-                1,
-                Asked::Update(7, None, Some(21)),
-                Told::Refused(Cause::Newer { time: 2 }),
-            ),
-            Step::Call(1, Asked::Commit, Told::Ended(1)),
-        ],
-    )
+    run(&rt, rt.alloc(), Limits::default(), &NEWER_COMMIT)
 }
+
+const OPEN_WRITE: [Step<'static>; 12] = [
+    Step::Call(0, Asked::Begin, Told::Begun(0)),
+    Step::Call(0, Asked::Insert(7, 10, 20), Told::Done),
+    Step::Call(0, Asked::Commit, Told::Committed(1)),
+    Step::Call(0, Asked::Begin, Told::Begun(1)),
+    Step::Call(1, Asked::Begin, Told::Begun(1)),
+    Step::Call(0, Asked::Update(7, Some(11), None), Told::Done),
+    Step::Call(
+        1,
+        Asked::Update(7, None, Some(21)),
+        Told::Refused(Cause::Unfinished {
+            session: 0,
+            number: 2,
+        }),
+    ),
+    Step::Call(0, Asked::Abort, Told::Aborted),
+    Step::Call(1, Asked::Update(7, None, Some(21)), Told::Done),
+    Step::Call(1, Asked::Commit, Told::Committed(2)),
+    Step::Call(1, Asked::Begin, Told::Begun(2)),
+    Step::Call(1, Asked::Get(7), Told::Row(10, 21)),
+];
 
 #[test]
 fn an_open_write_is_a_conflict_until_its_abort(rt: HostRuntime) -> Result<(), Fail> {
-    run(
-        &rt,
-        rt.alloc(),
-        Limits::default(),
-        &[
-            Step::Call(0, Asked::Begin, Told::Begun(0)),
-            Step::Call(0, Asked::Insert(7, 10, 20), Told::Done),
-            Step::Call(0, Asked::Commit, Told::Committed(1)),
-            Step::Call(0, Asked::Begin, Told::Begun(1)),
-            Step::Call(1, Asked::Begin, Told::Begun(1)),
-            Step::Call(0, Asked::Update(7, Some(11), None), Told::Done),
-            Step::Call(
-                1,
-                Asked::Update(7, None, Some(21)),
-                Told::Refused(Cause::Unfinished {
-                    session: 0,
-                    number: 2,
-                }),
-            ),
-            Step::Call(0, Asked::Abort, Told::Aborted),
-            Step::Call(1, Asked::Update(7, None, Some(21)), Told::Done),
-            Step::Call(1, Asked::Commit, Told::Committed(2)),
-            Step::Call(1, Asked::Begin, Told::Begun(2)),
-            Step::Call(1, Asked::Get(7), Told::Row(10, 21)),
-        ],
-    )
+    run(&rt, rt.alloc(), Limits::default(), &OPEN_WRITE)
 }
+
+const EACH_TIME: [Step<'static>; 17] = [
+    Step::Call(0, Asked::Begin, Told::Begun(0)),
+    Step::Call(0, Asked::Insert(7, 10, 20), Told::Done),
+    Step::Call(0, Asked::Commit, Told::Committed(1)),
+    Step::Call(0, Asked::Begin, Told::Begun(1)),
+    Step::Call(0, Asked::Delete(7), Told::Done),
+    Step::Call(0, Asked::Commit, Told::Committed(2)),
+    Step::Call(0, Asked::Begin, Told::Begun(2)),
+    Step::Call(0, Asked::Insert(7, 30, 40), Told::Done),
+    Step::Call(0, Asked::Commit, Told::Committed(3)),
+    Step::Call(1, Asked::AsOf(1), Told::Begun(1)),
+    Step::Call(1, Asked::Get(7), Told::Row(10, 20)),
+    Step::Call(1, Asked::Commit, Told::Ended(1)),
+    Step::Call(1, Asked::AsOf(2), Told::Begun(2)),
+    Step::Call(1, Asked::Get(7), Told::Absent),
+    Step::Call(1, Asked::Commit, Told::Ended(2)),
+    Step::Call(1, Asked::Begin, Told::Begun(3)),
+    Step::Call(1, Asked::Get(7), Told::Row(30, 40)),
+];
 
 #[test]
 fn each_time_has_its_row(rt: HostRuntime) -> Result<(), Fail> {
-    run(
-        &rt,
-        rt.alloc(),
-        Limits::default(),
-        &[
-            Step::Call(0, Asked::Begin, Told::Begun(0)),
-            Step::Call(0, Asked::Insert(7, 10, 20), Told::Done),
-            Step::Call(0, Asked::Commit, Told::Committed(1)),
-            Step::Call(0, Asked::Begin, Told::Begun(1)),
-            Step::Call(0, Asked::Delete(7), Told::Done),
-            Step::Call(0, Asked::Commit, Told::Committed(2)),
-            Step::Call(0, Asked::Begin, Told::Begun(2)),
-            Step::Call(0, Asked::Insert(7, 30, 40), Told::Done),
-            Step::Call(0, Asked::Commit, Told::Committed(3)),
-            Step::Call(1, Asked::AsOf(1), Told::Begun(1)),
-            Step::Call(1, Asked::Get(7), Told::Row(10, 20)),
-            Step::Call(1, Asked::Commit, Told::Ended(1)),
-            Step::Call(1, Asked::AsOf(2), Told::Begun(2)),
-            Step::Call(1, Asked::Get(7), Told::Absent),
-            Step::Call(1, Asked::Commit, Told::Ended(2)),
-            Step::Call(1, Asked::Begin, Told::Begun(3)),
-            Step::Call(1, Asked::Get(7), Told::Row(30, 40)),
-        ],
-    )
+    run(&rt, rt.alloc(), Limits::default(), &EACH_TIME)
 }
+
+const UNFIT_WRITES: [Step<'static>; 6] = [
+    Step::Call(0, Asked::Begin, Told::Begun(0)),
+    Step::Call(0, Asked::Insert(7, 1, 1), Told::Done),
+    Step::Call(0, Asked::Insert(7, 1, 1), Told::Refused(Cause::Exists)),
+    Step::Call(
+        0,
+        Asked::Update(9, Some(1), None),
+        Told::Refused(Cause::Missing),
+    ),
+    Step::Call(0, Asked::Delete(7), Told::Done),
+    Step::Call(
+        0,
+        Asked::Update(7, Some(1), None),
+        Told::Refused(Cause::Missing),
+    ),
+];
 
 #[test]
 fn a_write_that_does_not_fit_is_refused(rt: HostRuntime) -> Result<(), Fail> {
-    run(
-        &rt,
-        rt.alloc(),
-        Limits::default(),
-        &[
-            Step::Call(0, Asked::Begin, Told::Begun(0)),
-            Step::Call(0, Asked::Insert(7, 1, 1), Told::Done),
-            Step::Call(0, Asked::Insert(7, 1, 1), Told::Refused(Cause::Exists)),
-            Step::Call(
-                0,
-                Asked::Update(9, Some(1), None),
-                Told::Refused(Cause::Missing),
-            ),
-            Step::Call(0, Asked::Delete(7), Told::Done),
-            Step::Call(
-                0,
-                Asked::Update(7, Some(1), None),
-                Told::Refused(Cause::Missing),
-            ),
-        ],
-    )
+    run(&rt, rt.alloc(), Limits::default(), &UNFIT_WRITES)
 }
+
+const IN_TURN: [Step<'static>; 9] = [
+    Step::Call(0, Asked::Get(7), Told::Refused(Cause::Idle)),
+    Step::Call(0, Asked::Commit, Told::Refused(Cause::Idle)),
+    Step::Call(0, Asked::Begin, Told::Begun(0)),
+    Step::Call(0, Asked::Begin, Told::Refused(Cause::Active)),
+    Step::Call(0, Asked::Abort, Told::Aborted),
+    Step::Call(0, Asked::AsOf(0), Told::Begun(0)),
+    Step::Call(0, Asked::Insert(1, 1, 1), Told::Refused(Cause::ReadOnly)),
+    Step::Call(0, Asked::Commit, Told::Ended(0)),
+    Step::Call(0, Asked::AsOf(1), Told::Refused(Cause::Future { clock: 0 })),
+];
 
 #[test]
 fn transactions_open_and_end_in_turn(rt: HostRuntime) -> Result<(), Fail> {
-    run(
-        &rt,
-        rt.alloc(),
-        Limits::default(),
-        &[
-            Step::Call(0, Asked::Get(7), Told::Refused(Cause::Idle)),
-            Step::Call(0, Asked::Commit, Told::Refused(Cause::Idle)),
-            Step::Call(0, Asked::Begin, Told::Begun(0)),
-            Step::Call(0, Asked::Begin, Told::Refused(Cause::Active)),
-            Step::Call(0, Asked::Abort, Told::Aborted),
-            Step::Call(0, Asked::AsOf(0), Told::Begun(0)),
-            Step::Call(0, Asked::Insert(1, 1, 1), Told::Refused(Cause::ReadOnly)),
-            Step::Call(0, Asked::Commit, Told::Ended(0)),
-            Step::Call(0, Asked::AsOf(1), Told::Refused(Cause::Future { clock: 0 })),
-        ],
-    )
+    run(&rt, rt.alloc(), Limits::default(), &IN_TURN)
 }
+
+const SPENT: [Step<'static>; 4] = [
+    Step::Call(0, Asked::Begin, Told::Begun(0)),
+    Step::Call(0, Asked::Insert(7, 10, 20), Told::Done),
+    Step::Call(0, Asked::Commit, Told::Committed(1)),
+    Step::Call(0, Asked::Begin, Told::Refused(Cause::Spent)),
+];
 
 #[test]
 fn transactions_of_a_session_are_spent(rt: HostRuntime) -> Result<(), Fail> {
@@ -410,18 +412,15 @@ fn transactions_of_a_session_are_spent(rt: HostRuntime) -> Result<(), Fail> {
         txns: 1,
         ..Limits::default()
     };
-    run(
-        &rt,
-        rt.alloc(),
-        limits,
-        &[
-            Step::Call(0, Asked::Begin, Told::Begun(0)),
-            Step::Call(0, Asked::Insert(7, 10, 20), Told::Done),
-            Step::Call(0, Asked::Commit, Told::Committed(1)),
-            Step::Call(0, Asked::Begin, Told::Refused(Cause::Spent)),
-        ],
-    )
+    run(&rt, rt.alloc(), limits, &SPENT)
 }
+
+const RANGE_FULL: [Step<'static>; 4] = [
+    Step::Call(0, Asked::Begin, Told::Begun(0)),
+    Step::Call(0, Asked::Insert(1, 1, 1), Told::Done),
+    Step::Call(0, Asked::Insert(2, 2, 2), Told::Refused(Cause::TailFull)),
+    Step::Call(0, Asked::Commit, Told::Committed(1)),
+];
 
 #[test]
 fn a_range_is_full_of_writes(rt: HostRuntime) -> Result<(), Fail> {
@@ -429,17 +428,24 @@ fn a_range_is_full_of_writes(rt: HostRuntime) -> Result<(), Fail> {
         tails: 1,
         ..Limits::default()
     };
-    run(
-        &rt,
-        rt.alloc(),
-        limits,
-        &[
-            Step::Call(0, Asked::Begin, Told::Begun(0)),
-            Step::Call(0, Asked::Insert(1, 1, 1), Told::Done),
-            Step::Call(0, Asked::Insert(2, 2, 2), Told::Refused(Cause::TailFull)),
-            Step::Call(0, Asked::Commit, Told::Committed(1)),
-        ],
-    )
+    run(&rt, rt.alloc(), limits, &RANGE_FULL)
+}
+
+const BEGIN: Step<'static> = Step::Call(0, Asked::Begin, Told::Begun(0));
+
+const BEYOND: Step<'static> = Step::Call(
+    0,
+    Asked::Insert(257, 1, 1),
+    Told::Refused(Cause::TableFull),
+);
+
+/// Inserts the keys from 1 to below this one.
+fn insert_up_to(rt: &impl Abort, alloc: Global, both: &mut Both, end: Key) -> Result<(), Fail> {
+    for key in 1..end {
+        let insert = Step::Call(0, Asked::Insert(key, 1, 1), Told::Done);
+        play(rt, alloc, both, &[insert])?;
+    }
+    Ok(())
 }
 
 #[test]
@@ -450,15 +456,9 @@ fn a_table_of_one_range_has_256_keys(rt: HostRuntime) -> Result<(), Fail> {
     };
     let alloc = rt.alloc();
     let mut both = opened(alloc, limits)?;
-    let begin = Step::Call(0, Asked::Begin, Told::Begun(0));
-    play(&rt, alloc, &mut both, &[begin])?;
-    for key in 1..257 {
-        let insert = Step::Call(0, Asked::Insert(key, 1, 1), Told::Done);
-        play(&rt, alloc, &mut both, &[insert])?;
-    }
-    let full = Told::Refused(Cause::TableFull);
-    let beyond = Step::Call(0, Asked::Insert(257, 1, 1), full);
-    play(&rt, alloc, &mut both, &[beyond])
+    play(&rt, alloc, &mut both, &[BEGIN])?;
+    insert_up_to(&rt, alloc, &mut both, 257)?;
+    play(&rt, alloc, &mut both, &[BEYOND])
 }
 
 /// The row of the key 7 in a table that these acts on it were applied to.
@@ -470,30 +470,46 @@ fn applied(alloc: Global, acts: [Act; 2]) -> Result<Option<Row>, OutOfMemory> {
     Ok(table.row(7))
 }
 
+const UPDATED: [Step<'static>; 8] = [
+    Step::Call(0, Asked::Begin, Told::Begun(0)),
+    Step::Call(0, Asked::Insert(7, 10, 20), Told::Done),
+    Step::Call(0, Asked::Commit, Told::Committed(1)),
+    Step::Call(0, Asked::Begin, Told::Begun(1)),
+    Step::Call(0, Asked::Update(7, Some(11), None), Told::Done),
+    Step::Call(0, Asked::Commit, Told::Committed(2)),
+    Step::Call(1, Asked::Begin, Told::Begun(2)),
+    Step::Call(1, Asked::Get(7), Told::Row(11, 20)),
+];
+
 #[test]
 fn the_rows_are_those_of_a_table_that_the_writes_were_applied_to(
     rt: HostRuntime,
 ) -> Result<(), Fail> {
-    run(
-        &rt,
-        rt.alloc(),
-        Limits::default(),
-        &[
-            Step::Call(0, Asked::Begin, Told::Begun(0)),
-            Step::Call(0, Asked::Insert(7, 10, 20), Told::Done),
-            Step::Call(0, Asked::Commit, Told::Committed(1)),
-            Step::Call(0, Asked::Begin, Told::Begun(1)),
-            Step::Call(0, Asked::Update(7, Some(11), None), Told::Done),
-            Step::Call(0, Asked::Commit, Told::Committed(2)),
-            Step::Call(1, Asked::Begin, Told::Begun(2)),
-            Step::Call(1, Asked::Get(7), Told::Row(11, 20)),
-        ],
-    )?;
+    run(&rt, rt.alloc(), Limits::default(), &UPDATED)?;
     let acts = [Act::Put(row(10, 20)), Act::Set(patch(Some(11), None))];
     let shown = applied(rt.alloc(), acts)?;
     assert_eq!(rt; shown, Some(row(11, 20)));
     Ok(())
 }
+
+const MOST: u64 = u64::MAX;
+
+const ALL_ROWS: [Step<'static>; 14] = [
+    Step::Call(0, Asked::Count, Told::Refused(Cause::Idle)),
+    Step::Call(0, Asked::Begin, Told::Begun(0)),
+    Step::Call(0, Asked::Scan, Told::Rows(&[])),
+    Step::Call(0, Asked::Insert(9, MOST, 20), Told::Done),
+    Step::Call(0, Asked::Insert(7, MOST, 20), Told::Done),
+    Step::Call(0, Asked::Insert(8, 1, 20), Told::Done),
+    Step::Call(0, Asked::Delete(8), Told::Done),
+    Step::Call(0, Asked::Scan, Told::Rows(&[(7, MOST, 20), (9, MOST, 20)])),
+    Step::Call(0, Asked::Sum(0), Told::Sum(36893488147419103230)),
+    Step::Call(0, Asked::Count, Told::Count(2)),
+    Step::Call(0, Asked::Find(1, 20), Told::Keys(&[7, 9])),
+    Step::Call(0, Asked::Find(0, 1), Told::Refused(Cause::NotIndexed)),
+    Step::Call(1, Asked::Begin, Told::Begun(0)),
+    Step::Call(1, Asked::Sum(0), Told::Sum(0)),
+];
 
 #[test]
 fn all_rows_are_summed_counted_scanned_and_found(rt: HostRuntime) -> Result<(), Fail> {
@@ -501,53 +517,43 @@ fn all_rows_are_summed_counted_scanned_and_found(rt: HostRuntime) -> Result<(), 
         indexed: 2,
         ..Limits::default()
     };
-    let most = u64::MAX;
-    run(
-        &rt,
-        rt.alloc(),
-        limits,
-        &[
-            Step::Call(0, Asked::Count, Told::Refused(Cause::Idle)),
-            Step::Call(0, Asked::Begin, Told::Begun(0)),
-            Step::Call(0, Asked::Scan, Told::Rows(&[])),
-            Step::Call(0, Asked::Insert(9, most, 20), Told::Done),
-            Step::Call(0, Asked::Insert(7, most, 20), Told::Done),
-            Step::Call(0, Asked::Insert(8, 1, 20), Told::Done),
-            Step::Call(0, Asked::Delete(8), Told::Done),
-            Step::Call(0, Asked::Scan, Told::Rows(&[(7, most, 20), (9, most, 20)])),
-            Step::Call(0, Asked::Sum(0), Told::Sum(36893488147419103230)),
-            Step::Call(0, Asked::Count, Told::Count(2)),
-            Step::Call(0, Asked::Find(1, 20), Told::Keys(&[7, 9])),
-            Step::Call(0, Asked::Find(0, 1), Told::Refused(Cause::NotIndexed)),
-            Step::Call(1, Asked::Begin, Told::Begun(0)),
-            Step::Call(1, Asked::Sum(0), Told::Sum(0)),
-        ],
-    )
+    run(&rt, rt.alloc(), limits, &ALL_ROWS)
 }
+
+const MERGE_STOPS: [Step<'static>; 13] = [
+    Step::Call(0, Asked::Begin, Told::Begun(0)),
+    Step::Call(1, Asked::Begin, Told::Begun(0)),
+    Step::Call(2, Asked::Begin, Told::Begun(0)),
+    Step::Call(0, Asked::Insert(0, 1, 1), Told::Done),
+    Step::Call(1, Asked::Insert(1, 1, 1), Told::Done),
+    Step::Call(2, Asked::Insert(2, 1, 1), Told::Done),
+    Step::Call(0, Asked::Commit, Told::Committed(1)),
+    Step::Call(2, Asked::Commit, Told::Committed(2)),
+    Step::Merge(0, 0, Told::Merged(1)),
+    Step::Call(1, Asked::Abort, Told::Aborted),
+    Step::Merge(0, 0, Told::Merged(3)),
+    Step::Merge(0, 0, Told::NothingNew(3)),
+    Step::Merge(1, 0, Told::NothingNew(0)),
+];
 
 #[test]
 fn a_merge_stops_at_an_open_write(rt: HostRuntime) -> Result<(), Fail> {
-    run(
-        &rt,
-        rt.alloc(),
-        Limits::default(),
-        &[
-            Step::Call(0, Asked::Begin, Told::Begun(0)),
-            Step::Call(1, Asked::Begin, Told::Begun(0)),
-            Step::Call(2, Asked::Begin, Told::Begun(0)),
-            Step::Call(0, Asked::Insert(0, 1, 1), Told::Done),
-            Step::Call(1, Asked::Insert(1, 1, 1), Told::Done),
-            Step::Call(2, Asked::Insert(2, 1, 1), Told::Done),
-            Step::Call(0, Asked::Commit, Told::Committed(1)),
-            Step::Call(2, Asked::Commit, Told::Committed(2)),
-            Step::Merge(0, 0, Told::Merged(1)),
-            Step::Call(1, Asked::Abort, Told::Aborted),
-            Step::Merge(0, 0, Told::Merged(3)),
-            Step::Merge(0, 0, Told::NothingNew(3)),
-            Step::Merge(1, 0, Told::NothingNew(0)),
-        ],
-    )
+    run(&rt, rt.alloc(), Limits::default(), &MERGE_STOPS)
 }
+
+const MERGE_WAITS: [Step<'static>; 11] = [
+    Step::Call(0, Asked::Begin, Told::Begun(0)),
+    Step::Call(0, Asked::Insert(7, 10, 20), Told::Done),
+    Step::Call(0, Asked::Commit, Told::Committed(1)),
+    Step::Call(1, Asked::Begin, Told::Begun(1)),
+    Step::Call(2, Asked::Begin, Told::Begun(1)),
+    Step::Merge(0, 0, Told::Merged(1)),
+    Step::Merge(0, 1, Told::NoFrame(1)),
+    Step::Call(1, Asked::Commit, Told::Ended(1)),
+    Step::Merge(0, 1, Told::NoFrame(2)),
+    Step::Call(2, Asked::Abort, Told::Aborted),
+    Step::Merge(0, 1, Told::Merged(1)),
+];
 
 #[test]
 fn a_merge_waits_for_the_lowest_session_that_began_before(rt: HostRuntime) -> Result<(), Fail> {
@@ -555,22 +561,5 @@ fn a_merge_waits_for_the_lowest_session_that_began_before(rt: HostRuntime) -> Re
         spare: 1,
         ..Limits::default()
     };
-    run(
-        &rt,
-        rt.alloc(),
-        limits,
-        &[
-            Step::Call(0, Asked::Begin, Told::Begun(0)),
-            Step::Call(0, Asked::Insert(7, 10, 20), Told::Done),
-            Step::Call(0, Asked::Commit, Told::Committed(1)),
-            Step::Call(1, Asked::Begin, Told::Begun(1)),
-            Step::Call(2, Asked::Begin, Told::Begun(1)),
-            Step::Merge(0, 0, Told::Merged(1)),
-            Step::Merge(0, 1, Told::NoFrame(1)),
-            Step::Call(1, Asked::Commit, Told::Ended(1)),
-            Step::Merge(0, 1, Told::NoFrame(2)),
-            Step::Call(2, Asked::Abort, Told::Aborted),
-            Step::Merge(0, 1, Told::Merged(1)),
-        ],
-    )
+    run(&rt, rt.alloc(), limits, &MERGE_WAITS)
 }

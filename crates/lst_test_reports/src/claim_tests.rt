@@ -3,7 +3,7 @@
 use lst_layout::Limits;
 use lst_report::{ReportFault, legal, parse_report, read_claim};
 use lst_script::{FaultKind, ScriptFault, parse};
-use std::alloc::Global;
+use std::alloc::{AllocError, Global};
 use std::process::Abort;
 use std::test::Fail;
 
@@ -13,7 +13,7 @@ fn expect_judged(rt: &impl Abort, alloc: Global, text: &str, wanted: bool) -> Re
     let claim = read_claim(alloc, text.as_bytes(), &limits)?;
     let lines = claim.script.unpacked(alloc)?;
     let judged = legal(alloc, &limits, lines.as_slice(), &claim.report)?;
-    assert_eq!(rt; judged, wanted);
+    assert_eq!(rt; judged, wanted, "{text}");
     Ok(())
 }
 
@@ -27,75 +27,63 @@ fn expect_fault(rt: &impl Abort, alloc: Global, text: &str, line: u64, kind: Fau
     );
 }
 
-#[test]
-fn a_script_and_its_report_are_read_and_judged(rt: HostRuntime) -> Result<(), Fail> {
-    let alloc = rt.alloc();
-    expect_judged(&rt, alloc, "report\nhistory 0\n", true)?;
-    expect_judged(
-        &rt,
-        alloc,
+const JUDGED: [(&str, bool); 4] = [
+    ("report\nhistory 0\n", true),
+    (
         "0 begin\n0 insert 7 10 20\n0 commit\nreport\n0 begun 0\n0 ok\n0 committed 1\nhistory 1\n1 0 1 0\n",
         true,
-    )?;
-    expect_judged(
-        &rt,
-        alloc,
+    ),
+    (
         "0 begin\r\n# a note\n0 insert 7 10 20\n0 commit\nreport\r\n0 begun 0\n0 ok\n0 committed 1\nhistory 1\n1 0 1 0",
         true,
-    )?;
-    expect_judged(
-        &rt,
-        alloc,
+    ),
+    (
         "0 begin\n0 get 7\nreport\n0 begun 0\n0 row 1 2\nhistory 0\n",
         false,
-    )
-}
+    ),
+];
 
 #[test]
-fn the_fault_of_the_script_comes_first(rt: HostRuntime) {
-    let alloc = rt.alloc();
-    expect_fault(
-        &rt,
-        alloc,
+fn a_script_and_its_report_are_read_and_judged(rt: HostRuntime) -> Result<(), Fail> {
+    for &(text, wanted) in JUDGED.iter() {
+        expect_judged(&rt, rt.alloc(), text, wanted)?;
+    }
+    Ok(())
+}
+
+/// Texts, each with the line of its fault.
+const FAULTS: [(&str, u64, FaultKind); 12] = [
+    (
         "0 begin\n0 insert 7 10 20\n0 commit\n",
         4,
         FaultKind::NoReport,
-    );
-    expect_fault(&rt, alloc, "0 begin\n0 commit", 3, FaultKind::NoReport);
-    expect_fault(&rt, alloc, "", 1, FaultKind::NoReport);
-    expect_fault(&rt, alloc, "0 begin\n0 fly\n", 2, FaultKind::UnknownWord);
-    expect_fault(&rt, alloc, "0 fly\nreport\nnone", 1, FaultKind::UnknownWord);
-    expect_fault(&rt, alloc, " report\nreport", 1, FaultKind::UnknownWord);
-    expect_fault(
-        &rt,
-        alloc,
-        "0 begin\nreport now\n",
-        2,
-        FaultKind::UnknownWord,
-    );
-    expect_fault(&rt, alloc, "report", 2, FaultKind::BadReport);
-    expect_fault(&rt, alloc, "report\n", 2, FaultKind::BadReport);
-    expect_fault(
-        &rt,
-        alloc,
-        "0 begin\nreport\n0 begun 0\n",
-        4,
-        FaultKind::BadReport,
-    );
-    expect_fault(
-        &rt,
-        alloc,
+    ),
+    ("0 begin\n0 commit", 3, FaultKind::NoReport),
+    ("", 1, FaultKind::NoReport),
+    ("0 begin\n0 fly\n", 2, FaultKind::UnknownWord),
+    ("0 fly\nreport\nnone", 1, FaultKind::UnknownWord),
+    (" report\nreport", 1, FaultKind::UnknownWord),
+    ("0 begin\nreport now\n", 2, FaultKind::UnknownWord),
+    ("report", 2, FaultKind::BadReport),
+    ("report\n", 2, FaultKind::BadReport),
+    ("0 begin\nreport\n0 begun 0\n", 4, FaultKind::BadReport),
+    (
         "0 begin\nreport\n0 begun 00\nhistory 0\n",
         3,
         FaultKind::BadReport,
-    );
-    expect_fault(
-        &rt,
-        alloc,
+    ),
+    (
         "0 begin\nreport\nreport\nhistory 0\n",
         3,
         FaultKind::BadReport,
-    );
+    ),
+];
+
+#[test]
+fn the_fault_of_the_script_comes_first(rt: HostRuntime) {
+    for &(text, line, kind) in FAULTS.iter() {
+        expect_fault(&rt, rt.alloc(), text, line, kind);
+    }
 }
 
 /// Where the first line `report` begins, and where what is behind it begins.
@@ -150,25 +138,37 @@ fn read_apart(alloc: Global, text: &[u8]) -> Result<(usize, usize), ScriptFault>
     }
 }
 
+/// A text with a byte in the place of another.
+fn with_byte(alloc: Global, text: &[u8], place: usize, byte: u8) -> Result<Vec<u8>, AllocError> {
+    let mut changed = Vec::new(alloc);
+    for (at, old) in text.iter().enumerate() {
+        changed.push(if at == place { byte } else { *old })?;
+    }
+    Ok(changed)
+}
+
+/// Whether a text is read as a claim. Its parts read apart tell the same of it.
+fn is_claim(rt: &impl Abort, alloc: Global, text: &[u8]) -> bool {
+    let read = read_claim(alloc, text, &Limits::default());
+    let counted = read.map(|claim| (claim.script.len(), claim.report.replies.len()));
+    assert_eq!(rt; counted, read_apart(alloc, text));
+    counted.is_ok()
+}
+
+const CLAIM: &[u8] =
+    b"0 begin\n# a note\n0 insert 7 10 20\r\n0 sum 0\n0 commit\nphase\n1 begin\n1 scan\n1 commit\nreport\n0 begun 0\n0 ok\n0 sum 10\n0 committed 1\n1 begun 1\n1 rows 7:10,20\n1 ended 1\nhistory 1\n1 0 1 0\n";
+
 #[test]
 fn a_text_with_a_byte_changed_is_read_as_its_parts_are(rt: HostRuntime) -> Result<(), Fail> {
-    let alloc = rt.alloc();
-    let text =
-        "0 begin\n# a note\n0 insert 7 10 20\r\n0 sum 0\n0 commit\nphase\n1 begin\n1 scan\n1 commit\nreport\n0 begun 0\n0 ok\n0 sum 10\n0 committed 1\n1 begun 1\n1 rows 7:10,20\n1 ended 1\nhistory 1\n1 0 1 0\n";
     let mut claims = 0u64;
     let mut faults = 0u64;
-    for place in 0..text.len() {
+    for place in 0..CLAIM.len() {
         for byte in b" 9\nr1".as_slice() {
-            let mut changed = Vec::new(alloc);
-            for (at, old) in text.as_bytes().iter().enumerate() {
-                changed.push(if at == place { *byte } else { *old })?;
-            }
-            let read = read_claim(alloc, changed.as_slice(), &Limits::default());
-            let counted = read.map(|claim| (claim.script.len(), claim.report.replies.len()));
-            assert_eq!(rt; counted, read_apart(alloc, changed.as_slice()));
-            match counted {
-                Ok(_) => claims = claims.wrapping_add(1),
-                Err(_) => faults = faults.wrapping_add(1),
+            let changed = with_byte(rt.alloc(), CLAIM, place, *byte)?;
+            if is_claim(&rt, rt.alloc(), changed.as_slice()) {
+                claims = claims.wrapping_add(1);
+            } else {
+                faults = faults.wrapping_add(1);
             }
         }
     }

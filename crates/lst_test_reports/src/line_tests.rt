@@ -1,11 +1,10 @@
 //! The lines of replies.
 
 use arrayvec::ArrayVec;
-use lst_model::{Call, Cause, KeyList, Line, Reply, Row, RowList};
+use lst_model::{Call, Cause, KeyList, Line, OutOfMemory, Reply, Row, RowList};
 use lst_replies::print_line;
 use std::alloc::Global;
 use std::process::Abort;
-use std::test::Fail;
 
 fn text_is(
     rt: &impl Abort,
@@ -13,7 +12,7 @@ fn text_is(
     line: &Line,
     reply: &Reply,
     wanted: &str,
-) -> Result<(), Fail> {
+) -> Result<(), OutOfMemory> {
     let text = print_line(alloc, line, reply)?;
     assert_eq!(rt; text.as_bytes(), wanted.as_bytes());
     Ok(())
@@ -33,59 +32,58 @@ fn row_with_null() -> Row {
     row
 }
 
-#[test]
-fn replies_are_printed_as_the_format_says(rt: HostRuntime) -> Result<(), Fail> {
-    let alloc = rt.alloc();
-    let call = Line::Call {
+/// Whether a reply to a call of session 3 has this text.
+fn is_told(rt: &impl Abort, alloc: Global, reply: Reply, wanted: &str) -> Result<(), OutOfMemory> {
+    let line = Line::Call {
         session: 3,
         call: Call::Count,
     };
-    let merge = Line::Merge {
+    text_is(rt, alloc, &line, &reply, wanted)
+}
+
+fn are_rows_told(rt: &impl Abort, alloc: Global) -> Result<(), OutOfMemory> {
+    let mut list = RowList::new(alloc);
+    list.push(7, row())?;
+    list.push(9, row_with_null())?;
+    let wanted = "3 rows 7:10,18446744073709551615 9:5,null\n";
+    is_told(rt, alloc, Reply::Rows { list }, wanted)
+}
+
+fn are_keys_told(rt: &impl Abort, alloc: Global) -> Result<(), OutOfMemory> {
+    let mut list = KeyList::new(alloc);
+    list.push(7)?;
+    list.push(9)?;
+    is_told(rt, alloc, Reply::Keys { list }, "3 keys 7 9\n")
+}
+
+fn is_merge_told(rt: &impl Abort, alloc: Global) -> Result<(), OutOfMemory> {
+    let line = Line::Merge {
         range: 0,
         column: 1,
     };
-    text_is(
-        &rt,
-        alloc,
-        &call,
-        &Reply::Row { row: row() },
-        "3 row 10 18446744073709551615\n",
-    )?;
-    let mut rows = RowList::new(alloc);
-    rows.push(7, row())?;
-    rows.push(9, row_with_null())?;
-    let wanted = "3 rows 7:10,18446744073709551615 9:5,null\n";
-    text_is(&rt, alloc, &call, &Reply::Rows { list: rows }, wanted)?;
-    let mut keys = KeyList::new(alloc);
-    keys.push(7)?;
-    keys.push(9)?;
-    text_is(
-        &rt,
-        alloc,
-        &call,
-        &Reply::Keys { list: keys },
-        "3 keys 7 9\n",
-    )?;
+    text_is(rt, alloc, &line, &Reply::Merged { tps: 5 }, "merged 5\n")
+}
+
+#[test]
+fn replies_are_printed_as_the_format_says(rt: HostRuntime) -> Result<(), OutOfMemory> {
+    let alloc = rt.alloc();
+    let row = Reply::Row { row: row() };
+    is_told(&rt, alloc, row, "3 row 10 18446744073709551615\n")?;
+    are_rows_told(&rt, alloc)?;
+    are_keys_told(&rt, alloc)?;
     let cause = Cause::Unfinished {
         session: 0,
         number: 2,
     };
-    text_is(
-        &rt,
-        alloc,
-        &call,
-        &Reply::Refused { cause },
-        "3 conflict open 0 2\n",
-    )?;
+    let refused = Reply::Refused { cause };
+    is_told(&rt, alloc, refused, "3 conflict open 0 2\n")?;
     let total = 36893488147419103230;
-    text_is(
+    is_told(
         &rt,
         alloc,
-        &call,
-        &Reply::Sum { total },
+        Reply::Sum { total },
         "3 sum 36893488147419103230\n",
     )?;
-    text_is(&rt, alloc, &merge, &Reply::Merged { tps: 5 }, "merged 5\n")?;
-    text_is(&rt, alloc, &Line::Phase, &Reply::Silent, "")?;
-    Ok(())
+    is_merge_told(&rt, alloc)?;
+    text_is(&rt, alloc, &Line::Phase, &Reply::Silent, "")
 }
