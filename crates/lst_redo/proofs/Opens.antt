@@ -1,10 +1,12 @@
 -- What a disk that is opened does.
 use Rattle.std.proofs.Common.{◌≡◌, ◌≢◌, ℕ, ◌-◌, ◌≤◌, Option, Some, None, is_some, subst, ap, ◌∙◌, arith}
-use Rattle.std.specs.Prelude.{Result, Ok, Err, IsSome, IsOk, IsErr, IfSome, OnOk}
+use Rattle.std.specs.Prelude.{Result, Ok, Err, IsSome, IsOk, IsErr, IsErrAnd, IfSome, IfOk, OnOk}
 use Rattle.lst_disk.specs.Disk.{CountsCall}
 use Rattle.lst_model.specs.Faults.{Rose}
 use Rattle.lst_redo.specs.declared.opening.OpenCause.{OpenCause}
 use Rattle.lst_redo.specs.declared.opening.OpenCause.TheVariants.{Disk, Damaged, OutOfMemory}
+use Rattle.lst_redo.specs.declared.opening.ScanFault.{ScanFault}
+use Rattle.lst_redo.specs.declared.opening.ScanFault.TheVariants.{Damaged as Broken, OutOfMemory as Wanting}
 
 -- an answer is one thing and no other
 pub ok_err : (A E : Type 0) (a : A) (e : E) → ¬ (Ok a ≡ Err e)
@@ -21,6 +23,19 @@ memory_damaged A r at is same = cc
 
 pub disk_damaged : (A : Type 0) (r : Result A OpenCause) (at : ℕ) → r ≡ Err Disk → ¬ (r ≡ Err (Damaged at))
 disk_damaged A r at is same = cc
+
+-- memory that is wanting damages nothing
+pub wanting_damaged : (A : Type 0) (r : Result A ScanFault) (at : ℕ) → r ≡ Err Wanting → ¬ (r ≡ Err (Broken at))
+wanting_damaged A r at is same = cc
+
+pub turned_damaged : (A : Type 0) (r : Result A ScanFault) (at : ℕ) → IsErrAnd r (λ e. e ≡ Wanting) → ¬ (r ≡ Err (Broken at))
+turned_damaged A (Ok a) at is same = cc
+turned_damaged A (Err e) at is same = wanting_damaged A (Err e) at (ap (λ (f : ScanFault). Err f) is) same
+
+-- a call that failed answers no value
+pub no_value : (A E : Type 0) (r : Result A E) (P : A → Type 0) → IsErr r → IfOk r P
+no_value A E (Ok a) P failed = absurd cc
+no_value A E (Err e) P failed = tt
 
 no_both : (T E : Type 0) (r : Result T E) → IsOk r → IsErr r → ⊥
 no_both T E (Ok t) ok err = cc
