@@ -24,6 +24,16 @@ memory_damaged A r at is same = cc
 pub disk_damaged : (A : Type 0) (r : Result A OpenCause) (at : ℕ) → r ≡ Err Disk → ¬ (r ≡ Err (Damaged at))
 disk_damaged A r at is same = cc
 
+-- and so is a cause
+pub damaged_no_memory : (cause : OpenCause) (at : ℕ) → cause ≡ Damaged at → ¬ (cause ≡ OutOfMemory)
+damaged_no_memory cause at is same = cc
+
+pub damaged_no_disk : (cause : OpenCause) (at : ℕ) → cause ≡ Damaged at → ¬ (cause ≡ Disk)
+damaged_no_disk cause at is same = cc
+
+pub memory_no_disk : (cause : OpenCause) → cause ≡ OutOfMemory → ¬ (cause ≡ Disk)
+memory_no_disk cause is same = cc
+
 -- memory that is wanting damages nothing
 pub wanting_damaged : (A : Type 0) (r : Result A ScanFault) (at : ℕ) → r ≡ Err Wanting → ¬ (r ≡ Err (Broken at))
 wanting_damaged A r at is same = cc
