@@ -1,2 +1,3 @@
 mod FaultKinds
+pub mod GivenLimits
 pub mod OneStore

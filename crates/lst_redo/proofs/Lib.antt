@@ -8,3 +8,4 @@ mod Found
 mod Rows
 mod Scans
 mod Sizes
+mod Opens

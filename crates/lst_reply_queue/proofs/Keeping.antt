@@ -1,9 +1,11 @@
 -- One reply more that is kept.
-use Rattle.std.proofs.Common.{◌≡◌, ℕ, ◌+◌, ◌<◌, ◌≤◌, List, [], ◌∷◌, ◌++◌, length, take, drop, get_or, Option, Some, None, refl, sym, subst, ap, ◌∙◌, arith, length-append}
+use Rattle.std.proofs.Common.{◌≡◌, ℕ, ◌≤◌, List, [], ◌∷◌, ◌++◌, length, take, drop, get_or, Option, Some, None, refl, sym, subst, ap, ◌∙◌, arith, length-append, append-nil}
+use Rattle.std.specs.Prelude.{Result, Ok, Err, IsErr, IfOk, OnErr}
 use Rattle.std.proofs.lemmas.List.{take-append-le, drop-append-le, take_all, drop_all}
 use Rattle.lst_model.specs.declared.replies.Reply.{Reply}
 use Rattle.lst_model.specs.declared.replies.Reply.TheVariants as variant
 use Rattle.lst_reply_queue.specs.declared.kinds.Kind.{Kind}
+use Rattle.lst_reply_queue.specs.declared.kinds.Kind.TheVariants.{Other}
 use Rattle.lst_reply_queue.specs.Kinds.{width, told, IsWhole, reply_of, others_after, HasReply, all_told, AreKept, Stands, Keeps}
 
 -- ---- the others
@@ -97,3 +99,32 @@ module _ (kinds longer : List Kind) (numbers wider : List ℕ) (taken : ℕ) (ot
 
   pub are_told : all_told longer (drop taken wider) more ≡ all_told kinds (drop taken numbers) others ++ reply ∷ []
   are_told = ap (λ (ks : List Kind). all_told ks (drop taken wider) more) is ∙ (ap (λ (ns : List ℕ). all_told (kinds ++ kind ∷ []) ns more) left ∙ kept.1)
+
+-- ---- what is kept of a reply
+
+-- it's told by its numbers
+pub keeps_told : (kind : Kind) (reply : Reply) (added numbers longer : List ℕ) (others : List Reply) → longer ≡ numbers ++ added → length added ≡ width kind → IsWhole kind added → told kind added ≡ Some reply
+    → Keeps kind reply numbers longer others others
+keeps_told kind reply added numbers longer others adds wide whole tells = record {
+  added = added;
+  adds = adds;
+  wide = wide;
+  whole = whole;
+  stands = subst (λ (t : Option Reply). Stands t reply others others) (sym tells) (refl, refl);
+}
+
+-- it has none
+pub keeps_bare : (kind : Kind) (reply : Reply) (numbers : List ℕ) (others : List Reply) → width kind ≡ 0 → IsWhole kind [] → told kind [] ≡ Some reply → Keeps kind reply numbers numbers others others
+keeps_bare kind reply numbers others none whole tells = keeps_told kind reply [] numbers numbers others (sym (append-nil numbers)) (sym none) whole tells
+
+-- it stands behind the others
+pub keeps_other : (reply : Reply) (numbers : List ℕ) (others more : List Reply) → more ≡ others ++ reply ∷ [] → Keeps Other reply numbers numbers others more
+keeps_other reply numbers others more behind = record { added = []; adds = sym (append-nil numbers); wide = refl; whole = tt; stands = behind }
+
+pub no_kind : (E : Type 0) (r : Result Kind E) (P : Kind → Type 0) → IsErr r → IfOk r P
+no_kind E (Ok kind) P failed = absurd cc
+no_kind E (Err e) P failed = tt
+
+pub when_failed : (E Q : Type 0) (r : Result Kind E) → IsErr r → Q → OnErr r Q
+when_failed E Q (Ok kind) failed q = tt
+when_failed E Q (Err e) failed q = q

@@ -1,4 +1,4 @@
-use Rattle.std.proofs.Common.{List, ◌≡◌, ◌∷◌, [], ◌++◌, ap, sym, ◌∙◌}
+use Rattle.std.proofs.Common.{List, ◌∷◌, [], ◌++◌, ap, ◌∙◌}
 use Rattle.lst_reply_queue.specs.declared.kinds.Kind.{Kind}
 use Rattle.lst_model.specs.declared.replies.Reply.{Reply}
 use Rattle.lst_reply_queue.proofs.Keeping.{are_kept, are_told}
