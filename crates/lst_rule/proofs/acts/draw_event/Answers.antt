@@ -1,4 +1,4 @@
-use Rattle.std.proofs.Common.{◌≡◌, ◌+◌, ◌%◌, ◌^◌, ap, ◌∙◌, subst}
+use Rattle.std.proofs.Common.{◌≡◌, ◌+◌, ◌%◌, ◌^◌, ap, ◌∙◌, subst, ℕ, ◌<◌, sym}
 use Rattle.lst_layout.specs.declared.limits.Limits.{Limits}
 use Rattle.lst_layout.specs.Addresses as addresses
 use Rattle.lst_core_state.specs.Step.{IsWithin}
@@ -9,6 +9,8 @@ use Rattle.lst_rule.specs.declared.actions.Action.TheVariants.{Core}
 use Rattle.lst_rule.specs.declared.view.View.{View}
 use Rattle.lst_rule.proofs.Doing.{drawn}
 use Rattle.lst_rule.proofs.Acting.{Asks, acts_ready, acts_told, acts_met, acts_keep, still_seat}
+use Rattle.lst_core_state.specs.Bounds.{IsWritable}
+use Rattle.lst_rule.proofs.Telling.{reads_step}
 use Rattle.lst_rule.proofs.acts.draw_event.Goals as goal
 use Rattle.lst_rule.proofs.acts.draw_event.Goals.{After-target-word}
 
@@ -54,3 +56,10 @@ returns-clause-seat c = still_seat _ _ _ (Core c.args.event) _ ((c.add_one-found
 pub returns-clause-met : goal.returns-clause-met
 returns-clause-met c = acts_met _ _ _ _ _ _ _ (asked (goal.at.returns-clause-met c).After-target-word c.seat.inside.place.me.0 (ap (λ z. z.view) c.seat.view_is)) ((c.add_one-found.result + 1) % 2 ^ 64) c.add_one-found.result c.add_one-found.new.seat.me.0 c.add_one-found.ensures.told
     (drawn c.args.store.now.layout.limits c.numbers-now.result.now 0 c.args.event c.requires.kind c.add_one-found.result)
+
+pub advance-requires-clause-writable : goal.advance-requires-clause-writable
+advance-requires-clause-writable c = subst (λ (l : Limits). IsWritable l c.index_mut.result.now c.args.event) c.requires.seat.limits
+    (reads_step _ _ c.seat.inside.numbers.items c.args.s c.index_mut.result.now c.args.event (ap (λ z. z.view) c.seat.view_is) c.seat.invariant.3 c.index_mut.ensures.value c.requires.host c.requires.own c.requires.session c.requires.within c.requires.enabled).writable
+
+pub add_one-found-requires-clause-table : goal.add_one-found-requires-clause-table
+add_one-found-requires-clause-table c = (ap (λ z. z.table) c.seat.view_is ∙ c.requires.seat.table, subst (λ (n : ℕ). c.target-word.result < n) (sym c.args.store.now.wide) c.target-word.ensures.below)

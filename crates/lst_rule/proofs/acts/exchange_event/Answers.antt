@@ -1,4 +1,4 @@
-use Rattle.std.proofs.Common.{ℕ, ◌≡◌, ◌==◌, ap, ◌∙◌, subst}
+use Rattle.std.proofs.Common.{ℕ, ◌≡◌, ◌==◌, ap, ◌∙◌, subst, ◌<◌, sym, arith}
 use prog.Atomic.{either}
 use Rattle.lst_layout.specs.declared.limits.Limits.{Limits}
 use Rattle.lst_layout.specs.Addresses as addresses
@@ -10,6 +10,9 @@ use Rattle.lst_rule.specs.declared.actions.Action.TheVariants.{Core}
 use Rattle.lst_rule.specs.declared.view.View.{View}
 use Rattle.lst_rule.proofs.Doing.{exchanged}
 use Rattle.lst_rule.proofs.Acting.{Asks, acts_ready, acts_told, acts_met, acts_keep, still_seat}
+use Rattle.lst_layout.specs.Limits.{IsValid}
+use Rattle.lst_core_state.specs.Bounds.{IsWritable}
+use Rattle.lst_rule.proofs.Telling.{reads_step}
 use Rattle.lst_rule.proofs.acts.exchange_event.Goals as goal
 use Rattle.lst_rule.proofs.acts.exchange_event.Goals.{After-target-word}
 
@@ -55,3 +58,22 @@ returns-clause-seat c = still_seat _ _ _ (Core c.args.event) _ (either (c.compar
 pub returns-clause-met : goal.returns-clause-met
 returns-clause-met c = acts_met _ _ _ _ _ _ _ (asked (goal.at.returns-clause-met c).After-target-word c.seat.inside.place.me.0 (ap (λ z. z.view) c.seat.view_is)) (either (c.compare_exchange-found.result == 0) c.written-new.result c.compare_exchange-found.result) c.compare_exchange-found.result c.compare_exchange-found.new.seat.me.0 c.compare_exchange-found.ensures.told
     (ap (λ (z : ℕ). either (c.compare_exchange-found.result == 0) z c.compare_exchange-found.result) c.written-new.ensures ∙ exchanged c.args.store.now.layout.limits c.numbers-now.result.now 0 c.args.event c.requires.kind c.compare_exchange-found.result)
+
+pub advance-requires-clause-writable : goal.advance-requires-clause-writable
+advance-requires-clause-writable c = subst (λ (l : Limits). IsWritable l c.index_mut.result.now c.args.event) c.requires.seat.limits
+    (reads_step _ _ c.seat.inside.numbers.items c.args.s c.index_mut.result.now c.args.event (ap (λ z. z.view) c.seat.view_is) c.seat.invariant.3 c.index_mut.ensures.value c.requires.host c.requires.own c.requires.session c.requires.within c.requires.enabled).writable
+
+pub compare_exchange-found-requires-clause-table : goal.compare_exchange-found-requires-clause-table
+compare_exchange-found-requires-clause-table c = (ap (λ z. z.table) c.seat.view_is ∙ c.requires.seat.table, subst (λ (n : ℕ). c.target-word.result < n) (sym c.args.store.now.wide) c.target-word.ensures.below)
+
+pub written-new-requires-clause-sized : goal.written-new-requires-clause-sized
+written-new-requires-clause-sized c = subst (λ (l : Limits). IsValid l) c.requires.seat.limits c.numbers-now.ensures.valid
+
+pub written-new-requires-clause-time : goal.written-new-requires-clause-time
+written-new-requires-clause-time c = omega arith
+
+pub written-new-requires-clause-within : goal.written-new-requires-clause-within
+written-new-requires-clause-within c = subst (λ (l : Limits). IsWithin l c.args.event) c.requires.seat.limits c.requires.within
+
+pub written-new-requires-clause-writable : goal.written-new-requires-clause-writable
+written-new-requires-clause-writable c = subst (λ (l : Limits). IsWritable l c.numbers-now.result.now c.args.event) c.requires.seat.limits c.numbers-now.ensures.writable
