@@ -1,11 +1,11 @@
 //! Drawn tables, whole and with each byte changed, against a plain reader.
 
-use crate::texts::{next_drawn, with_byte};
+use crate::texts::{next_drawn, same, with_byte};
 use lst_csv::{TableFault, TableRefusal, import_text};
 use lst_model::OutOfMemory;
 use std::alloc::Global;
 use std::mem::replace;
-use std::test::Fail;
+use std::process::Abort;
 
 /// The fields of a record, and the records of a text.
 type Fields = Vec<Vec<u8>>;
@@ -20,41 +20,74 @@ enum At {
     Quote,
 }
 
-/// The records of a text, byte by byte.
-fn records(alloc: Global, text: &[u8]) -> Result<Vec<Fields>, OutOfMemory> {
-    let mut records = Vec::new(alloc);
-    let mut record = Vec::new(alloc);
-    let mut field = Vec::new(alloc);
-    let mut at = At::Record;
-    for byte in text {
-        match (at, *byte) {
-            (At::Quoted, b'"') => at = At::Quote,
+/// What the plain reader has read: the records, the fields of the next one, the bytes of its next field, and where it is.
+#[derive(Drop)]
+struct Reader {
+    records: Vec<Fields>,
+    record: Fields,
+    field: Vec<u8>,
+    at: At,
+}
+
+impl Reader {
+    fn new(alloc: Global) -> Reader {
+        Reader {
+            records: Vec::new(alloc),
+            record: Vec::new(alloc),
+            field: Vec::new(alloc),
+            at: At::Record,
+        }
+    }
+
+    fn end_field(&mut self, alloc: Global) -> Result<(), OutOfMemory> {
+        let field = replace(&mut self.field, Vec::new(alloc));
+        self.record.push(field)?;
+        Ok(())
+    }
+
+    fn end_record(&mut self, alloc: Global) -> Result<(), OutOfMemory> {
+        self.end_field(alloc)?;
+        let record = replace(&mut self.record, Vec::new(alloc));
+        self.records.push(record)?;
+        Ok(())
+    }
+
+    /// Reads a byte, and tells where the reader is behind it.
+    fn read(&mut self, alloc: Global, byte: u8) -> Result<At, OutOfMemory> {
+        match (self.at, byte) {
+            (At::Quoted, b'"') => Ok(At::Quote),
             (At::Quote, b'"') | (At::Quoted, _) => {
-                field.push(*byte)?;
-                at = At::Quoted;
+                self.field.push(byte)?;
+                Ok(At::Quoted)
             }
-            (At::Record, b'\n' | b'\r') => {}
+            (At::Record, b'\n' | b'\r') => Ok(At::Record),
             (_, b',') => {
-                record.push(replace(&mut field, Vec::new(alloc)))?;
-                at = At::Field;
+                self.end_field(alloc)?;
+                Ok(At::Field)
             }
             (_, b'\n' | b'\r') => {
-                record.push(replace(&mut field, Vec::new(alloc)))?;
-                records.push(replace(&mut record, Vec::new(alloc)))?;
-                at = At::Record;
+                self.end_record(alloc)?;
+                Ok(At::Record)
             }
-            (At::Record | At::Field, b'"') => at = At::Quoted,
+            (At::Record | At::Field, b'"') => Ok(At::Quoted),
             _ => {
-                field.push(*byte)?;
-                at = At::Bare;
+                self.field.push(byte)?;
+                Ok(At::Bare)
             }
         }
     }
-    if at != At::Record {
-        record.push(field)?;
-        records.push(record)?;
+}
+
+/// The records of a text, byte by byte.
+fn records(alloc: Global, text: &[u8]) -> Result<Vec<Fields>, OutOfMemory> {
+    let mut reader = Reader::new(alloc);
+    for byte in text {
+        reader.at = reader.read(alloc, *byte)?;
     }
-    Ok(records)
+    if reader.at != At::Record {
+        reader.end_record(alloc)?;
+    }
+    Ok(reader.records)
 }
 
 /// The number that digits are.
@@ -119,15 +152,8 @@ fn fault_in(record: &[Vec<u8>], keys: &mut Vec<u64>) -> Result<Option<TableFault
     Ok(None)
 }
 
-/// The first faulty record of a text, and its fault.
-fn plain_fault(alloc: Global, text: &[u8]) -> Result<Option<(u64, TableFault)>, OutOfMemory> {
-    let records = records(alloc, text)?;
-    let [header, rows @ ..] = records.as_slice() else {
-        return Ok(Some((1, TableFault::BadHeader)));
-    };
-    if !is_header(header.as_slice()) {
-        return Ok(Some((1, TableFault::BadHeader)));
-    }
+/// The first faulty record among rows, which stand behind a header, and its fault.
+fn fault_among(alloc: Global, rows: &[Fields]) -> Result<Option<(u64, TableFault)>, OutOfMemory> {
     let mut keys = Vec::new(alloc);
     let mut place = 2u64;
     for row in rows {
@@ -137,6 +163,15 @@ fn plain_fault(alloc: Global, text: &[u8]) -> Result<Option<(u64, TableFault)>, 
         place = place.wrapping_add(1);
     }
     Ok(None)
+}
+
+/// The first faulty record of a text, and its fault.
+fn plain_fault(alloc: Global, text: &[u8]) -> Result<Option<(u64, TableFault)>, OutOfMemory> {
+    let records = records(alloc, text)?;
+    match records.as_slice() {
+        [header, rows @ ..] if is_header(header.as_slice()) => fault_among(alloc, rows),
+        _ => Ok(Some((1, TableFault::BadHeader))),
+    }
 }
 
 /// The first faulty record that `import_text` names.
@@ -171,52 +206,72 @@ fn end_of(drawn: u64) -> &'static str {
     }
 }
 
-/// A table of three rows from a seed.
-fn drawn_table(alloc: Global, seed: u64) -> Result<Vec<u8>, OutOfMemory> {
-    let mut text = Vec::new(alloc);
-    text.extend_from_slice(b"key,qty,price\n")?;
-    let mut drawn = seed;
-    for key in ["1", "22", "\"3\""] {
-        text.extend_from_slice(key.as_bytes())?;
-        for _ in 0..2 {
-            drawn = next_drawn(drawn);
-            text.push(b',')?;
-            text.extend_from_slice(cell_of(drawn).as_bytes())?;
-        }
-        drawn = next_drawn(drawn);
-        text.extend_from_slice(end_of(drawn).as_bytes())?;
+/// Adds a record of this key to a table, with two cells and an end that are drawn.
+fn push_drawn(table: &mut Vec<u8>, key: &str, drawn: &mut u64) -> Result<(), OutOfMemory> {
+    table.extend_from_slice(key.as_bytes())?;
+    for _ in 0..2 {
+        *drawn = next_drawn(*drawn);
+        table.push(b',')?;
+        table.extend_from_slice(cell_of(*drawn).as_bytes())?;
     }
-    Ok(text)
+    *drawn = next_drawn(*drawn);
+    table.extend_from_slice(end_of(*drawn).as_bytes())?;
+    Ok(())
 }
 
-#[test]
-fn drawn_tables_have_no_fault(rt: HostRuntime) -> Result<(), Fail> {
-    for seed in 0..64 {
-        let table = drawn_table(rt.alloc(), seed)?;
-        assert_eq!(rt;
-            plain_fault(rt.alloc(), table.as_slice())?,
-            None,
-            "seed {seed}"
-        );
-        assert_eq!(rt;
-            fault_told(rt.alloc(), table.as_slice())?,
-            None,
-            "seed {seed}"
-        );
+/// A table of three rows from a seed.
+fn drawn_table(alloc: Global, seed: u64) -> Result<Vec<u8>, OutOfMemory> {
+    let mut table = b"key,qty,price\n".to_vec(alloc)?;
+    let mut drawn = seed;
+    for key in ["1", "22", "\"3\""] {
+        push_drawn(&mut table, key, &mut drawn)?;
     }
+    Ok(table)
+}
+
+/// A table whose first faulty record is named as the plain reader finds it.
+fn is_read_plainly(
+    rt: &impl Abort,
+    alloc: Global,
+    table: &[u8],
+    at: (u64, usize, u8),
+) -> Result<(), OutOfMemory> {
+    let plain = plain_fault(alloc, table)?;
+    same(rt, fault_told(alloc, table)?, plain, at);
     Ok(())
 }
 
 #[test]
-fn drawn_tables_with_a_byte_changed_are_read_plainly(rt: HostRuntime) -> Result<(), Fail> {
+fn drawn_tables_have_no_fault(rt: HostRuntime) -> Result<(), OutOfMemory> {
+    for seed in 0..64 {
+        let table = drawn_table(rt.alloc(), seed)?;
+        let plain = plain_fault(rt.alloc(), table.as_slice())?;
+        same(&rt, plain, None, seed);
+        let told = fault_told(rt.alloc(), table.as_slice())?;
+        same(&rt, told, None, seed);
+    }
+    Ok(())
+}
+
+/// A table from a seed is read plainly with this byte at a place.
+fn is_changed_and_read(
+    rt: &impl Abort,
+    alloc: Global,
+    table: &[u8],
+    at: (u64, usize, u8),
+) -> Result<(), OutOfMemory> {
+    let text = with_byte(alloc, table, at.1, at.2)?;
+    is_read_plainly(rt, alloc, text.as_slice(), at)
+}
+
+#[test]
+fn drawn_tables_with_a_byte_changed_are_read_plainly(rt: HostRuntime) -> Result<(), OutOfMemory> {
     for seed in 0..4 {
         let table = drawn_table(rt.alloc(), seed)?;
         for place in 0..table.len() {
             for byte in b",\"\n\r05aA \xef".as_slice() {
-                let text = with_byte(rt.alloc(), table.as_slice(), place, *byte)?;
-                let plain = plain_fault(rt.alloc(), text.as_slice())?;
-                let told = fault_told(rt.alloc(), text.as_slice())?;
-                assert_eq!(rt; told, plain, "seed {seed}, place {place}, byte {byte}");
+                let at = (seed, place, *byte);
+                is_changed_and_read(&rt, rt.alloc(), table.as_slice(), at)?;
             }
         }
     }

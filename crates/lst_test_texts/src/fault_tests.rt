@@ -1,11 +1,11 @@
 //! The order of a line's checks, each kind of fault before the next, and scripts with a header read by `parse`.
 
+use crate::texts::same;
 use lst_layout::Limits;
-use lst_model::Text;
+use lst_model::OutOfMemory;
 use lst_script::{FaultKind, ScriptFault, parse};
 use std::alloc::Global;
 use std::process::Abort;
-use std::test::Fail;
 
 /// Looks whether a text has this first faulty line.
 pub(crate) fn expect_first(
@@ -15,10 +15,8 @@ pub(crate) fn expect_first(
     line: u64,
     kind: FaultKind,
 ) {
-    let Err(fault) = parse(alloc, text, &Limits::default()) else {
-        panic!(rt; "no fault");
-    };
-    assert_eq!(rt; fault, ScriptFault::Bad { line, kind });
+    let found = parse(alloc, text, &Limits::default()).err();
+    same(rt, found, Some(ScriptFault::Bad { line, kind }), text);
 }
 
 /// The same of each text.
@@ -28,12 +26,16 @@ pub(crate) fn expect_all_first(rt: &impl Abort, alloc: Global, texts: &[(&[u8], 
     }
 }
 
+/// Looks whether a text is read as a script of so many lines, under the limits that a store has by default.
+pub(crate) fn has_length(rt: &impl Abort, alloc: Global, text: &[u8], lines: usize) {
+    let found = parse(alloc, text, &Limits::default()).map(|script| script.len());
+    same(rt, found, Ok(lines), text);
+}
+
 #[test]
-fn a_script_with_a_header_is_read(rt: HostRuntime) -> Result<(), Fail> {
+fn a_script_with_a_header_is_read(rt: HostRuntime) {
     let text = b"# stock\n\nversion 2 qty price\n0 begin\n0 insert 1 qty=5\n1 get 7\n";
-    let script = parse(rt.alloc(), text, &Limits::default())?;
-    assert_eq!(rt; script.len(), 3);
-    Ok(())
+    has_length(&rt, rt.alloc(), text, 3);
 }
 
 #[test]
@@ -103,25 +105,22 @@ fn the_first_check_of_a_named_line_counts(rt: HostRuntime) {
 }
 
 /// A text with spaces behind it, 1,025 bytes in all.
-fn long(alloc: Global, front: &[u8]) -> Result<Text, Fail> {
-    let mut text = Text::new(alloc);
-    text.push_bytes(front)?;
-    for _place in front.len()..1025 {
-        text.push_bytes(b" ")?;
-    }
+fn long(alloc: Global, front: &[u8]) -> Result<Vec<u8>, OutOfMemory> {
+    let mut text = front.to_vec(alloc)?;
+    text.resize(1025, b' ')?;
     Ok(text)
 }
 
 /// Looks whether each text is too long with spaces behind it.
-fn expect_too_long(rt: &impl Abort, alloc: Global, fronts: &[&[u8]]) -> Result<(), Fail> {
+fn expect_too_long(rt: &impl Abort, alloc: Global, fronts: &[&[u8]]) -> Result<(), OutOfMemory> {
     for &front in fronts {
         let text = long(alloc, front)?;
-        expect_first(rt, alloc, text.as_bytes(), 1, FaultKind::LineTooLong);
+        expect_first(rt, alloc, text.as_slice(), 1, FaultKind::LineTooLong);
     }
     Ok(())
 }
 
 #[test]
-fn the_length_is_looked_at_first(rt: HostRuntime) -> Result<(), Fail> {
+fn the_length_is_looked_at_first(rt: HostRuntime) -> Result<(), OutOfMemory> {
     expect_too_long(&rt, rt.alloc(), &[b"version 3", b"# x", b"fly", b"0 get x"])
 }

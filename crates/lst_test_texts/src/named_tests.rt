@@ -3,32 +3,55 @@
 
 ghost use Rattle.std.specs.Prelude.{◌<◌};
 
-use crate::texts::{names_of, next_drawn, row, with_byte};
+use crate::texts::{call, has_lines, names_of, next_drawn, row, same, with_byte};
 use arrayvec::ArrayVec;
 use lst_layout::Limits;
-use lst_model::{Call, Line, Patch, Row, Text};
+use lst_model::{Call, OutOfMemory, Patch, Row, Text};
 use lst_script::{FaultKind, Named, Script, ScriptFault, parse_named, print2};
 use std::alloc::Global;
 use std::process::Abort;
-use std::test::Fail;
 
-/// The text of version 2 of what a text is read as.
-fn migrated(alloc: Global, text: &[u8]) -> Result<Text, ScriptFault> {
-    let named: Named = parse_named(alloc, text, &Limits::default())?;
-    Ok(print2(alloc, &named)?)
+/// The text of version 2 of a script.
+fn printed(alloc: Global, script: &Named) -> Result<Vec<u8>, OutOfMemory> {
+    let text = print2(alloc, script)?;
+    Ok(text.as_bytes().to_vec(alloc)?)
 }
 
-/// Looks whether a text is printed so in version 2, and that again as itself.
-fn expect_text(rt: &impl Abort, alloc: Global, text: &[u8], printed: &[u8]) -> Result<(), Fail> {
-    let first = migrated(alloc, text)?;
-    assert_eq!(rt; first.as_bytes(), printed);
-    let second = migrated(alloc, first.as_bytes())?;
-    assert_eq!(rt; second.as_bytes(), printed);
+/// The text of version 2 of what a text is read as.
+fn migrated(alloc: Global, text: &[u8]) -> Result<Vec<u8>, ScriptFault> {
+    let script = parse_named(alloc, text, &Limits::default())?;
+    Ok(printed(alloc, &script)?)
+}
+
+/// Looks whether a text is printed so in version 2.
+fn expect_migrated(
+    rt: &impl Abort,
+    alloc: Global,
+    text: &[u8],
+    printed: &[u8],
+) -> Result<(), ScriptFault> {
+    let found = migrated(alloc, text)?;
+    same(rt, found.as_slice(), printed, text);
     Ok(())
 }
 
+/// Looks whether a text is printed so in version 2, and that again as itself.
+fn expect_text(
+    rt: &impl Abort,
+    alloc: Global,
+    text: &[u8],
+    printed: &[u8],
+) -> Result<(), ScriptFault> {
+    expect_migrated(rt, alloc, text, printed)?;
+    expect_migrated(rt, alloc, printed, printed)
+}
+
 /// The same of each text.
-fn expect_texts(rt: &impl Abort, alloc: Global, texts: &[(&[u8], &[u8])]) -> Result<(), Fail> {
+fn expect_texts(
+    rt: &impl Abort,
+    alloc: Global,
+    texts: &[(&[u8], &[u8])],
+) -> Result<(), ScriptFault> {
     for &(text, printed) in texts {
         expect_text(rt, alloc, text, printed)?;
     }
@@ -36,7 +59,7 @@ fn expect_texts(rt: &impl Abort, alloc: Global, texts: &[(&[u8], &[u8])]) -> Res
 }
 
 #[test]
-fn named_scripts_are_printed_and_read(rt: HostRuntime) -> Result<(), Fail> {
+fn named_scripts_are_printed_and_read(rt: HostRuntime) -> Result<(), ScriptFault> {
     expect_texts(
         &rt,
         rt.alloc(),
@@ -56,10 +79,8 @@ fn named_scripts_are_printed_and_read(rt: HostRuntime) -> Result<(), Fail> {
 
 /// Looks whether a text has this first faulty line.
 fn expect_fault(rt: &impl Abort, alloc: Global, text: &[u8], line: u64, kind: FaultKind) {
-    let Err(fault) = migrated(alloc, text) else {
-        panic!(rt; "no fault");
-    };
-    assert_eq!(rt; fault, ScriptFault::Bad { line, kind });
+    let found = migrated(alloc, text).err();
+    same(rt, found, Some(ScriptFault::Bad { line, kind }), text);
 }
 
 /// The same of each text.
@@ -196,95 +217,134 @@ fn drawn_call(state: &mut u64) -> Call {
     }
 }
 
-/// A script of so many calls with the names `a` and `ab`, the first of which the second begins with.
-fn drawn_script(alloc: Global, seed: u64, count: u32) -> Result<Named, Fail> {
-    let names = names_of(alloc, &[b"a", b"ab"])?;
+/// A script of so many calls.
+fn drawn_lines(alloc: Global, seed: u64, count: u32) -> Result<Script, OutOfMemory> {
     let mut script = Script::new(alloc);
     let mut state = seed;
     for _line in 0..count {
         let session = draw(&mut state, 4) as u32;
-        let call = drawn_call(&mut state);
-        script.push(Line::Call { session, call })?;
+        script.push(call(session, drawn_call(&mut state)))?;
     }
+    Ok(script)
+}
+
+/// The same with the names `a` and `ab`, the first of which the second begins with.
+fn drawn_script(alloc: Global, seed: u64, count: u32) -> Result<Named, OutOfMemory> {
+    let script = drawn_lines(alloc, seed, count)?;
+    let names = names_of(alloc, &[b"a", b"ab"])?;
     Ok(Named { names, script })
 }
 
+/// Looks whether a text is read as the lines of this script.
+fn is_read_as_script(
+    rt: &impl Abort,
+    alloc: Global,
+    text: &[u8],
+    script: &Script,
+) -> Result<(), ScriptFault> {
+    let lines = script.unpacked(alloc)?;
+    let read = parse_named(alloc, text, &Limits::default())?;
+    has_lines(rt, alloc, &read.script, lines.as_slice())?;
+    Ok(())
+}
+
+/// Looks whether a drawn script is read of its text, which is printed again.
+fn is_printed_and_read(rt: &impl Abort, alloc: Global, seed: u64) -> Result<(), ScriptFault> {
+    let drawn = drawn_script(alloc, seed, 50)?;
+    let text = printed(alloc, &drawn)?;
+    is_read_as_script(rt, alloc, text.as_slice(), &drawn.script)?;
+    expect_migrated(rt, alloc, text.as_slice(), text.as_slice())
+}
+
 #[test]
-fn drawn_scripts_are_printed_and_read(rt: HostRuntime) -> Result<(), Fail> {
-    let alloc = rt.alloc();
+fn drawn_scripts_are_printed_and_read(rt: HostRuntime) -> Result<(), ScriptFault> {
     for seed in 0..20 {
-        let drawn = drawn_script(alloc, seed, 50)?;
-        let text = print2(alloc, &drawn)?;
-        let read = parse_named(alloc, text.as_bytes(), &Limits::default())?;
-        assert_eq!(rt;
-            read.script.unpacked(alloc)?.as_slice(),
-            drawn.script.unpacked(alloc)?.as_slice()
-        );
-        assert_eq!(rt; print2(alloc, &read)?.as_bytes(), text.as_bytes());
+        is_printed_and_read(&rt, rt.alloc(), seed)?;
     }
     Ok(())
 }
 
 /// A text with a space before each newline, so that no line is in its plainest form.
-fn with_spaces(alloc: Global, text: &[u8]) -> Result<Text, Fail> {
-    let mut spaced = Text::new(alloc);
+fn with_spaces(alloc: Global, text: &[u8]) -> Result<Vec<u8>, OutOfMemory> {
+    let mut spaced = Vec::new(alloc);
     for byte in text {
         if *byte == b'\n' {
-            spaced.push_bytes(b" ")?;
+            spaced.push(b' ')?;
         }
-        spaced.push_bytes(&[*byte])?;
+        spaced.push(*byte)?;
     }
     Ok(spaced)
 }
 
 /// Looks whether a text is read by its bytes as it is by its words: as the same script, or with the same fault.
-fn expect_as_by_words(rt: &impl Abort, alloc: Global, text: &[u8]) -> Result<(), Fail> {
+fn expect_as_by_words(rt: &impl Abort, alloc: Global, text: &[u8]) -> Result<(), OutOfMemory> {
     let spaced = with_spaces(alloc, text)?;
-    match (migrated(alloc, text), migrated(alloc, spaced.as_bytes())) {
-        (Ok(one), Ok(other)) => assert_eq!(rt; one.as_bytes(), other.as_bytes()),
-        (Err(one), Err(other)) => assert_eq!(rt; one, other),
-        _ => panic!(rt; "read in one form alone"),
+    let by_words = migrated(alloc, spaced.as_slice());
+    same(rt, migrated(alloc, text), by_words, text);
+    Ok(())
+}
+
+/// The same for a text with one of its bytes changed to each of some.
+fn expect_changed_at(
+    rt: &impl Abort,
+    alloc: Global,
+    text: &[u8],
+    place: usize,
+) -> Result<(), OutOfMemory> {
+    for byte in b" \n=ab9_#".as_slice() {
+        let other = with_byte(alloc, text, place, *byte)?;
+        expect_as_by_words(rt, alloc, other.as_slice())?;
     }
     Ok(())
 }
 
 /// The same for a text with each of its bytes changed.
-fn expect_changed_as_by_words(rt: &impl Abort, alloc: Global, text: &[u8]) -> Result<(), Fail> {
+fn expect_changed_as_by_words(
+    rt: &impl Abort,
+    alloc: Global,
+    text: &[u8],
+) -> Result<(), OutOfMemory> {
     for place in 0..text.len() {
-        for byte in b" \n=ab9_#".as_slice() {
-            let other = with_byte(alloc, text, place, *byte)?;
-            expect_as_by_words(rt, alloc, other.as_slice())?;
-        }
+        expect_changed_at(rt, alloc, text, place)?;
     }
     Ok(())
 }
 
+/// The same for the text of a drawn script.
+fn expect_drawn_as_by_words(rt: &impl Abort, alloc: Global, seed: u64) -> Result<(), OutOfMemory> {
+    let drawn = drawn_script(alloc, seed, 12)?;
+    let text = printed(alloc, &drawn)?;
+    expect_changed_as_by_words(rt, alloc, text.as_slice())
+}
+
 #[test]
-fn each_changed_byte_is_read_as_by_words(rt: HostRuntime) -> Result<(), Fail> {
-    let alloc = rt.alloc();
+fn each_changed_byte_is_read_as_by_words(rt: HostRuntime) -> Result<(), OutOfMemory> {
     for seed in 0..3 {
-        let drawn = drawn_script(alloc, seed, 12)?;
-        let text = print2(alloc, &drawn)?;
-        expect_changed_as_by_words(&rt, alloc, text.as_bytes())?;
+        expect_drawn_as_by_words(&rt, rt.alloc(), seed)?;
     }
     expect_changed_as_by_words(
         &rt,
-        alloc,
+        rt.alloc(),
         b"0 begin\n0 insert 1 2 30\n0 update 1 _ 4\n1 find 1 7\n2 get 5\n3 sum 0\n0 asof 2\n0 delete 1\n2 scan\n0 commit\n",
     )
 }
 
+/// Looks whether a text has a fault, or is printed as a text that is printed as itself.
+fn expect_fault_or_text(rt: &impl Abort, alloc: Global, text: &[u8]) -> Result<(), ScriptFault> {
+    match migrated(alloc, text) {
+        Ok(printed) => expect_text(rt, alloc, text, printed.as_slice()),
+        Err(_) => Ok(()),
+    }
+}
+
 #[test]
-fn each_changed_byte_is_a_fault_or_printed_again(rt: HostRuntime) -> Result<(), Fail> {
-    let alloc = rt.alloc();
+fn each_changed_byte_is_a_fault_or_printed_again(rt: HostRuntime) -> Result<(), ScriptFault> {
     let text =
         b"version 2 a b\n0 begin\n0 insert 1 b=3\n0 update 1 a=null b=4\n1 find a 7\nmerge 1 b\n";
     for place in 0..text.len() {
         for byte in b" \n=a1_#".as_slice() {
-            let other = with_byte(alloc, text, place, *byte)?;
-            if let Ok(printed) = migrated(alloc, other.as_slice()) {
-                expect_text(&rt, alloc, other.as_slice(), printed.as_bytes())?;
-            }
+            let other = with_byte(rt.alloc(), text, place, *byte)?;
+            expect_fault_or_text(&rt, rt.alloc(), other.as_slice())?;
         }
     }
     Ok(())

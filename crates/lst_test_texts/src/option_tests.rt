@@ -1,5 +1,6 @@
 //! Words of command lines, and the limits, the time, the level, the disk or the load that they name.
 
+use crate::texts::same;
 use lst_layout::Limits;
 use lst_legal_runs::Level;
 use lst_model::OutOfMemory;
@@ -9,7 +10,6 @@ use lst_options::{
 };
 use std::alloc::Global;
 use std::process::Abort;
-use std::test::Fail;
 
 /// The words of a line, which spaces separate.
 fn words_of(alloc: Global, line: &str) -> Result<Vec<String>, OutOfMemory> {
@@ -32,46 +32,43 @@ fn load_of(alloc: Global, line: &str) -> Result<Option<LoadNumbers>, OutOfMemory
     load_of_words(alloc, words.as_slice())
 }
 
+/// The least of all limits.
+const LEAST: Limits = Limits {
+    columns: 1,
+    ranges: 1,
+    tails: 1,
+    sessions: 1,
+    txns: 1,
+    spare: 1,
+    indexed: 1,
+};
+
+/// The greatest of all limits.
+const GREATEST: Limits = Limits {
+    columns: 8,
+    ranges: 64,
+    tails: 16_384,
+    sessions: 16,
+    txns: 65_535,
+    spare: 64,
+    indexed: 128,
+};
+
 #[test]
-fn each_option_gives_its_limit(rt: HostRuntime) -> Result<(), Fail> {
-    let least = Limits {
-        columns: 1,
-        ranges: 1,
-        tails: 1,
-        sessions: 1,
-        txns: 1,
-        spare: 1,
-        indexed: 1,
-    };
-    let greatest = Limits {
-        columns: 8,
-        ranges: 64,
-        tails: 16_384,
-        sessions: 16,
-        txns: 65_535,
-        spare: 64,
-        indexed: 128,
-    };
-    for (line, wanted) in [
-        ("run", Limits::default()),
-        (
-            "run --columns 1 --ranges=1 --tails 01 --sessions 1 --txns 1 --spare=1 --index 0",
-            least,
-        ),
-        (
-            "run --index 7 --spare 64 --txns 65535 --sessions 16 --tails 16384 --ranges 64 --columns 8",
-            greatest,
-        ),
-    ] {
-        let found = limits_of(rt.alloc(), line)?;
-        assert_eq!(rt; found, Some(wanted), "{line}");
-    }
+fn each_option_gives_its_limit(rt: HostRuntime) -> Result<(), OutOfMemory> {
+    let found = limits_of(rt.alloc(), "run")?;
+    same(&rt, found, Some(Limits::default()), "none");
+    let line = "run --columns 1 --ranges=1 --tails 01 --sessions 1 --txns 1 --spare=1 --index 0";
+    same(&rt, limits_of(rt.alloc(), line)?, Some(LEAST), line);
+    let line =
+        "run --index 7 --spare 64 --txns 65535 --sessions 16 --tails 16384 --ranges 64 --columns 8";
+    same(&rt, limits_of(rt.alloc(), line)?, Some(GREATEST), line);
     Ok(())
 }
 
 #[test]
-fn other_words_name_no_limits(rt: HostRuntime) -> Result<(), Fail> {
-    for line in [
+fn other_words_name_no_limits(rt: HostRuntime) -> Result<(), OutOfMemory> {
+    for &line in &[
         "run --ranges 0",
         "run --ranges 65",
         "run --columns 9",
@@ -100,8 +97,7 @@ fn other_words_name_no_limits(rt: HostRuntime) -> Result<(), Fail> {
         "run --version",
         "run 1",
     ] {
-        let found = limits_of(rt.alloc(), line)?;
-        assert_eq!(rt; found, None, "{line}");
+        same(&rt, limits_of(rt.alloc(), line)?, None, line);
     }
     Ok(())
 }
@@ -118,36 +114,51 @@ fn filled(alloc: Global, form: &str, option: Named<'_>) -> Result<String, OutOfM
     Ok(line.replace(alloc, "BEYOND", beyond)?)
 }
 
+/// A line of an option names limits, or none.
+fn expect_form(
+    rt: &impl Abort,
+    alloc: Global,
+    option: Named<'_>,
+    form: &str,
+    is_taken: bool,
+) -> Result<(), OutOfMemory> {
+    let line = filled(alloc, form, option)?;
+    let found = limits_of(alloc, line.as_str())?;
+    same(rt, found.is_some(), is_taken, (option.0, form));
+    Ok(())
+}
+
+/// The forms of a line of an option, and whether it names limits.
+const FORMS: [(&str, bool); 16] = [
+    ("run --NAME LEAST", true),
+    ("run --NAME=LEAST", true),
+    ("run --NAME MOST", true),
+    ("run --NAME=000MOST", true),
+    ("run --NAME=MOST --", true),
+    ("run --NAME BEYOND", false),
+    ("run --NAME=BEYOND", false),
+    ("run --NAME 00000000000000000000MOST", false),
+    ("run --NAME", false),
+    ("run --NAME=", false),
+    ("run --NAME -MOST", false),
+    ("run --NAME MOST MOST", false),
+    ("run --NAME MOST --NAME=MOST", false),
+    ("run -NAME MOST", false),
+    ("run --NAMEs MOST", false),
+    ("run -- --NAME MOST", false),
+];
+
 /// Each line of an option names limits, or none.
-fn expect_each_form(rt: &impl Abort, alloc: Global, option: Named<'_>) -> Result<(), Fail> {
-    for (form, is_taken) in [
-        ("run --NAME LEAST", true),
-        ("run --NAME=LEAST", true),
-        ("run --NAME MOST", true),
-        ("run --NAME=000MOST", true),
-        ("run --NAME=MOST --", true),
-        ("run --NAME BEYOND", false),
-        ("run --NAME=BEYOND", false),
-        ("run --NAME 00000000000000000000MOST", false),
-        ("run --NAME", false),
-        ("run --NAME=", false),
-        ("run --NAME -MOST", false),
-        ("run --NAME MOST MOST", false),
-        ("run --NAME MOST --NAME=MOST", false),
-        ("run -NAME MOST", false),
-        ("run --NAMEs MOST", false),
-        ("run -- --NAME MOST", false),
-    ] {
-        let line = filled(alloc, form, option)?;
-        let found = limits_of(alloc, line.as_str())?;
-        assert_eq!(rt; found.is_some(), is_taken, "{line}");
+fn expect_each_form(rt: &impl Abort, alloc: Global, option: Named<'_>) -> Result<(), OutOfMemory> {
+    for &(form, is_taken) in &FORMS {
+        expect_form(rt, alloc, option, form, is_taken)?;
     }
     Ok(())
 }
 
 #[test]
-fn each_option_is_read_in_every_form(rt: HostRuntime) -> Result<(), Fail> {
-    for option in [
+fn each_option_is_read_in_every_form(rt: HostRuntime) -> Result<(), OutOfMemory> {
+    for &option in &[
         ("columns", "1", "8", "9"),
         ("ranges", "1", "64", "65"),
         ("tails", "1", "16384", "16385"),
@@ -161,41 +172,53 @@ fn each_option_is_read_in_every_form(rt: HostRuntime) -> Result<(), Fail> {
     Ok(())
 }
 
-/// The load of these numbers.
-fn numbers(seed: u64, keys: u32, sessions: u32) -> Option<LoadNumbers> {
-    Some(LoadNumbers {
+/// A line names the load of these numbers.
+fn loads(
+    rt: &impl Abort,
+    alloc: Global,
+    line: &str,
+    seed: u64,
+    keys: u32,
+    sessions: u32,
+) -> Result<(), OutOfMemory> {
+    let wanted = LoadNumbers {
         seed,
         keys,
         sessions,
-    })
+    };
+    same(rt, load_of(alloc, line)?, Some(wanted), line);
+    Ok(())
 }
 
 #[test]
-fn each_option_gives_its_number_of_a_load(rt: HostRuntime) -> Result<(), Fail> {
-    for (line, wanted) in [
-        ("load", numbers(1, 1_000, 4)),
-        ("load --", numbers(1, 1_000, 4)),
-        ("load --seed 7", numbers(7, 1_000, 4)),
-        ("load --keys=8", numbers(1, 8, 4)),
-        ("load --sessions 09", numbers(1, 1_000, 9)),
+fn each_option_gives_its_number_of_a_load(rt: HostRuntime) -> Result<(), OutOfMemory> {
+    for &(line, seed, keys, sessions) in &[
+        ("load", 1, 1_000, 4),
+        ("load --", 1, 1_000, 4),
+        ("load --seed 7", 7, 1_000, 4),
+        ("load --keys=8", 1, 8, 4),
+        ("load --sessions 09", 1, 1_000, 9),
         (
             "load --sessions 1 --keys 1 --seed=00000000000000000000",
-            numbers(0, 1, 1),
+            0,
+            1,
+            1,
         ),
         (
             "load --seed 18446744073709551615 --keys 4096 --sessions=16",
-            numbers(18_446_744_073_709_551_615, 4_096, 16),
+            18_446_744_073_709_551_615,
+            4_096,
+            16,
         ),
     ] {
-        let found = load_of(rt.alloc(), line)?;
-        assert_eq!(rt; found, wanted, "{line}");
+        loads(&rt, rt.alloc(), line, seed, keys, sessions)?;
     }
     Ok(())
 }
 
 #[test]
-fn other_words_name_no_load(rt: HostRuntime) -> Result<(), Fail> {
-    for line in [
+fn other_words_name_no_load(rt: HostRuntime) -> Result<(), OutOfMemory> {
+    for &line in &[
         "load x",
         "load 1",
         "load load",
@@ -220,15 +243,23 @@ fn other_words_name_no_load(rt: HostRuntime) -> Result<(), Fail> {
         "load -h",
         "load --version",
     ] {
-        let found = load_of(rt.alloc(), line)?;
-        assert_eq!(rt; found, None, "{line}");
+        same(&rt, load_of(rt.alloc(), line)?, None, line);
     }
     Ok(())
 }
 
+/// The ranges and the time that a line of words names.
+fn time_of(alloc: Global, line: &str) -> Result<Option<(u32, u64)>, OutOfMemory> {
+    let words = words_of(alloc, line)?;
+    match as_of_of_words(alloc, words.as_slice())? {
+        Some(options) => Ok(Some((options.limits.ranges, options.time))),
+        None => Ok(None),
+    }
+}
+
 #[test]
-fn time_is_named_beside_limits(rt: HostRuntime) -> Result<(), Fail> {
-    for (line, wanted) in [
+fn time_is_named_beside_limits(rt: HostRuntime) -> Result<(), OutOfMemory> {
+    for &(line, wanted) in &[
         ("asof", Some((4, 0))),
         ("asof --time 3 --ranges 2", Some((2, 3))),
         ("asof --time=18446744073709551615", Some((4, u64::MAX))),
@@ -238,19 +269,30 @@ fn time_is_named_beside_limits(rt: HostRuntime) -> Result<(), Fail> {
         ("asof --ranges 65", None),
         ("asof --seed 1", None),
     ] {
-        let words = words_of(rt.alloc(), line)?;
-        let found = as_of_of_words(rt.alloc(), words.as_slice())?;
-        assert_eq!(rt;
-            found.map(|options| (options.limits.ranges, options.time)),
-            wanted
-        );
+        same(&rt, time_of(rt.alloc(), line)?, wanted, line);
     }
     Ok(())
 }
 
+/// The ranges, and the numbers of a disk.
+type Disk = (u32, u32, bool, u32);
+
+/// The ranges and the disk that a line of words names.
+fn disk_of(alloc: Global, line: &str) -> Result<Option<Disk>, OutOfMemory> {
+    let words = words_of(alloc, line)?;
+    match crash_of_words(alloc, words.as_slice())? {
+        Some(options) => {
+            let disk = options.disk;
+            let ranges = options.limits.ranges;
+            Ok(Some((ranges, disk.stop, disk.torn, disk.bytes)))
+        }
+        None => Ok(None),
+    }
+}
+
 #[test]
-fn a_disk_is_named_beside_limits(rt: HostRuntime) -> Result<(), Fail> {
-    for (line, wanted) in [
+fn a_disk_is_named_beside_limits(rt: HostRuntime) -> Result<(), OutOfMemory> {
+    for &(line, wanted) in &[
         ("crash", Some((4, 1_000_000, false, 65_536))),
         (
             "crash --stop 4 --torn 1 --bytes 64 --ranges 2",
@@ -269,17 +311,7 @@ fn a_disk_is_named_beside_limits(rt: HostRuntime) -> Result<(), Fail> {
         ("crash --ranges 65", None),
         ("crash --time 1", None),
     ] {
-        let words = words_of(rt.alloc(), line)?;
-        let found = crash_of_words(rt.alloc(), words.as_slice())?;
-        assert_eq!(rt;
-            found.map(|options| (
-                options.limits.ranges,
-                options.disk.stop,
-                options.disk.torn,
-                options.disk.bytes
-            )),
-            wanted
-        );
+        same(&rt, disk_of(rt.alloc(), line)?, wanted, line);
     }
     Ok(())
 }
@@ -292,9 +324,18 @@ fn numbered(level: Level) -> u32 {
     }
 }
 
+/// The ranges and the level that a line of words names.
+fn level_of(alloc: Global, line: &str) -> Result<Option<(u32, u32)>, OutOfMemory> {
+    let words = words_of(alloc, line)?;
+    match level_of_words(alloc, words.as_slice())? {
+        Some(options) => Ok(Some((options.limits.ranges, numbered(options.level)))),
+        None => Ok(None),
+    }
+}
+
 #[test]
-fn level_is_named_beside_limits(rt: HostRuntime) -> Result<(), Fail> {
-    for (line, wanted) in [
+fn level_is_named_beside_limits(rt: HostRuntime) -> Result<(), OutOfMemory> {
+    for &(line, wanted) in &[
         ("check", Some((4, 1))),
         ("check --level 1", Some((4, 1))),
         ("check --level 2", Some((4, 2))),
@@ -313,20 +354,23 @@ fn level_is_named_beside_limits(rt: HostRuntime) -> Result<(), Fail> {
         ("check --level 2 --time 1", None),
         ("check level 2", None),
     ] {
-        let words = words_of(rt.alloc(), line)?;
-        let found = level_of_words(rt.alloc(), words.as_slice())?;
-        assert_eq!(rt;
-            found.map(|options| (options.limits.ranges, numbered(options.level))),
-            wanted,
-            "{line}"
-        );
+        same(&rt, level_of(rt.alloc(), line)?, wanted, line);
     }
     Ok(())
 }
 
+/// The columns that a line of words names.
+fn columns_of(alloc: Global, line: &str) -> Result<Option<u32>, OutOfMemory> {
+    let words = words_of(alloc, line)?;
+    match table_of_words(alloc, words.as_slice())? {
+        Some(limits) => Ok(Some(limits.columns)),
+        None => Ok(None),
+    }
+}
+
 #[test]
-fn columns_are_named_alone(rt: HostRuntime) -> Result<(), Fail> {
-    for (line, wanted) in [
+fn columns_are_named_alone(rt: HostRuntime) -> Result<(), OutOfMemory> {
+    for &(line, wanted) in &[
         ("import", Some(2)),
         ("import --columns 1", Some(1)),
         ("import --columns=8", Some(8)),
@@ -337,9 +381,7 @@ fn columns_are_named_alone(rt: HostRuntime) -> Result<(), Fail> {
         ("import --ranges 4", None),
         ("import table", None),
     ] {
-        let words = words_of(rt.alloc(), line)?;
-        let found = table_of_words(rt.alloc(), words.as_slice())?;
-        assert_eq!(rt; found.map(|limits| limits.columns), wanted, "{line}");
+        same(&rt, columns_of(rt.alloc(), line)?, wanted, line);
     }
     Ok(())
 }

@@ -1,14 +1,12 @@
 //! Texts with the scripts that they are, and each fault with its smallest line.
 
-use crate::fault_tests::{expect_all_first, expect_first};
-use crate::texts::row;
+use crate::fault_tests::{expect_all_first, expect_first, has_length};
+use crate::texts::{call, is_read_as, row, same};
 use arrayvec::ArrayVec;
-use lst_layout::Limits;
-use lst_model::{Call, Line, Patch};
-use lst_script::{FaultKind, parse};
+use lst_model::{Call, Line, OutOfMemory, Patch};
+use lst_script::{FaultKind, ScriptFault};
 use std::alloc::Global;
 use std::process::Abort;
-use std::test::Fail;
 
 fn patch(first: Option<u64>, second: Option<u64>) -> Patch {
     let mut cells = ArrayVec::new();
@@ -17,29 +15,16 @@ fn patch(first: Option<u64>, second: Option<u64>) -> Patch {
     Patch::of_numbers(cells)
 }
 
-fn call(session: u32, call: Call) -> Line {
-    Line::Call { session, call }
-}
-
-/// Looks whether a text is read as a script of no lines, under the limits that a store has by default.
-fn expect_no_lines(rt: &impl Abort, alloc: Global, text: &[u8]) {
-    let read = parse(alloc, text, &Limits::default());
-    assert_eq!(rt; read.map(|script| script.len()), Ok(0));
-}
-
-/// The same of each text.
+/// Looks whether each text is read as a script of no lines.
 fn expect_all_without_lines(rt: &impl Abort, alloc: Global, texts: &[&[u8]]) {
     for &text in texts {
-        expect_no_lines(rt, alloc, text);
+        has_length(rt, alloc, text, 0);
     }
 }
 
-#[test]
-fn every_built_line_is_read(rt: HostRuntime) -> Result<(), Fail> {
-    let text =
-        b"0 begin\n0 insert 7 10 20\r\n\n# note\n  3  get  007 \n1 asof 3\n0 update 7 _ 21\n0 delete 18446744073709551615\n0 sum 01\n1 count\n2 scan \r\n0 find 1 18446744073709551615\n0 commit\nphase\n2 abort";
-    let script = parse(rt.alloc(), text, &Limits::default())?;
-    let lines = [
+/// A line of each kind.
+fn built_lines() -> [Line; 13] {
+    [
         call(0, Call::Begin),
         call(
             0,
@@ -71,9 +56,14 @@ fn every_built_line_is_read(rt: HostRuntime) -> Result<(), Fail> {
         call(0, Call::Commit),
         Line::Phase,
         call(2, Call::Abort),
-    ];
-    assert_eq!(rt; script.unpacked(rt.alloc())?.as_slice(), lines.as_slice());
-    Ok(())
+    ]
+}
+
+#[test]
+fn every_built_line_is_read(rt: HostRuntime) -> Result<(), ScriptFault> {
+    let text =
+        b"0 begin\n0 insert 7 10 20\r\n\n# note\n  3  get  007 \n1 asof 3\n0 update 7 _ 21\n0 delete 18446744073709551615\n0 sum 01\n1 count\n2 scan \r\n0 find 1 18446744073709551615\n0 commit\nphase\n2 abort";
+    is_read_as(&rt, rt.alloc(), text, built_lines().as_slice())
 }
 
 #[test]
@@ -142,10 +132,9 @@ fn a_scan_has_its_words_and_a_column_below_the_limit(rt: HostRuntime) {
     );
 }
 
-#[test]
-fn a_merge_has_a_range_and_a_column_below_their_limits(rt: HostRuntime) -> Result<(), Fail> {
-    let script = parse(rt.alloc(), b"merge 3 01\r\nmerge  0 0", &Limits::default())?;
-    let lines = [
+/// A merge of the last range and column, and of the first ones.
+fn merges() -> [Line; 2] {
+    [
         Line::Merge {
             range: 3,
             column: 1,
@@ -154,8 +143,13 @@ fn a_merge_has_a_range_and_a_column_below_their_limits(rt: HostRuntime) -> Resul
             range: 0,
             column: 0,
         },
-    ];
-    assert_eq!(rt; script.unpacked(rt.alloc())?.as_slice(), lines.as_slice());
+    ]
+}
+
+#[test]
+fn a_merge_has_a_range_and_a_column_below_their_limits(rt: HostRuntime) -> Result<(), ScriptFault> {
+    let text = b"merge 3 01\r\nmerge  0 0";
+    is_read_as(&rt, rt.alloc(), text, merges().as_slice())?;
     expect_all_first(
         &rt,
         rt.alloc(),
@@ -198,7 +192,7 @@ fn lines_without_words_and_comments_are_skipped(rt: HostRuntime) {
 }
 
 /// A comment with this many bytes, and what follows it.
-fn comment(alloc: Global, length: usize, end: &[u8]) -> Result<Vec<u8>, Fail> {
+fn comment(alloc: Global, length: usize, end: &[u8]) -> Result<Vec<u8>, OutOfMemory> {
     let mut text = vec![in alloc; b'#'; length]?;
     text.extend_from_slice(end)?;
     Ok(text)
@@ -210,16 +204,20 @@ fn expect_skipped(
     alloc: Global,
     length: usize,
     ends: &[&[u8]],
-) -> Result<(), Fail> {
+) -> Result<(), OutOfMemory> {
     for &end in ends {
         let text = comment(alloc, length, end)?;
-        expect_no_lines(rt, alloc, text.as_slice());
+        has_length(rt, alloc, text.as_slice(), 0);
     }
     Ok(())
 }
 
 /// Looks whether each comment, of so many bytes and with its end, is too long.
-fn expect_refused(rt: &impl Abort, alloc: Global, texts: &[(usize, &[u8])]) -> Result<(), Fail> {
+fn expect_refused(
+    rt: &impl Abort,
+    alloc: Global,
+    texts: &[(usize, &[u8])],
+) -> Result<(), OutOfMemory> {
     for &(length, end) in texts {
         let text = comment(alloc, length, end)?;
         expect_first(rt, alloc, text.as_slice(), 1, FaultKind::LineTooLong);
@@ -228,7 +226,7 @@ fn expect_refused(rt: &impl Abort, alloc: Global, texts: &[(usize, &[u8])]) -> R
 }
 
 #[test]
-fn a_line_has_at_most_1024_bytes(rt: HostRuntime) -> Result<(), Fail> {
+fn a_line_has_at_most_1024_bytes(rt: HostRuntime) -> Result<(), OutOfMemory> {
     expect_skipped(&rt, rt.alloc(), 1024, &[b"", b"\r\n", b"\n", b"\r"])?;
     expect_refused(
         &rt,
@@ -245,7 +243,7 @@ fn a_line_has_at_most_1024_bytes(rt: HostRuntime) -> Result<(), Fail> {
 /// Looks whether each kind of fault has its text.
 fn expect_kind_texts(rt: &impl Abort, texts: &[(FaultKind, &str)]) {
     for &(kind, text) in texts {
-        assert_eq!(rt; kind.text(), text);
+        same(rt, kind.text(), text, kind);
     }
 }
 
