@@ -1,16 +1,8 @@
-//! Worked scripts on a store and its crew: each call with its reply.
-//!
-//! A script is a table of plain values, and one function makes its calls: the proof of a function grows faster than its calls.
-ghost use Rattle.std.specs.Prelude.{◌<◌, IsTrue};
-ghost use Rattle.lst_model.specs.Lines.{CallFits};
-ghost use Rattle.lst_session.specs.Crews.{IsCrewOf, TellsState};
-ghost use Rattle.lst_session.specs.Replies.{IsCrewCall};
+//! Worked scripts on a store and its crew: each line with its reply.
 
-use crate::values::{Asked, Told, call_of, reply_of, row};
+use crate::scripts::{By, Crewed, Step, open, play, puts, row, run, same};
 use lst_layout::Limits;
-use lst_model::{Act, Call, Cause, History, Key, Line, OutOfMemory, Patch, Reply, Row, Time};
-use lst_rule::Store;
-use lst_session::{Crew, open_crew};
+use lst_model::{Act, Commit, History, OutOfMemory, Write};
 use std::alloc::Global;
 use std::process::Abort;
 use std::test::Fail;
@@ -26,425 +18,260 @@ const SMALL: Limits = Limits {
     indexed: 0,
 };
 
-/// A store with its crew.
-#[derive(Drop)]
-struct Pair {
-    store: Store,
-    crew: Crew,
-    ghost own: { IsCrewOf store crew × TellsState crew.seat.view },
-}
+/// Session 0 commits a row.
+const PUTS_A_ROW: &[Step] = &[
+    ("0 begin", "0 begun 0"),
+    ("0 insert 7 a=10 b=20", "0 ok"),
+    ("0 commit", "0 committed 1"),
+];
 
-/// A session by its number, its call, and the reply.
-pub(crate) type Step<'a> = (u32, Asked, Told<'a>);
-
-/// Whether the crew takes a session's call.
-pub(crate) fn fits(limits: &Limits, session: u32, call: &Call) -> bool
-    ensures { IsTrue result → (session < limits.now.sessions) × CallFits limits.now.columns call.now × IsCrewCall call.now }
-{
-    if session >= limits.sessions {
-        return false;
-    }
-    let columns = limits.columns as usize;
-    match call {
-        Call::Insert { row, .. } => row.len() == columns,
-        Call::Update { patch, .. } => { patch.len() == columns && patch.sets_some() }
-        Call::Sum { .. } | Call::Count | Call::Scan | Call::Find { .. } => false,
-        _ => true,
-    }
-}
-
-fn opened(alloc: Global, limits: Limits) -> Result<Pair, Fail> {
-    let Ok(layout) = limits.check() else {
-        return Err(Fail::from("the limits are in range"));
-    };
-    let (store, crew) = open_crew(alloc, &layout)?;
-    Ok(Pair { store, crew })
-}
-
-/// The reply to a session's call.
-fn answer(rt: &impl Abort, pair: &mut Pair, session: u32, call: Call) -> Result<Reply, Fail> {
-    assert!(rt; fits(pair.crew.seat.limits(), session, &call));
-    Ok(pair.crew.line(&pair.store, &Line::Call { session, call })?)
-}
-
-/// The calls of a script, and their replies compared.
-fn play(rt: &(impl Abort + AllocGlobal), pair: &mut Pair, script: &[Step<'_>]) -> Result<(), Fail> {
-    for (at, &(session, asked, told)) in script.iter().enumerate() {
-        let reply = answer(rt, pair, session, call_of(asked))?;
-        let wanted = reply_of(rt.alloc(), told)?;
-        assert_eq!(rt; reply, wanted, "at step {at}");
-    }
-    Ok(())
-}
-
-/// The same on a new store.
-fn run(
-    rt: &(impl Abort + AllocGlobal),
-    alloc: Global,
-    limits: Limits,
-    script: &[Step<'_>],
-) -> Result<(), Fail> {
-    let mut pair = opened(alloc, limits)?;
-    play(rt, &mut pair, script)
-}
-
-/// The reply to a merge.
-fn merge(rt: &impl Abort, pair: &mut Pair, range: u32, column: u32) -> Result<Reply, Fail> {
-    let limits = pair.crew.seat.limits();
-    assert!(rt; range < limits.ranges && column < limits.columns);
-    Ok(pair.crew.line(&pair.store, &Line::Merge { range, column })?)
-}
-
-/// Merges of columns of the one range, in order, and their replies compared.
-fn merge_each(
-    rt: &(impl Abort + AllocGlobal),
-    pair: &mut Pair,
-    columns: &[(u32, Told<'_>)],
-) -> Result<(), Fail> {
-    for &(column, told) in columns {
-        let reply = merge(rt, pair, 0, column)?;
-        let wanted = reply_of(rt.alloc(), told)?;
-        assert_eq!(rt; reply, wanted, "at column {column}");
-    }
-    Ok(())
-}
-
-/// A new store in which session 0 has committed a row.
-fn with_a_row(rt: &(impl Abort + AllocGlobal), alloc: Global) -> Result<Pair, Fail> {
-    let mut pair = opened(alloc, SMALL)?;
-    play(
-        rt,
-        &mut pair,
-        &[
-            (0, Asked::Begin, Told::Begun(0)),
-            (0, Asked::Insert(7, Some(10), Some(20)), Told::Done),
-            (0, Asked::Commit, Told::Committed(1)),
-        ],
-    )?;
-    Ok(pair)
-}
-
-fn history(alloc: Global, pair: &mut Pair) -> Result<History, OutOfMemory> {
-    pair.crew.history(alloc, &pair.store)
-}
+const READS: &[Step] = &[
+    ("0 begin", "0 begun 0"),
+    ("0 insert 7 a=10 b=20", "0 ok"),
+    ("0 get 7", "0 row 10 20"),
+    ("0 commit", "0 committed 1"),
+    ("1 begin", "1 begun 1"),
+    ("1 get 7", "1 row 10 20"),
+];
 
 #[test]
 fn a_row_is_inserted_and_read(rt: HostRuntime) -> Result<(), Fail> {
-    run(
-        &rt,
-        rt.alloc(),
-        SMALL,
-        &[
-            (0, Asked::Begin, Told::Begun(0)),
-            (0, Asked::Insert(7, Some(10), Some(20)), Told::Done),
-            (0, Asked::Get(7), Told::Row(Some(10), Some(20))),
-            (0, Asked::Commit, Told::Committed(1)),
-            (1, Asked::Begin, Told::Begun(1)),
-            (1, Asked::Get(7), Told::Row(Some(10), Some(20))),
-        ],
-    )
+    run(&rt, &SMALL, By::Crew, READS)
 }
+
+const NEWER: &[Step] = &[
+    ("0 begin", "0 begun 0"),
+    ("0 insert 7 a=10 b=20", "0 ok"),
+    ("0 commit", "0 committed 1"),
+    ("0 begin", "0 begun 1"),
+    ("1 begin", "1 begun 1"),
+    ("0 update 7 a=11", "0 ok"),
+    ("0 commit", "0 committed 2"),
+    ("1 get 7", "1 row 10 20"),
+    ("1 update 7 b=21", "1 conflict newer 2"),
+    ("1 commit", "1 ended 1"),
+];
 
 #[test]
 fn a_newer_commit_is_a_conflict(rt: HostRuntime) -> Result<(), Fail> {
-    run(
-        &rt,
-        rt.alloc(),
-        SMALL,
-        &[
-            (0, Asked::Begin, Told::Begun(0)),
-            (0, Asked::Insert(7, Some(10), Some(20)), Told::Done),
-            (0, Asked::Commit, Told::Committed(1)),
-            (0, Asked::Begin, Told::Begun(1)),
-            (1, Asked::Begin, Told::Begun(1)),
-            (0, Asked::Update(7, Some(11), None), Told::Done),
-            (0, Asked::Commit, Told::Committed(2)),
-            (1, Asked::Get(7), Told::Row(Some(10), Some(20))),
-            (
-                1,
-                Asked::Update(7, None, Some(21)),
-                Told::Refused(Cause::Newer { time: 2 }),
-            ),
-            (1, Asked::Commit, Told::Ended(1)),
-        ],
-    )
+    run(&rt, &SMALL, By::Crew, NEWER)
 }
+
+const OPEN_WRITE: &[Step] = &[
+    ("0 begin", "0 begun 0"),
+    ("0 insert 7 a=10 b=20", "0 ok"),
+    ("0 commit", "0 committed 1"),
+    ("0 begin", "0 begun 1"),
+    ("1 begin", "1 begun 1"),
+    ("0 update 7 a=11", "0 ok"),
+    ("1 update 7 b=21", "1 conflict open 0 2"),
+    ("0 abort", "0 aborted"),
+    ("1 update 7 b=21", "1 ok"),
+    ("1 commit", "1 committed 2"),
+    ("1 begin", "1 begun 2"),
+    ("1 get 7", "1 row 10 21"),
+];
 
 #[test]
 fn an_open_write_is_a_conflict_until_its_abort(rt: HostRuntime) -> Result<(), Fail> {
-    run(
-        &rt,
-        rt.alloc(),
-        SMALL,
-        &[
-            (0, Asked::Begin, Told::Begun(0)),
-            (0, Asked::Insert(7, Some(10), Some(20)), Told::Done),
-            (0, Asked::Commit, Told::Committed(1)),
-            (0, Asked::Begin, Told::Begun(1)),
-            (1, Asked::Begin, Told::Begun(1)),
-            (0, Asked::Update(7, Some(11), None), Told::Done),
-            (
-                1,
-                Asked::Update(7, None, Some(21)),
-                Told::Refused(Cause::Unfinished {
-                    session: 0,
-                    number: 2,
-                }),
-            ),
-            (0, Asked::Abort, Told::Aborted),
-            (1, Asked::Update(7, None, Some(21)), Told::Done),
-            (1, Asked::Commit, Told::Committed(2)),
-            (1, Asked::Begin, Told::Begun(2)),
-            (1, Asked::Get(7), Told::Row(Some(10), Some(21))),
-        ],
-    )
+    run(&rt, &SMALL, By::Crew, OPEN_WRITE)
 }
+
+const EACH_TIME: &[Step] = &[
+    ("0 begin", "0 begun 0"),
+    ("0 insert 7 a=10 b=20", "0 ok"),
+    ("0 commit", "0 committed 1"),
+    ("0 begin", "0 begun 1"),
+    ("0 delete 7", "0 ok"),
+    ("0 commit", "0 committed 2"),
+    ("0 begin", "0 begun 2"),
+    ("0 insert 7 a=30 b=40", "0 ok"),
+    ("0 commit", "0 committed 3"),
+    ("1 asof 1", "1 begun 1"),
+    ("1 get 7", "1 row 10 20"),
+    ("1 commit", "1 ended 1"),
+    ("1 asof 2", "1 begun 2"),
+    ("1 get 7", "1 none"),
+    ("1 commit", "1 ended 2"),
+    ("1 begin", "1 begun 3"),
+    ("1 get 7", "1 row 30 40"),
+];
 
 #[test]
 fn each_time_has_its_row(rt: HostRuntime) -> Result<(), Fail> {
-    run(
-        &rt,
-        rt.alloc(),
-        SMALL,
-        &[
-            (0, Asked::Begin, Told::Begun(0)),
-            (0, Asked::Insert(7, Some(10), Some(20)), Told::Done),
-            (0, Asked::Commit, Told::Committed(1)),
-            (0, Asked::Begin, Told::Begun(1)),
-            (0, Asked::Delete(7), Told::Done),
-            (0, Asked::Commit, Told::Committed(2)),
-            (0, Asked::Begin, Told::Begun(2)),
-            (0, Asked::Insert(7, Some(30), Some(40)), Told::Done),
-            (0, Asked::Commit, Told::Committed(3)),
-            (1, Asked::AsOf(1), Told::Begun(1)),
-            (1, Asked::Get(7), Told::Row(Some(10), Some(20))),
-            (1, Asked::Commit, Told::Ended(1)),
-            (1, Asked::AsOf(2), Told::Begun(2)),
-            (1, Asked::Get(7), Told::Absent),
-            (1, Asked::Commit, Told::Ended(2)),
-            (1, Asked::Begin, Told::Begun(3)),
-            (1, Asked::Get(7), Told::Row(Some(30), Some(40))),
-        ],
-    )
+    run(&rt, &SMALL, By::Crew, EACH_TIME)
 }
+
+const MISFITS: &[Step] = &[
+    ("0 begin", "0 begun 0"),
+    ("0 insert 7 a=1 b=1", "0 ok"),
+    ("0 insert 7 a=1 b=1", "0 refused exists"),
+    ("0 update 9 a=1", "0 refused missing"),
+    ("0 delete 7", "0 ok"),
+    ("0 update 7 a=1", "0 refused missing"),
+];
 
 #[test]
 fn a_write_that_does_not_fit_is_refused(rt: HostRuntime) -> Result<(), Fail> {
-    run(
-        &rt,
-        rt.alloc(),
-        SMALL,
-        &[
-            (0, Asked::Begin, Told::Begun(0)),
-            (0, Asked::Insert(7, Some(1), Some(1)), Told::Done),
-            (
-                0,
-                Asked::Insert(7, Some(1), Some(1)),
-                Told::Refused(Cause::Exists),
-            ),
-            (
-                0,
-                Asked::Update(9, Some(1), None),
-                Told::Refused(Cause::Missing),
-            ),
-            (0, Asked::Delete(7), Told::Done),
-            (
-                0,
-                Asked::Update(7, Some(1), None),
-                Told::Refused(Cause::Missing),
-            ),
-        ],
-    )
+    run(&rt, &SMALL, By::Crew, MISFITS)
 }
+
+const IN_TURN: &[Step] = &[
+    ("0 get 7", "0 refused idle"),
+    ("0 commit", "0 refused idle"),
+    ("0 begin", "0 begun 0"),
+    ("0 begin", "0 refused active"),
+    ("0 abort", "0 aborted"),
+    ("0 asof 0", "0 begun 0"),
+    ("0 insert 1 a=1 b=1", "0 refused readonly"),
+    ("0 commit", "0 ended 0"),
+    ("0 asof 1", "0 refused future 0"),
+];
 
 #[test]
 fn transactions_open_and_end_in_turn(rt: HostRuntime) -> Result<(), Fail> {
-    run(
-        &rt,
-        rt.alloc(),
-        SMALL,
-        &[
-            (0, Asked::Get(7), Told::Refused(Cause::Idle)),
-            (0, Asked::Commit, Told::Refused(Cause::Idle)),
-            (0, Asked::Begin, Told::Begun(0)),
-            (0, Asked::Begin, Told::Refused(Cause::Active)),
-            (0, Asked::Abort, Told::Aborted),
-            (0, Asked::AsOf(0), Told::Begun(0)),
-            (
-                0,
-                Asked::Insert(1, Some(1), Some(1)),
-                Told::Refused(Cause::ReadOnly),
-            ),
-            (0, Asked::Commit, Told::Ended(0)),
-            (0, Asked::AsOf(1), Told::Refused(Cause::Future { clock: 0 })),
-        ],
-    )
+    run(&rt, &SMALL, By::Crew, IN_TURN)
 }
+
+const SPENT: &[Step] = &[
+    ("0 begin", "0 begun 0"),
+    ("0 insert 7 a=10 b=20", "0 ok"),
+    ("0 commit", "0 committed 1"),
+    ("0 begin", "0 refused spent"),
+];
 
 #[test]
 fn transactions_of_a_session_are_spent(rt: HostRuntime) -> Result<(), Fail> {
-    let limits = Limits { txns: 1, ..SMALL };
-    run(
-        &rt,
-        rt.alloc(),
-        limits,
-        &[
-            (0, Asked::Begin, Told::Begun(0)),
-            (0, Asked::Insert(7, Some(10), Some(20)), Told::Done),
-            (0, Asked::Commit, Told::Committed(1)),
-            (0, Asked::Begin, Told::Refused(Cause::Spent)),
-        ],
-    )
+    run(&rt, &Limits { txns: 1, ..SMALL }, By::Crew, SPENT)
 }
+
+const TAIL_FULL: &[Step] = &[
+    ("0 begin", "0 begun 0"),
+    ("0 insert 1 a=1 b=1", "0 ok"),
+    ("0 insert 2 a=2 b=2", "0 full tail"),
+    ("0 commit", "0 committed 1"),
+];
 
 #[test]
 fn a_range_is_full_of_writes(rt: HostRuntime) -> Result<(), Fail> {
-    let limits = Limits { tails: 1, ..SMALL };
-    run(
-        &rt,
-        rt.alloc(),
-        limits,
-        &[
-            (0, Asked::Begin, Told::Begun(0)),
-            (0, Asked::Insert(1, Some(1), Some(1)), Told::Done),
-            (
-                0,
-                Asked::Insert(2, Some(2), Some(2)),
-                Told::Refused(Cause::TailFull),
-            ),
-            (0, Asked::Commit, Told::Committed(1)),
-        ],
-    )
+    run(&rt, &Limits { tails: 1, ..SMALL }, By::Crew, TAIL_FULL)
 }
+
+const TABLE_FULL: &[Step] = &[("0 insert 257 a=1 b=1", "0 full table")];
 
 #[test]
 fn a_table_of_one_range_has_256_keys(rt: HostRuntime) -> Result<(), Fail> {
-    let mut pair = opened(rt.alloc(), SMALL)?;
-    play(&rt, &mut pair, &[(0, Asked::Begin, Told::Begun(0))])?;
+    let mut on = open(rt.alloc(), &SMALL, By::Crew)?;
+    play(&rt, &mut on, &[("0 begin", "0 begun 0")])?;
     for key in 1..257 {
-        play(
-            &rt,
-            &mut pair,
-            &[(0, Asked::Insert(key, Some(1), Some(1)), Told::Done)],
-        )?;
+        puts(&rt, &mut on, key, Some(1), Some(1))?;
     }
-    let full = Told::Refused(Cause::TableFull);
-    play(
-        &rt,
-        &mut pair,
-        &[(0, Asked::Insert(257, Some(1), Some(1)), full)],
-    )
+    play(&rt, &mut on, TABLE_FULL)
+}
+
+fn history(alloc: Global, on: &mut Crewed) -> Result<History, OutOfMemory> {
+    on.crew.history(alloc, &on.store)
+}
+
+/// The write puts that row.
+fn is_the_write(rt: &impl Abort, write: &Write) {
+    let act = Act::Put(row(Some(10), Some(20)));
+    assert_eq!(rt; write.key, 7);
+    assert_eq!(rt; &write.act, &act);
+}
+
+/// The commit is that of session 0, and has the one write.
+fn is_the_commit(rt: &impl Abort, commit: &Commit) -> Result<(), Fail> {
+    same(
+        rt,
+        (commit.session, commit.number, commit.begin),
+        (0, 1, 0),
+        0,
+    );
+    let [write] = commit.writes.items() else {
+        return Err(Fail::from("the commit has one write"));
+    };
+    is_the_write(rt, write);
+    Ok(())
 }
 
 #[test]
 fn a_history_has_the_one_commit(rt: HostRuntime) -> Result<(), Fail> {
-    let mut pair = with_a_row(&rt, rt.alloc())?;
-    let all = history(rt.alloc(), &mut pair)?;
+    let mut on = open(rt.alloc(), &SMALL, By::Crew)?;
+    play(&rt, &mut on, PUTS_A_ROW)?;
+    let all = history(rt.alloc(), &mut on)?;
     let [only] = all.items() else {
         return Err(Fail::from("the history has one commit"));
     };
-    assert_eq!(rt; (only.session, only.number, only.begin), (0, 1, 0));
-    let [write] = only.writes.items() else {
-        return Err(Fail::from("the commit has one write"));
-    };
-    assert_eq!(rt; write.key, 7);
-    assert_eq!(rt; &write.act, &Act::Put(row(Some(10), Some(20))));
-    Ok(())
+    is_the_commit(&rt, only)
 }
+
+const MERGES_SETTLED: &[Step] = &[
+    ("0 begin", "0 begun 0"),
+    ("0 insert 7 a=10 b=20", "0 ok"),
+    ("0 commit", "0 committed 1"),
+    ("merge 0 b", "merged 1"),
+    ("merge 0 b", "idle 1"),
+    ("1 begin", "1 begun 1"),
+    ("1 update 7 a=11", "1 ok"),
+    // The write of an open transaction ends the run.
+    ("merge 0 a", "merged 1"),
+    ("merge 0 a", "idle 1"),
+    ("1 get 7", "1 row 11 20"),
+    ("1 commit", "1 committed 2"),
+    ("merge 0 a", "merged 2"),
+    ("merge 0 b", "merged 2"),
+    ("2 begin", "2 begun 2"),
+    ("2 get 7", "2 row 11 20"),
+];
 
 #[test]
 fn a_merge_takes_in_the_settled_writes_of_a_range(rt: HostRuntime) -> Result<(), Fail> {
-    let mut pair = with_a_row(&rt, rt.alloc())?;
-    merge_each(
-        &rt,
-        &mut pair,
-        &[(1, Told::Merged(1)), (1, Told::NothingNew(1))],
-    )?;
-    play(
-        &rt,
-        &mut pair,
-        &[
-            (1, Asked::Begin, Told::Begun(1)),
-            (1, Asked::Update(7, Some(11), None), Told::Done),
-        ],
-    )?;
-    // The write of an open transaction ends the run.
-    merge_each(
-        &rt,
-        &mut pair,
-        &[(0, Told::Merged(1)), (0, Told::NothingNew(1))],
-    )?;
-    play(
-        &rt,
-        &mut pair,
-        &[
-            (1, Asked::Get(7), Told::Row(Some(11), Some(20))),
-            (1, Asked::Commit, Told::Committed(2)),
-        ],
-    )?;
-    merge_each(
-        &rt,
-        &mut pair,
-        &[(0, Told::Merged(2)), (1, Told::Merged(2))],
-    )?;
-    play(
-        &rt,
-        &mut pair,
-        &[
-            (2, Asked::Begin, Told::Begun(2)),
-            (2, Asked::Get(7), Told::Row(Some(11), Some(20))),
-        ],
-    )
+    run(&rt, &SMALL, By::Crew, MERGES_SETTLED)
 }
+
+const READS_MERGED: &[Step] = &[
+    ("0 begin", "0 begun 0"),
+    ("0 insert 7 a=10 b=20", "0 ok"),
+    ("0 commit", "0 committed 1"),
+    ("1 begin", "1 begun 1"),
+    ("1 update 7 b=21", "1 ok"),
+    ("1 insert 8 a=30 b=40", "1 ok"),
+    ("1 commit", "1 committed 2"),
+    ("2 begin", "2 begun 2"),
+    ("2 delete 8", "2 ok"),
+    ("2 commit", "2 committed 3"),
+    ("merge 0 a", "merged 4"),
+    ("merge 0 b", "merged 4"),
+    ("0 begin", "0 begun 3"),
+    ("0 get 7", "0 row 10 21"),
+    ("0 get 8", "0 none"),
+    // A begin below an entry's time is answered along the chain.
+    ("1 asof 2", "1 begun 2"),
+    ("1 get 7", "1 row 10 21"),
+    ("1 get 8", "1 row 30 40"),
+    ("2 asof 1", "2 begun 1"),
+    ("2 get 7", "2 row 10 20"),
+    ("2 get 8", "2 none"),
+];
 
 #[test]
 fn merged_rows_are_read(rt: HostRuntime) -> Result<(), Fail> {
-    let mut pair = with_a_row(&rt, rt.alloc())?;
-    play(
-        &rt,
-        &mut pair,
-        &[
-            (1, Asked::Begin, Told::Begun(1)),
-            (1, Asked::Update(7, None, Some(21)), Told::Done),
-            (1, Asked::Insert(8, Some(30), Some(40)), Told::Done),
-            (1, Asked::Commit, Told::Committed(2)),
-            (2, Asked::Begin, Told::Begun(2)),
-            (2, Asked::Delete(8), Told::Done),
-            (2, Asked::Commit, Told::Committed(3)),
-        ],
-    )?;
-    merge_each(
-        &rt,
-        &mut pair,
-        &[(0, Told::Merged(4)), (1, Told::Merged(4))],
-    )?;
-    play(
-        &rt,
-        &mut pair,
-        &[
-            (0, Asked::Begin, Told::Begun(3)),
-            (0, Asked::Get(7), Told::Row(Some(10), Some(21))),
-            (0, Asked::Get(8), Told::Absent),
-            // A begin below an entry's time is answered along the chain.
-            (1, Asked::AsOf(2), Told::Begun(2)),
-            (1, Asked::Get(7), Told::Row(Some(10), Some(21))),
-            (1, Asked::Get(8), Told::Row(Some(30), Some(40))),
-            (2, Asked::AsOf(1), Told::Begun(1)),
-            (2, Asked::Get(7), Told::Row(Some(10), Some(20))),
-            (2, Asked::Get(8), Told::Absent),
-        ],
-    )
+    run(&rt, &SMALL, By::Crew, READS_MERGED)
 }
+
+const HOLDS_THE_FRAME: &[Step] = &[
+    ("0 begin", "0 begun 0"),
+    ("0 insert 7 a=10 b=20", "0 ok"),
+    ("0 commit", "0 committed 1"),
+    ("1 begin", "1 begun 1"),
+    ("merge 0 a", "merged 1"),
+    ("merge 0 b", "noframe 1"),
+    ("1 commit", "1 ended 1"),
+    ("merge 0 b", "merged 1"),
+];
 
 #[test]
 fn an_open_transaction_holds_the_one_spare_frame(rt: HostRuntime) -> Result<(), Fail> {
-    let mut pair = with_a_row(&rt, rt.alloc())?;
-    play(&rt, &mut pair, &[(1, Asked::Begin, Told::Begun(1))])?;
-    merge_each(
-        &rt,
-        &mut pair,
-        &[(0, Told::Merged(1)), (1, Told::NoFrame(1))],
-    )?;
-    play(&rt, &mut pair, &[(1, Asked::Commit, Told::Ended(1))])?;
-    merge_each(&rt, &mut pair, &[(1, Told::Merged(1))])
+    run(&rt, &SMALL, By::Crew, HOLDS_THE_FRAME)
 }

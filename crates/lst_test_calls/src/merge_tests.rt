@@ -5,15 +5,13 @@ ghost use Rattle.lst_rule.specs.Rule.{hosts};
 ghost use Rattle.lst_rule.specs.Stores.{IsSeatOf};
 ghost use Rattle.lst_session.specs.Crews.{IsCrewOf};
 
-use crate::crew_tests::{Step, fits};
-use crate::values::{Asked, Told, call_of, reply_of};
+use crate::scripts::{By, Crewed, Step, open, play, same};
 use lst_core_state::Retired;
 use lst_layout::{FRAME_TIMES, FRAME_VALUES, Limits};
 use lst_merge::{Run, build, run_end, swap};
-use lst_model::{Call, Line, Reply};
 use lst_retire::{Held, free_frame};
 use lst_rule::{Seat, Store, load};
-use lst_session::{Crew, Merge, open_crew};
+use lst_session::{Crew, Merge};
 use std::alloc::Global;
 use std::process::Abort;
 use std::test::Fail;
@@ -29,49 +27,21 @@ const LIMITS: Limits = Limits {
     indexed: 0,
 };
 
-/// A store with its crew.
-#[derive(Drop)]
-struct Hand {
-    store: Store,
-    crew: Crew,
-    ghost own: { IsCrewOf store crew },
-}
-
-fn opened(alloc: Global) -> Result<Hand, Fail> {
-    let limits = LIMITS;
-    let Ok(layout) = limits.check() else {
-        return Err(Fail::from("the limits are in range"));
-    };
-    let (store, crew) = open_crew(alloc, &layout)?;
-    Ok(Hand { store, crew })
-}
-
-/// The reply to a session's call.
-fn answer(rt: &impl Abort, hand: &mut Hand, session: u32, call: Call) -> Result<Reply, Fail> {
-    assert!(rt; fits(hand.crew.seat.limits(), session, &call));
-    Ok(hand.crew.line(&hand.store, &Line::Call { session, call })?)
-}
-
-/// The calls of a script, and their replies compared.
-fn play(rt: &(impl Abort + AllocGlobal), hand: &mut Hand, script: &[Step<'_>]) -> Result<(), Fail> {
-    for (at, &(session, asked, told)) in script.iter().enumerate() {
-        let reply = answer(rt, hand, session, call_of(asked))?;
-        let wanted = reply_of(rt.alloc(), told)?;
-        assert_eq!(rt; reply, wanted, "at step {at}");
-    }
-    Ok(())
+fn opened(alloc: Global) -> Result<Crewed, Fail> {
+    open(alloc, &LIMITS, By::Crew)
 }
 
 /// The run of the first page.
-fn run_of(rt: &impl Abort, hand: &mut Hand) -> Run {
-    let limits = hand.crew.seat.limits();
+fn run_of(rt: &impl Abort, on: &mut Crewed) -> Run {
+    let limits = on.crew.seat.limits();
     assert!(rt; 0 < limits.ranges && 0 < limits.columns);
-    run_by_hand(&hand.store, &mut hand.crew)
+    run_by_hand(&on.store, &mut on.crew)
 }
 
 /// The same, compared.
-fn runs(rt: &impl Abort, hand: &mut Hand, tps: u32, end: u32) {
-    assert_eq!(rt; run_of(rt, hand), Run { tps, end });
+fn runs(rt: &impl Abort, on: &mut Crewed, tps: u32, end: u32) {
+    let run = run_of(rt, on);
+    same(rt, run, Run { tps, end }, u64::from(end));
 }
 
 fn run_by_hand(store: &Store, crew: &mut Crew) -> Run
@@ -82,9 +52,10 @@ fn run_by_hand(store: &Store, crew: &mut Crew) -> Run
     run_end(store, &mut crew.seat, 0, 0)
 }
 
-/// The frame that is free to be built in, or the session that holds it.
-fn freed(hand: &mut Hand) -> Result<u32, Held> {
-    free_by_hand(&hand.store, &mut hand.crew)
+/// The frame that is free to be built in, or the session that holds it, compared.
+fn frees(rt: &impl Abort, on: &mut Crewed, wanted: Result<u32, Held>) {
+    let freed = free_by_hand(&on.store, &mut on.crew);
+    same(rt, freed, wanted, 0);
 }
 
 fn free_by_hand(store: &Store, crew: &mut Crew) -> Result<u32, Held>
@@ -95,16 +66,17 @@ fn free_by_hand(store: &Store, crew: &mut Crew) -> Result<u32, Held>
 }
 
 /// Merges the first page, and tells its run, and the frame that it has then. None where there is nothing to merge, or no frame.
-fn merged(rt: &impl Abort, hand: &mut Hand) -> Option<(Run, u32)> {
-    let limits = hand.crew.seat.limits();
+fn merged(rt: &impl Abort, on: &mut Crewed) -> Option<(Run, u32)> {
+    let limits = on.crew.seat.limits();
     assert!(rt; 0 < limits.ranges && 0 < limits.columns);
-    merged_by_hand(&hand.store, &mut hand.crew)
+    merged_by_hand(&on.store, &mut on.crew)
 }
 
 /// The same, compared: the run begins behind no tail.
-fn merges(rt: &impl Abort, hand: &mut Hand, end: u32, frame: u32) {
+fn merges(rt: &impl Abort, on: &mut Crewed, end: u32, frame: u32) {
     let run = Run { tps: 0, end };
-    assert_eq!(rt; merged(rt, hand), Some((run, frame)));
+    let merged = merged(rt, on);
+    same(rt, merged, Some((run, frame)), u64::from(end));
 }
 
 fn merged_by_hand(store: &Store, crew: &mut Crew) -> Option<(Run, u32)>
@@ -127,11 +99,12 @@ fn merged_by_hand(store: &Store, crew: &mut Crew) -> Option<(Run, u32)>
     }
 }
 
-/// What a merge of the first page comes to.
-fn answer_of(rt: &impl Abort, hand: &mut Hand) -> Merge {
-    let limits = hand.crew.seat.limits();
+/// A merge of the first page comes to nothing new.
+fn is_idle(rt: &impl Abort, on: &mut Crewed, at: u64) {
+    let limits = on.crew.seat.limits();
     assert!(rt; 0 < limits.ranges && 0 < limits.columns);
-    hand.crew.merge(&hand.store, 0, 0)
+    let merge = on.crew.merge(&on.store, 0, 0);
+    same(rt, merge, Merge::Idle { tps: 0 }, at);
 }
 
 /// Builds the first page anew in a free frame; tells whether there was one.
@@ -191,12 +164,21 @@ fn spare_frame(store: &Store) -> Option<u64> {
     }
 }
 
-/// Words from addresses on, compared.
-fn words_at(rt: &impl Abort, store: &Store, seat: &mut Seat, areas: &[(u64, &[u64])])
+/// Words behind an address, each at a distance, compared.
+fn words_at(
+    rt: &impl Abort,
+    store: &Store,
+    seat: &mut Seat,
+    from: u64,
+    areas: &[(u32, &'static [u64])],
+)
     requires seat { IsSeatOf store.now seat.old }
     requires host { hosts seat.old.view 0 ≡ true }
+    ensures seat { IsSeatOf store.now seat.new }
+    ensures host { hosts seat.new.view 0 ≡ true }
 {
-    for &(first, wanted) in areas {
+    for &(distance, wanted) in areas {
+        let first = from.saturating_add(u64::from(distance));
         assert!(rt;
             words_are(store, seat, first, wanted),
             "from word {first} on"
@@ -206,119 +188,118 @@ fn words_at(rt: &impl Abort, store: &Store, seat: &mut Seat, areas: &[(u64, &[u6
 
 #[test]
 fn an_opening_store_has_nothing_to_merge(rt: HostRuntime) -> Result<(), Fail> {
-    let mut hand = opened(rt.alloc())?;
-    runs(&rt, &mut hand, 0, 0);
-    assert_eq!(rt; answer_of(&rt, &mut hand), Merge::Idle { tps: 0 });
-    assert_eq!(rt; answer_of(&rt, &mut hand), Merge::Idle { tps: 0 });
-    assert_eq!(rt; hand.crew.spares.len(), 1);
-    assert_eq!(rt;
-        hand.crew.spares.first().copied(),
-        Some(Retired { frame: 8, epoch: 0 })
-    );
+    let mut on = opened(rt.alloc())?;
+    runs(&rt, &mut on, 0, 0);
+    is_idle(&rt, &mut on, 1);
+    is_idle(&rt, &mut on, 2);
+    let first = Retired { frame: 8, epoch: 0 };
+    same(&rt, on.crew.spares.len(), 1, 3);
+    same(&rt, on.crew.spares.first().copied(), Some(first), 4);
     Ok(())
 }
 
 #[test]
 fn a_page_without_tails_is_built_in_a_spare_frame(rt: HostRuntime) -> Result<(), Fail> {
-    let Hand { store, mut crew } = opened(rt.alloc())?;
+    let Crewed {
+        store,
+        mut crew,
+        ..
+    } = opened(rt.alloc())?;
     let limits = crew.seat.limits();
     assert!(rt; 0 < limits.ranges && 0 < limits.columns);
     assert!(rt; built_by_hand(&store, &mut crew));
     Ok(())
 }
 
-#[test]
-fn a_run_ends_before_the_first_unfinished_tail(rt: HostRuntime) -> Result<(), Fail> {
-    let mut hand = opened(rt.alloc())?;
-    play(
-        &rt,
-        &mut hand,
-        &[
-            (0, Asked::Begin, Told::Begun(0)),
-            (1, Asked::Begin, Told::Begun(0)),
-            (2, Asked::Begin, Told::Begun(0)),
-            (0, Asked::Insert(1, Some(1), Some(1)), Told::Done),
-            (1, Asked::Insert(2, Some(2), Some(2)), Told::Done),
-            (2, Asked::Insert(3, Some(3), Some(3)), Told::Done),
-            (0, Asked::Commit, Told::Committed(1)),
-            (2, Asked::Commit, Told::Committed(2)),
-        ],
-    )?;
-    runs(&rt, &mut hand, 0, 1);
-    play(&rt, &mut hand, &[(1, Asked::Abort, Told::Aborted)])?;
-    runs(&rt, &mut hand, 0, 3);
-    merges(&rt, &mut hand, 3, 8);
-    runs(&rt, &mut hand, 3, 3);
-    let Hand { store, crew } = hand;
-    let Crew { mut seat, spares } = crew;
+/// The second of three writes isn't finished.
+const ONE_IS_OPEN: &[Step] = &[
+    ("0 begin", "0 begun 0"),
+    ("1 begin", "1 begun 0"),
+    ("2 begin", "2 begun 0"),
+    ("0 insert 1 a=1 b=1", "0 ok"),
+    ("1 insert 2 a=2 b=2", "1 ok"),
+    ("2 insert 3 a=3 b=3", "2 ok"),
+    ("0 commit", "0 committed 1"),
+    ("2 commit", "2 committed 2"),
+];
+
+/// The words of the frame that the three writes are merged into.
+const FRAME: &[(u32, &[u64])] = &[
+    (0, &[3]),
+    // Four runs of values: 1 at the first record, 0 at the second, 3 at the third, and 0 from there on.
+    (FRAME_VALUES, &[35, 1, 1, 0, 2, 3, 3, 0, 256]),
+    (FRAME_TIMES, &[3, 0, 5, 0]),
+];
+
+/// The words of the store once the three writes are merged.
+fn has_merged_words(rt: &impl Abort, on: Crewed) -> Result<(), Fail> {
+    let Crewed { store, crew, .. } = on;
+    let Crew { mut seat, .. } = crew;
     let layout = store.layout();
     let (directory, epoch) = (layout.directory(0, 0), layout.epoch());
     let Some(frame) = spare_frame(&store) else {
         return Err(Fail::from("there are nine frames"));
     };
-    let values = frame.saturating_add(FRAME_VALUES as u64);
-    let times = frame.saturating_add(FRAME_TIMES as u64);
-    words_at(
-        &rt,
-        &store,
-        &mut seat,
-        &[
-            (directory, &[8]),
-            (epoch, &[1]),
-            (frame, &[3]),
-            // Four runs of values: 1 at the first record, 0 at the second, 3 at the third, and 0 from there on.
-            (values, &[35, 1, 1, 0, 2, 3, 3, 0, 256]),
-            (times, &[3, 0, 5, 0]),
-        ],
-    );
+    words_at(rt, &store, &mut seat, directory, &[(0, &[8])]);
+    words_at(rt, &store, &mut seat, epoch, &[(0, &[1])]);
+    words_at(rt, &store, &mut seat, frame, FRAME);
     Ok(())
 }
 
 #[test]
-fn a_merge_by_hand_leaves_old_readers_their_row(rt: HostRuntime) -> Result<(), Fail> {
-    let mut hand = opened(rt.alloc())?;
-    play(
-        &rt,
-        &mut hand,
-        &[
-            (0, Asked::Begin, Told::Begun(0)),
-            (0, Asked::Insert(7, Some(10), Some(20)), Told::Done),
-            (0, Asked::Commit, Told::Committed(1)),
-            (1, Asked::Begin, Told::Begun(1)),
-            (0, Asked::Begin, Told::Begun(1)),
-            (0, Asked::Update(7, Some(11), Some(21)), Told::Done),
-            (0, Asked::Commit, Told::Committed(2)),
-        ],
-    )?;
-    merges(&rt, &mut hand, 2, 8);
-    play(
-        &rt,
-        &mut hand,
-        &[
-            (1, Asked::Get(7), Told::Row(Some(10), Some(20))),
-            (0, Asked::Begin, Told::Begun(2)),
-            (0, Asked::Get(7), Told::Row(Some(11), Some(21))),
-        ],
-    )
+fn a_run_ends_before_the_first_unfinished_tail(rt: HostRuntime) -> Result<(), Fail> {
+    let mut on = opened(rt.alloc())?;
+    play(&rt, &mut on, ONE_IS_OPEN)?;
+    runs(&rt, &mut on, 0, 1);
+    play(&rt, &mut on, &[("1 abort", "1 aborted")])?;
+    runs(&rt, &mut on, 0, 3);
+    merges(&rt, &mut on, 3, 8);
+    runs(&rt, &mut on, 3, 3);
+    has_merged_words(&rt, on)
 }
+
+/// Session 1 begins between two commits of session 0.
+const TWO_COMMITS: &[Step] = &[
+    ("0 begin", "0 begun 0"),
+    ("0 insert 7 a=10 b=20", "0 ok"),
+    ("0 commit", "0 committed 1"),
+    ("1 begin", "1 begun 1"),
+    ("0 begin", "0 begun 1"),
+    ("0 update 7 a=11 b=21", "0 ok"),
+    ("0 commit", "0 committed 2"),
+];
+
+/// Each session reads its own row.
+const OLD_AND_NEW: &[Step] = &[
+    ("1 get 7", "1 row 10 20"),
+    ("0 begin", "0 begun 2"),
+    ("0 get 7", "0 row 11 21"),
+];
+
+#[test]
+fn a_merge_by_hand_leaves_old_readers_their_row(rt: HostRuntime) -> Result<(), Fail> {
+    let mut on = opened(rt.alloc())?;
+    play(&rt, &mut on, TWO_COMMITS)?;
+    merges(&rt, &mut on, 2, 8);
+    play(&rt, &mut on, OLD_AND_NEW)
+}
+
+/// Session 1 has a transaction open behind a commit.
+const PINS: &[Step] = &[
+    ("0 begin", "0 begun 0"),
+    ("0 insert 7 a=10 b=20", "0 ok"),
+    ("0 commit", "0 committed 1"),
+    ("1 begin", "1 begun 1"),
+];
 
 #[test]
 fn a_pin_holds_a_frame_until_it_is_gone(rt: HostRuntime) -> Result<(), Fail> {
-    let mut hand = opened(rt.alloc())?;
-    play(
-        &rt,
-        &mut hand,
-        &[
-            (0, Asked::Begin, Told::Begun(0)),
-            (0, Asked::Insert(7, Some(10), Some(20)), Told::Done),
-            (0, Asked::Commit, Told::Committed(1)),
-            (1, Asked::Begin, Told::Begun(1)),
-        ],
-    )?;
-    merges(&rt, &mut hand, 1, 8);
-    assert_eq!(rt; freed(&mut hand), Err(Held { session: 1 }));
-    play(&rt, &mut hand, &[(1, Asked::Commit, Told::Ended(1))])?;
+    let mut on = opened(rt.alloc())?;
+    play(&rt, &mut on, PINS)?;
+    merges(&rt, &mut on, 1, 8);
+    frees(&rt, &mut on, Err(Held { session: 1 }));
+    play(&rt, &mut on, &[("1 commit", "1 ended 1")])?;
     // The frame that the page had before.
-    assert_eq!(rt; freed(&mut hand), Ok(0));
+    frees(&rt, &mut on, Ok(0));
     Ok(())
 }

@@ -1,78 +1,84 @@
 //! The calls of a script, as a session answers them at a seat of its own.
-ghost use Rattle.std.specs.Prelude.{◌≡◌, ◌<◌};
-ghost use Rattle.lst_model.specs.Lines.{CallFits};
+ghost use Rattle.std.specs.Prelude.{◌≡◌};
 
-use crate::scan_tests::{Opened, open_one};
-use crate::values::{Asked, Told, call_of, fits, reply_of};
-use lst_model::{Call, Cause, OutOfMemory, Reply};
+use crate::scan_tests::HALVES;
+use crate::scripts::{Step, call_fits, line_of, replies};
+use crate::steps::{Opened, open_one};
+use lst_layout::Limits;
+use lst_model::{Line, Reply};
 use lst_scan::session_line;
 use lst_session::CommitLock;
 use std::process::Abort;
 use std::sync::Wait;
 use std::test::Fail;
 
-/// The answer of the session to a call.
+/// The reply of the session to a line that is a call of it.
 fn answer_alone(
     rt: &(impl AllocGlobal + Wait),
     on: &mut Opened,
     lock: &CommitLock,
-    call: Call,
-) -> Result<Reply, OutOfMemory>
-    requires { CallFits 2 call }
-{
-    session_line(rt, rt.alloc(), &on.store, &mut on.session, lock, &call)
+    line: &Line,
+) -> Result<Reply, Fail> {
+    let Line::Call { call, .. } = line else {
+        return Err(Fail::from("the line is a call"));
+    };
+    if !call_fits(2, call) {
+        return Err(Fail::from("the call fits two columns"));
+    }
+    Ok(session_line(rt, rt.alloc(), &on.store, &mut on.session, lock, call)?)
 }
 
-/// The calls of a script, and their replies compared.
+/// Lines in order, and their replies compared.
 fn play_alone(
     rt: &(impl Abort + AllocGlobal + Wait),
     on: &mut Opened,
-    lock: &CommitLock,
-    script: &[(Asked, Told<'_>)],
+    script: &[Step],
 ) -> Result<(), Fail> {
-    for (at, &(asked, told)) in script.iter().enumerate() {
-        let call = call_of(asked);
-        assert!(rt; fits(&call));
-        let reply = answer_alone(rt, on, lock, call)?;
-        let wanted = reply_of(rt.alloc(), told)?;
-        assert_eq!(rt; reply, wanted, "at step {at}");
+    let lock = CommitLock::new();
+    for &step in script {
+        let line = line_of(rt.alloc(), &on.store, step.0)?;
+        let reply = answer_alone(rt, on, &lock, &line)?;
+        replies(rt, &line, &reply, step)?;
     }
     Ok(())
 }
 
+/// Each call of session 1.
+const EACH_CALL: &[Step] = &[
+    // Whether a transaction is open is asked before the index.
+    ("1 find b 3", "1 refused idle"),
+    ("1 sum b", "1 refused idle"),
+    ("1 count", "1 refused idle"),
+    ("1 scan", "1 refused idle"),
+    ("1 get 7", "1 refused idle"),
+    ("1 delete 7", "1 refused idle"),
+    ("1 commit", "1 refused idle"),
+    ("1 abort", "1 refused idle"),
+    ("1 begin", "1 begun 0"),
+    ("1 insert 7 a=5 b=3", "1 ok"),
+    ("1 find a 5", "1 refused noindex"),
+    ("1 sum b", "1 sum 3"),
+    ("1 scan", "1 rows 7:5,3"),
+    ("1 commit", "1 committed 1"),
+    // The row is deleted, which is given up; then a transaction that is read-only ends.
+    ("1 begin", "1 begun 1"),
+    ("1 delete 7", "1 ok"),
+    ("1 count", "1 count 0"),
+    ("1 abort", "1 aborted"),
+    ("1 get 7", "1 refused idle"),
+    ("1 asof 1", "1 begun 1"),
+    ("1 get 7", "1 row 5 3"),
+    ("1 commit", "1 ended 1"),
+];
+
 #[test]
 fn a_session_answers_each_call(rt: HostRuntime) -> Result<(), Fail> {
-    let mut on = open_one(rt.alloc(), 300)?;
-    let lock = CommitLock::new();
-    play_alone(
-        &rt,
-        &mut on,
-        &lock,
-        &[
-            // Whether a transaction is open is asked before the index.
-            (Asked::Find(1, 3), Told::Refused(Cause::Idle)),
-            (Asked::Sum(1), Told::Refused(Cause::Idle)),
-            (Asked::Count, Told::Refused(Cause::Idle)),
-            (Asked::Scan, Told::Refused(Cause::Idle)),
-            (Asked::Get(7), Told::Refused(Cause::Idle)),
-            (Asked::Delete(7), Told::Refused(Cause::Idle)),
-            (Asked::Commit, Told::Refused(Cause::Idle)),
-            (Asked::Abort, Told::Refused(Cause::Idle)),
-            (Asked::Begin, Told::Begun(0)),
-            (Asked::Insert(7, Some(5), Some(3)), Told::Done),
-            (Asked::Find(0, 5), Told::Refused(Cause::NotIndexed)),
-            (Asked::Sum(1), Told::Sum(3)),
-            (Asked::Scan, Told::Rows(&[(7, Some(5), Some(3))])),
-            (Asked::Commit, Told::Committed(1)),
-            // The row is deleted, which is given up; then a transaction that is read-only ends.
-            (Asked::Begin, Told::Begun(1)),
-            (Asked::Delete(7), Told::Done),
-            (Asked::Count, Told::Count(0)),
-            (Asked::Abort, Told::Aborted),
-            (Asked::Get(7), Told::Refused(Cause::Idle)),
-            (Asked::AsOf(1), Told::Begun(1)),
-            (Asked::Get(7), Told::Row(Some(5), Some(3))),
-            (Asked::Commit, Told::Ended(1)),
-        ],
-    )
+    let mut on = open_one(
+        rt.alloc(),
+        &Limits {
+            tails: 300,
+            ..HALVES
+        },
+    )?;
+    play_alone(&rt, &mut on, EACH_CALL)
 }

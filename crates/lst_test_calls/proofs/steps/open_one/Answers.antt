@@ -2,7 +2,7 @@ use Rattle.std.proofs.Common.{◌<◌, sym, subst, ap, ◌∙◌, arith}
 use Rattle.lst_layout.specs.declared.layout.Layout.{Layout}
 use Rattle.lst_layout.specs.declared.limits.Limits.{Limits}
 use Rattle.lst_session.proofs.Readying.{ready_at_opening}
-use Rattle.lst_test_calls.proofs.session_tests.open_one.Goals as goal
+use Rattle.lst_test_calls.proofs.steps.open_one.Goals as goal
 
 pub invariant_of-result : goal.invariant_of-result
 invariant_of-result c = let l = c.in-Ok.ensures.layout in record {

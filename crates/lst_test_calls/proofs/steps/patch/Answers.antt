@@ -1,6 +1,6 @@
 use Rattle.std.proofs.Common.{◌≡◌, [], ◌∷◌, ◌++◌, refl, ap, ◌∙◌, arith}
 use Rattle.std.specs.Prelude.{Some, None, map, option_map}
-use Rattle.lst_test_calls.proofs.session_tests.patch.Goals as goal
+use Rattle.lst_test_calls.proofs.steps.patch.Goals as goal
 
 pub returns : goal.returns
 returns c =
