@@ -4,7 +4,7 @@ use arrayvec::ArrayVec;
 use lst_model::Row;
 
 /// A row of so many columns, of which each second one is null.
-pub fn row(columns: usize) -> Row {
+pub(crate) fn row(columns: usize) -> Row {
     let mut row = Row::of_numbers(ArrayVec::new());
     for column in 0..columns {
         if row.len() < 8 {

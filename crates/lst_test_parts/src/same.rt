@@ -4,7 +4,7 @@ use std::fmt::Debug;
 use std::process::Abort;
 
 /// What was found is what was wanted. `at` tells which of a test's comparisons this is.
-pub fn same<T: PartialEq + Debug + Drop>(
+pub(crate) fn same<T: PartialEq + Debug + Drop>(
     rt: &impl Abort,
     found: T,
     wanted: T,
