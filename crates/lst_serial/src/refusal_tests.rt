@@ -6,7 +6,7 @@ use lst_session::{BeginRefusal, NotBegun, Outcome, WriteRefusal};
 use std::test::Fail;
 
 /// Without an open transaction each call but a begin is refused, and no key joins the read set.
-const NONE_IS_OPEN: [(u32, Step); 11] = [
+const NONE_IS_OPEN: &[(u32, Step)] = &[
     (0, Step::Get(7, Err(SerialRead::Idle))),
     (
         0,
@@ -48,7 +48,7 @@ const NONE_IS_OPEN: [(u32, Step); 11] = [
 ];
 
 /// A write that is refused lets its key join the read set all the same.
-const REFUSED_KEYS_JOIN: [(u32, Step); 14] = [
+const REFUSED_KEYS_JOIN: &[(u32, Step)] = &[
     (0, Step::Begin(Ok(0))),
     (0, Step::Begin(Err(BeginRefusal::Active))),
     (0, Step::AsOf(9, Err(BeginRefusal::Active))),
@@ -106,7 +106,7 @@ const REFUSED_KEYS_JOIN: [(u32, Step); 14] = [
 ];
 
 /// A transaction without writes ends at its begin, also where what it read was changed since. A refused begin leaves the read set, another empties it.
-const ENDS_WITHOUT_WRITES: [(u32, Step); 15] = [
+const ENDS_WITHOUT_WRITES: &[(u32, Step)] = &[
     (0, Step::TryCommit(Ok(Outcome::Committed { time: 1 }))),
     (
         1,
@@ -161,7 +161,7 @@ const ENDS_WITHOUT_WRITES: [(u32, Step); 15] = [
 ];
 
 /// After a read of all rows a commit is stale by any other commit above the begin, and the time is the one after the begin.
-const ALL_ARE_READ: [(u32, Step); 16] = [
+const ALL_ARE_READ: &[(u32, Step)] = &[
     (1, Step::HasReadAll(true)),
     (1, Step::Begin(Ok(1))),
     (1, Step::HasReadAll(false)),
@@ -181,7 +181,7 @@ const ALL_ARE_READ: [(u32, Step); 16] = [
 ];
 
 /// No session may begin more transactions than the store has room for, and the read set stays.
-const SPENT: [(u32, Step); 4] = [
+const SPENT: &[(u32, Step)] = &[
     (1, Step::Begin(Err(BeginRefusal::Spent))),
     (1, Step::AsOf(9, Err(BeginRefusal::Spent))),
     (1, Step::HasReadAll(true)),
@@ -191,16 +191,16 @@ const SPENT: [(u32, Step); 4] = [
 #[test]
 fn each_call_is_refused_in_its_order(rt: HostRuntime) -> Result<(), Fail> {
     let mut on = open_three(rt.alloc(), 16, 3)?;
-    on.play(&rt, &NONE_IS_OPEN);
-    on.play(&rt, &REFUSED_KEYS_JOIN);
-    on.play(&rt, &ENDS_WITHOUT_WRITES);
-    on.play(&rt, &ALL_ARE_READ);
-    on.play(&rt, &SPENT);
+    on.play(&rt, NONE_IS_OPEN);
+    on.play(&rt, REFUSED_KEYS_JOIN);
+    on.play(&rt, ENDS_WITHOUT_WRITES);
+    on.play(&rt, ALL_ARE_READ);
+    on.play(&rt, SPENT);
     Ok(())
 }
 
 /// Session 0 reads two keys, of which session 1 changes the higher one and then the lower one twice.
-const CHANGES_BOTH: [(u32, Step); 17] = [
+const CHANGES_BOTH: &[(u32, Step)] = &[
     (2, Step::Begin(Ok(0))),
     (2, Step::Insert(4, 1, 2, Ok(()))),
     (2, Step::Insert(6, 1, 2, Ok(()))),
@@ -230,21 +230,48 @@ const CHANGES_BOTH: [(u32, Step); 17] = [
     (1, Step::TryCommit(Ok(Outcome::Committed { time: 4 }))),
 ];
 
+/// Then its commit is stale by the lower key, and by all once it has read them.
+const TELLS_OF_BOTH: &[(u32, Step)] = &[
+    (0, Step::TryCommit(Err(SerialCommit::Stale { time: 4 }))),
+    (0, Step::ReadAll(Ok(()))),
+    (0, Step::TryCommit(Err(SerialCommit::Stale { time: 2 }))),
+    (0, Step::Seen(4)),
+];
+
 #[test]
 fn stale_tells_of_the_least_key_when_it_was_last_changed(rt: HostRuntime) -> Result<(), Fail> {
     let mut on = open_three(rt.alloc(), 16, 4)?;
-    on.play(&rt, &CHANGES_BOTH);
-    on.play(
-        &rt,
-        &[
-            (0, Step::TryCommit(Err(SerialCommit::Stale { time: 4 }))),
-            (0, Step::ReadAll(Ok(()))),
-            (0, Step::TryCommit(Err(SerialCommit::Stale { time: 2 }))),
-            (0, Step::Seen(4)),
-        ],
-    );
+    on.play(&rt, CHANGES_BOTH);
+    on.play(&rt, TELLS_OF_BOTH);
     Ok(())
 }
+
+/// Once each record is taken, and each tail record.
+const ALL_IS_FULL: &[(u32, Step)] = &[
+    (
+        0,
+        Step::Insert(
+            256,
+            1,
+            2,
+            Err(SerialWrite::Refused {
+                cause: WriteRefusal::TableFull,
+            }),
+        ),
+    ),
+    (0, Step::HasRead(256, true)),
+    (
+        0,
+        Step::Update(
+            255,
+            3,
+            Err(SerialWrite::Refused {
+                cause: WriteRefusal::TailFull,
+            }),
+        ),
+    ),
+    (0, Step::TryCommit(Ok(Outcome::Committed { time: 1 }))),
+];
 
 #[test]
 fn full_tables_and_ranges_are_told(rt: HostRuntime) -> Result<(), Fail> {
@@ -254,33 +281,6 @@ fn full_tables_and_ranges_are_told(rt: HostRuntime) -> Result<(), Fail> {
     for key in 0..256 {
         on.play(&rt, &[(0, Step::Insert(key, 1, 2, Ok(())))]);
     }
-    on.play(
-        &rt,
-        &[
-            (
-                0,
-                Step::Insert(
-                    256,
-                    1,
-                    2,
-                    Err(SerialWrite::Refused {
-                        cause: WriteRefusal::TableFull,
-                    }),
-                ),
-            ),
-            (0, Step::HasRead(256, true)),
-            (
-                0,
-                Step::Update(
-                    255,
-                    3,
-                    Err(SerialWrite::Refused {
-                        cause: WriteRefusal::TailFull,
-                    }),
-                ),
-            ),
-            (0, Step::TryCommit(Ok(Outcome::Committed { time: 1 }))),
-        ],
-    );
+    on.play(&rt, ALL_IS_FULL);
     Ok(())
 }

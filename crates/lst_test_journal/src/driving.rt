@@ -7,9 +7,11 @@ ghost use Rattle.lst_journal.specs.Journals.{IsOpenJournal};
 use lst_disk::Disk;
 use lst_journal::{Kept, OpenRefusal, Redo, open_redo};
 use lst_layout::{Layout, Limits};
-use lst_model::{History, Line, OutOfMemory, Reply};
+use lst_model::{History, Line, OutOfMemory, Text};
+use lst_replies::push_line;
 use lst_script::parse;
 use std::alloc::Global;
+use std::fmt::Debug;
 use std::process::Abort;
 use std::test::Fail;
 
@@ -17,6 +19,38 @@ use std::test::Fail;
 #[derive(Drop)]
 pub(crate) struct Driven<D: Disk> {
     redo: Redo<D>,
+}
+
+/// What was found is what was wanted, at this place.
+pub(crate) fn same<T: PartialEq + Debug + Drop>(rt: &impl Abort, found: T, wanted: T, at: u64) {
+    assert_eq!(rt; found, wanted, "at {at}");
+}
+
+/// A line, and the text of what it is answered.
+pub(crate) type Step = (&'static str, &'static str);
+
+/// The text of what a line was answered.
+fn text_of(alloc: Global, kept: &Kept) -> Result<Text, OutOfMemory> {
+    let mut text = Text::new(alloc);
+    match kept {
+        Kept::Reply { reply } => push_line(&mut text, &Line::Phase, reply)?,
+        Kept::JournalFull => text.push_bytes(b"journal full\n")?,
+        Kept::DiskFault => text.push_bytes(b"disk fault\n")?,
+    }
+    Ok(text)
+}
+
+/// The same, compared with what is wanted.
+fn is_kept(
+    rt: &(impl Abort + AllocGlobal),
+    kept: &Kept,
+    wanted: &str,
+    line: &str,
+) -> Result<(), Fail> {
+    let text = text_of(rt.alloc(), kept)?;
+    let text = text.as_bytes().strip_suffix(b"\n");
+    assert_eq!(rt; text, Some(wanted.as_bytes()), "at {line}");
+    Ok(())
 }
 
 /// The layout of a store with these limits.
@@ -91,14 +125,14 @@ impl<D: Disk> Driven<D> {
     pub(crate) fn play(
         &mut self,
         rt: &(impl Abort + AllocGlobal),
-        lines: &[(&str, Kept)],
+        lines: &[Step],
     ) -> Result<(), Fail>
         requires { self.old.redo.failed ≡ false → IsOpenJournal D.content D.images self.old.redo }
         ensures { self.new.redo.failed ≡ false → IsOpenJournal D.content D.images self.new.redo }
     {
         for (line, wanted) in lines {
             let kept = self.line(rt.alloc(), line)??;
-            assert_eq!(rt; &kept, wanted, "at {line}");
+            is_kept(rt, &kept, wanted, line)?;
         }
         Ok(())
     }
@@ -123,21 +157,4 @@ impl<D: Disk> Driven<D> {
     pub(crate) fn close(self) -> D {
         self.redo.close()
     }
-}
-
-/// The machine's reply.
-pub(crate) fn told(reply: Reply) -> Kept {
-    Kept::Reply { reply }
-}
-
-pub(crate) fn begun(time: u64) -> Kept {
-    told(Reply::Begun { time })
-}
-
-pub(crate) fn done() -> Kept {
-    told(Reply::Done)
-}
-
-pub(crate) fn committed(time: u64) -> Kept {
-    told(Reply::Committed { time })
 }

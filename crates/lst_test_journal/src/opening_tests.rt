@@ -1,7 +1,7 @@
 //! Disks that are opened with room for their commits, and without; one that is damaged, one that fails, and one for which memory is wanting.
 
 use crate::disks::{Cramped, blank, put};
-use crate::driving::{Driven, begun, committed, done, layout_of, opened, tried};
+use crate::driving::{Driven, Step, layout_of, opened, same, tried};
 use lst_disk::MemDisk;
 use lst_journal::OpenCause;
 use lst_layout::Limits;
@@ -9,25 +9,24 @@ use std::alloc::Global;
 use std::process::Abort;
 use std::test::Fail;
 
+const THREE_COMMITS: &[Step] = &[
+    ("0 begin", "begun 0"),
+    ("1 begin", "begun 0"),
+    ("0 insert 7 10 20", "ok"),
+    ("0 commit", "committed 1"),
+    ("1 insert 8 30 40", "ok"),
+    ("1 commit", "committed 2"),
+    ("0 begin", "begun 2"),
+    ("0 delete 7", "ok"),
+    ("0 commit", "committed 3"),
+];
+
 /// A disk with three commits, which fails after so many calls: session 0 puts key 7, session 1, which began before that, puts key 8, and session 0 deletes
 /// key 7. Those take 13.
 fn written(rt: &(impl Abort + AllocGlobal), calls: u64) -> Result<MemDisk, Fail> {
     let alloc = rt.alloc();
     let mut driven = opened(alloc, MemDisk::new(alloc, 256, calls, false)?)?;
-    driven.play(
-        rt,
-        &[
-            ("0 begin", begun(0)),
-            ("1 begin", begun(0)),
-            ("0 insert 7 10 20", done()),
-            ("0 commit", committed(1)),
-            ("1 insert 8 30 40", done()),
-            ("1 commit", committed(2)),
-            ("0 begin", begun(2)),
-            ("0 delete 7", done()),
-            ("0 commit", committed(3)),
-        ],
-    )?;
+    driven.play(rt, THREE_COMMITS)?;
     Ok(driven.close())
 }
 
@@ -51,14 +50,26 @@ fn recovered(
     }
 }
 
+/// Sessions, transactions and tail records; and how many commits there are then, or the time of the one that has no room.
+const MET: &[(u32, u32, u32, Result<usize, u64>)] = &[
+    (2, 2, 3, Ok(3)),
+    (1, 2, 3, Err(2)),
+    (2, 1, 3, Err(3)),
+    (2, 2, 1, Err(2)),
+    (2, 2, 2, Err(3)),
+];
+
 #[test]
 fn each_limit_is_met_at_its_time(rt: HostRuntime) -> Result<(), Fail> {
-    let full = |time| Err(OpenCause::Full { time });
-    assert_eq!(rt; recovered(&rt, 2, 2, 3)?, Ok(3));
-    assert_eq!(rt; recovered(&rt, 1, 2, 3)?, full(2));
-    assert_eq!(rt; recovered(&rt, 2, 1, 3)?, full(3));
-    assert_eq!(rt; recovered(&rt, 2, 2, 1)?, full(2));
-    assert_eq!(rt; recovered(&rt, 2, 2, 2)?, full(3));
+    for (at, &(sessions, txns, tails, met)) in MET.iter().enumerate() {
+        let wanted = met.map_err(|time| OpenCause::Full { time });
+        same(
+            &rt,
+            recovered(&rt, sessions, txns, tails)?,
+            wanted,
+            at as u64,
+        );
+    }
     Ok(())
 }
 
@@ -75,37 +86,36 @@ fn cause_of(alloc: Global, disk: MemDisk) -> Result<OpenCause, Fail> {
     }
 }
 
+/// The same, compared.
+fn causes(rt: &(impl Abort + AllocGlobal), disk: MemDisk, wanted: OpenCause) -> Result<(), Fail> {
+    let cause = cause_of(rt.alloc(), disk)?;
+    same(rt, cause, wanted, 0);
+    Ok(())
+}
+
 #[test]
 fn damage_is_told_before_a_full_store(rt: HostRuntime) -> Result<(), Fail> {
-    let alloc = rt.alloc();
-    assert_eq!(rt;
-        cause_of(alloc, written(&rt, 100)?)?,
-        OpenCause::Full { time: 2 }
-    );
+    causes(&rt, written(&rt, 100)?, OpenCause::Full { time: 2 })?;
     let mut disk = written(&rt, 100)?;
     // the kind of the third commit's write
     put(&mut disk, 125, &[9])?;
-    assert_eq!(rt; cause_of(alloc, disk)?, OpenCause::Damaged { at: 96 });
-    Ok(())
+    causes(&rt, disk, OpenCause::Damaged { at: 96 })
 }
 
 /// An open gate, and a count of one write, of kind 9.
 #[test]
 fn a_write_of_no_kind_is_damage(rt: HostRuntime) -> Result<(), Fail> {
-    let alloc = rt.alloc();
-    let mut disk = blank(alloc, 64)?;
+    let mut disk = blank(rt.alloc(), 64)?;
     put(&mut disk, 0, &[1])?;
     put(&mut disk, 20, &[1])?;
     put(&mut disk, 29, &[9])?;
-    assert_eq!(rt; cause_of(alloc, disk)?, OpenCause::Damaged { at: 0 });
-    Ok(())
+    causes(&rt, disk, OpenCause::Damaged { at: 0 })
 }
 
 #[test]
 fn a_disk_with_no_call_left_is_not_opened(rt: HostRuntime) -> Result<(), Fail> {
-    let alloc = rt.alloc();
-    assert_eq!(rt; cause_of(alloc, written(&rt, 13)?)?, OpenCause::Disk);
-    let driven = opened(alloc, written(&rt, 14)?)?;
+    causes(&rt, written(&rt, 13)?, OpenCause::Disk)?;
+    let driven = opened(rt.alloc(), written(&rt, 14)?)?;
     assert!(rt; !driven.failed());
     Ok(())
 }
@@ -122,7 +132,7 @@ fn commits_are_run_again_by_their_sessions(rt: HostRuntime) -> Result<(), Fail> 
     let wanted = [(0, 1, 0), (1, 1, 1), (0, 2, 2)];
     assert_eq!(rt; told.as_slice(), wanted.as_slice());
     let mut driven = opened(alloc, driven.close())?;
-    assert_eq!(rt; driven.history(alloc)?.len(), 3);
+    same(&rt, driven.history(alloc)?.len(), 3, 0);
     Ok(())
 }
 
@@ -135,8 +145,8 @@ fn want_of_memory_hands_the_disk_back(rt: HostRuntime) -> Result<(), Fail> {
     let Err(refusal) = tried(alloc, &layout, disk) else {
         return Err("the opening wants memory".into());
     };
-    assert_eq!(rt; refusal.cause, OpenCause::OutOfMemory);
+    same(&rt, refusal.cause, OpenCause::OutOfMemory, 0);
     let mut driven: Driven<Cramped> = opened(alloc, refusal.disk)?;
-    assert_eq!(rt; driven.history(alloc)?.len(), 0);
+    same(&rt, driven.history(alloc)?.len(), 0, 1);
     Ok(())
 }

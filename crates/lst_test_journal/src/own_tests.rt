@@ -2,6 +2,7 @@
 ghost use Rattle.std.specs.Prelude.{◌≡◌, [], length, get_or};
 ghost use Rattle.lst_model.specs.Histories.{StandByKey};
 
+use crate::driving::same;
 use lst_model::{Act, Key, Write, joined_write_is_last};
 use lst_own::OwnWrites;
 use std::alloc::Global;
@@ -34,11 +35,11 @@ fn keys(own: &mut OwnWrites, alloc: Global) -> Result<Vec<Key>, Fail>
 fn writes_stand_by_key(rt: HostRuntime) -> Result<(), Fail> {
     let alloc = rt.alloc();
     let mut own = OwnWrites::new(alloc, 2)?;
-    assert_eq!(rt; join(&mut own, alloc, 7)?, 0);
-    assert_eq!(rt; join(&mut own, alloc, 9)?, 1);
-    assert_eq!(rt; join(&mut own, alloc, 8)?, 1);
-    assert_eq!(rt; join(&mut own, alloc, 7)?, 1);
+    same(&rt, join(&mut own, alloc, 7)?, 0, 1);
+    same(&rt, join(&mut own, alloc, 9)?, 1, 2);
+    same(&rt, join(&mut own, alloc, 8)?, 1, 3);
+    same(&rt, join(&mut own, alloc, 7)?, 1, 4);
     assert_eq!(rt; keys(&mut own, alloc)?.as_slice(), [7, 7, 8, 9].as_slice());
-    assert_eq!(rt; own.count(1), 0);
+    same(&rt, own.count(1), 0, 5);
     Ok(())
 }
