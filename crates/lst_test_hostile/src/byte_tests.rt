@@ -1,15 +1,15 @@
 //! A script with its report, of which each byte is replaced.
 
-use crate::calls::{SOUND, Wanted, comes_to};
+use crate::calls::{SOUND, Wanted, comes_to, same};
 use lst_command::Status;
 use lst_layout::Limits;
 use lst_legal::are_sessions_below;
+use lst_model::OutOfMemory;
 use lst_report::{Report, ReportFault, legal, parse_report};
 use lst_script::{FaultKind, Script, ScriptFault, parse};
-use std::alloc::Global;
+use std::alloc::{AllocError, Global};
 use std::process::Abort;
 use std::sync::Wait;
-use std::test::Fail;
 use std::thread::Threads;
 
 /// A report of a commit and of a sum that sees it, behind its script. It is legal.
@@ -40,20 +40,23 @@ fn fault(line: u64, kind: FaultKind) -> Status {
 }
 
 /// The status of a fault of a script.
-fn of_script(found: ScriptFault) -> Result<Status, Fail> {
+fn of_script(found: ScriptFault) -> Result<Status, OutOfMemory> {
     match found {
         ScriptFault::Bad { line, kind } => Ok(fault(line, kind)),
-        ScriptFault::OutOfMemory => Err(Fail::from("there is memory")),
+        ScriptFault::OutOfMemory => Err(OutOfMemory),
     }
 }
 
 /// The status of a script and of a report that are read.
-fn of_report(alloc: Global, script: &Script, report: &Report) -> Result<Status, Fail> {
+fn of_report(
+    rt: &impl Abort,
+    alloc: Global,
+    script: &Script,
+    report: &Report,
+) -> Result<Status, OutOfMemory> {
     let limits = Limits::default();
     let lines = script.unpacked(alloc)?;
-    if !are_sessions_below(limits.sessions, lines.as_slice()) {
-        return Err(Fail::from("each line is of a session that there is"));
-    }
+    assert!(rt; are_sessions_below(limits.sessions, lines.as_slice()));
     if legal(alloc, &limits, lines.as_slice(), report)? {
         Ok(Status::Done)
     } else {
@@ -61,33 +64,51 @@ fn of_report(alloc: Global, script: &Script, report: &Report) -> Result<Status, 
     }
 }
 
+/// The status of a text without a line `report`.
+fn without_report(alloc: Global, text: &[u8]) -> Result<Status, OutOfMemory> {
+    if let Err(found) = parse(alloc, text, &Limits::default()) {
+        return of_script(found);
+    }
+    let is_open = text.last().copied().unwrap_or(b'\n') != b'\n';
+    let lines = newlines(text).wrapping_add(u64::from(is_open));
+    Ok(fault(lines.wrapping_add(1), FaultKind::NoReport))
+}
+
+/// The status of a script that is read and of the text of its report, behind so many lines.
+fn with_report(
+    rt: &impl Abort,
+    alloc: Global,
+    script: &Script,
+    report: &[u8],
+    lines: u64,
+) -> Result<Status, OutOfMemory> {
+    match parse_report(alloc, report, 2) {
+        Ok(report) => of_report(rt, alloc, script, &report),
+        Err(ReportFault::Bad { line }) => Ok(fault(lines.wrapping_add(line), FaultKind::BadReport)),
+        Err(ReportFault::OutOfMemory) => Err(OutOfMemory),
+    }
+}
+
 /// The status of a text, by its script and its report, read apart.
-fn status_of(alloc: Global, text: &[u8]) -> Result<Status, Fail> {
+fn status_of(rt: &impl Abort, alloc: Global, text: &[u8]) -> Result<Status, OutOfMemory> {
     let Some((front, behind)) = mark_in(text) else {
-        if let Err(found) = parse(alloc, text, &Limits::default()) {
-            return of_script(found);
-        }
-        let is_open = text.last().copied().unwrap_or(b'\n') != b'\n';
-        let lines = newlines(text).wrapping_add(u64::from(is_open));
-        return Ok(fault(lines.wrapping_add(1), FaultKind::NoReport));
+        return without_report(alloc, text);
     };
     let front = text.get(..front).unwrap_or(b"0 fly");
-    let script = match parse(alloc, front, &Limits::default()) {
-        Ok(script) => script,
-        Err(found) => return of_script(found),
-    };
-    match parse_report(alloc, text.get(behind..).unwrap_or(b""), 2) {
-        Ok(report) => of_report(alloc, &script, &report),
-        Err(ReportFault::Bad { line }) => {
-            let lines = newlines(front).wrapping_add(1);
-            Ok(fault(lines.wrapping_add(line), FaultKind::BadReport))
-        }
-        Err(ReportFault::OutOfMemory) => Err(Fail::from("there is memory")),
+    let report = text.get(behind..).unwrap_or(b"");
+    let lines = newlines(front).wrapping_add(1);
+    match parse(alloc, front, &Limits::default()) {
+        Ok(script) => with_report(rt, alloc, &script, report, lines),
+        Err(found) => of_script(found),
     }
 }
 
 /// The verdict of a status, and its line of errors.
-fn texts_of(alloc: Global, status: &Status) -> Result<(&'static str, String), Fail> {
+fn texts_of(
+    rt: &impl Abort,
+    alloc: Global,
+    status: &Status,
+) -> Result<(&'static str, String), AllocError> {
     match status {
         Status::Done => Ok(("legal\n", String::new(alloc))),
         Status::Illegal => Ok(("illegal\n", String::new(alloc))),
@@ -95,7 +116,7 @@ fn texts_of(alloc: Global, status: &Status) -> Result<(&'static str, String), Fa
             let fault = kind.text();
             Ok(("", format!(in alloc; "lstore: line {line}: {fault}\n")?))
         }
-        _ => Err(Fail::from("a text is judged or refused")),
+        _ => panic!(rt; "a text is judged or refused"),
     }
 }
 
@@ -124,37 +145,48 @@ fn is_judged(
     label: u64,
     text: &[u8],
     counts: &mut Counts,
-) -> Result<(), Fail> {
-    let status = status_of(alloc, text)?;
-    let (verdict, message) = texts_of(alloc, &status)?;
+) -> Result<(), OutOfMemory> {
+    let status = status_of(rt, alloc, text)?;
     counts.count(&status);
+    let (verdict, message) = texts_of(rt, alloc, &status)?;
     let wanted = Wanted {
         status,
         output: verdict.as_bytes(),
-        message: message.as_bytes(),
+        message: message.as_str().as_bytes(),
     };
-    comes_to(rt, alloc, label, "check", text, &SOUND, &wanted)
+    comes_to(rt, alloc, label, "check", text, &SOUND, wanted)
+}
+
+/// Compares them where the byte at a place is replaced.
+fn is_replaced_and_judged(
+    rt: &(impl Abort + Threads + Wait + Sync),
+    alloc: Global,
+    place: usize,
+    byte: u8,
+    counts: &mut Counts,
+) -> Result<(), OutOfMemory> {
+    let mut text = CLAIM.as_bytes().to_vec(alloc)?;
+    if let Some(old) = text.get_mut(place) {
+        *old = byte;
+    }
+    is_judged(rt, alloc, place as u64, text.as_slice(), counts)
 }
 
 #[test]
 fn a_report_of_which_a_byte_is_replaced_is_judged_as_its_parts_are(
     rt: HostRuntime,
-) -> Result<(), Fail> {
-    let alloc = rt.alloc();
+) -> Result<(), OutOfMemory> {
     let mut counts = Counts {
         legal: 0,
         illegal: 0,
         faulty: 0,
     };
     for place in 0..CLAIM.len() {
-        for byte in [b' ', b'9', b'\n'] {
-            let mut text = Vec::new(alloc);
-            for (at, old) in CLAIM.as_bytes().iter().enumerate() {
-                text.push(if at == place { byte } else { *old })?;
-            }
-            is_judged(&rt, alloc, place as u64, text.as_slice(), &mut counts)?;
+        for byte in b" 9\n".as_slice() {
+            is_replaced_and_judged(&rt, rt.alloc(), place, *byte, &mut counts)?;
         }
     }
-    assert!(rt; counts.legal > 5 && counts.illegal > 5 && counts.faulty > 200);
+    let is_varied = counts.legal > 5 && counts.illegal > 5 && counts.faulty > 200;
+    same(&rt, is_varied, true, "verdicts");
     Ok(())
 }

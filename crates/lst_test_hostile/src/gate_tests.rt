@@ -1,12 +1,13 @@
 //! Sessions at work while a line of one waits until a line of another is answered: `check` judges each report to be legal.
 
+use crate::calls::same;
 use crate::work_tests::report_of;
 use lst_command::Gate;
+use lst_model::OutOfMemory;
 use std::alloc::Global;
 use std::process::Abort;
 use std::sync::Wait;
 use std::sync::atomic::{AtomicBool, Ordering};
-use std::test::Fail;
 use std::thread::{Threads, yield_now};
 
 /// The options of the store for each script.
@@ -115,28 +116,45 @@ fn both_went(report: &[u8]) -> Option<(Went, Went)> {
     Some((one, other))
 }
 
+/// One of the rivals wrote at last while the other saw it or was refused.
+fn is_ended(both: Option<(Went, Went)>) -> bool {
+    matches!(
+        both,
+        Some(
+            (Went::First, Went::Second | Went::Refused)
+                | (Went::Second | Went::Refused, Went::First)
+        )
+    )
+}
+
 /// The rivals at work at a level under a gate: the report is legal, and one of them wrote at last while the other saw it or was refused.
 fn rivals_end<R: Abort + Threads + Wait + Sync>(
     rt: &R,
     alloc: Global,
     level: &str,
     gate: &HoldingGate,
-) -> Result<(), Fail> {
+) -> Result<(), OutOfMemory> {
     let report = report_of(rt, alloc, level, RIVALS, gate)?;
     let both = both_went(report.as_slice());
-    let ended = [
-        (Went::First, Went::Second),
-        (Went::Second, Went::First),
-        (Went::First, Went::Refused),
-        (Went::Refused, Went::First),
-    ];
-    assert!(rt; ended.iter().any(|pair| Some(*pair) == both), "{both:?}");
+    same(rt, is_ended(both), true, both);
     Ok(())
 }
 
+/// The same at each level, while a line is held.
+fn rivals_end_under<R: Abort + Threads + Wait + Sync>(
+    rt: &R,
+    alloc: Global,
+    hold: Hold,
+) -> Result<(), OutOfMemory> {
+    rivals_end(rt, alloc, "", &HoldingGate::new(hold, TURNS))?;
+    rivals_end(rt, alloc, "--level 2", &HoldingGate::new(hold, TURNS))
+}
+
 #[test]
-fn two_rivals_write_one_after_the_other_or_one_is_refused(rt: HostRuntime) -> Result<(), Fail> {
-    let holds = [
+fn two_rivals_write_one_after_the_other_or_one_is_refused(
+    rt: HostRuntime,
+) -> Result<(), OutOfMemory> {
+    for hold in &[
         // A line of one is held until the other's line like it is answered.
         Hold { line: 5, until: 8 },
         Hold { line: 6, until: 9 },
@@ -147,26 +165,35 @@ fn two_rivals_write_one_after_the_other_or_one_is_refused(rt: HostRuntime) -> Re
         // One begins behind the other's commit.
         Hold { line: 5, until: 10 },
         Hold { line: 8, until: 7 },
-    ];
-    for hold in holds.iter() {
-        for level in ["", "--level 2"] {
-            rivals_end(&rt, rt.alloc(), level, &HoldingGate::new(*hold, TURNS))?;
-        }
+    ] {
+        rivals_end_under(&rt, rt.alloc(), *hold)?;
     }
     Ok(())
 }
 
 #[test]
-fn two_sessions_are_at_work_at_the_same_time(rt: HostRuntime) -> Result<(), Fail> {
+fn two_sessions_are_at_work_at_the_same_time(rt: HostRuntime) -> Result<(), OutOfMemory> {
     let gate = HoldingGate::new(Hold { line: 5, until: 8 }, 100_000_000);
     rivals_end(&rt, rt.alloc(), "", &gate)?;
-    assert!(rt; !gate.ran_out.load(Ordering::SeqCst));
+    same(&rt, gate.ran_out.load(Ordering::SeqCst), false, "ran out");
+    Ok(())
+}
+
+/// A report of sessions at work is legal while a line is held.
+fn is_legal_under<R: Abort + Threads + Wait + Sync>(
+    rt: &R,
+    alloc: Global,
+    script: &str,
+    hold: Hold,
+) -> Result<(), OutOfMemory> {
+    let gate = HoldingGate::new(hold, TURNS);
+    report_of(rt, alloc, OPTIONS, script, &gate)?;
     Ok(())
 }
 
 #[test]
-fn reports_of_two_writers_are_legal_under_each_gate(rt: HostRuntime) -> Result<(), Fail> {
-    let holds = [
+fn reports_of_two_writers_are_legal_under_each_gate(rt: HostRuntime) -> Result<(), OutOfMemory> {
+    for hold in &[
         // A transaction begins behind the other's commit, or commits behind it.
         Hold { line: 11, until: 9 },
         Hold { line: 9, until: 15 },
@@ -188,15 +215,8 @@ fn reports_of_two_writers_are_legal_under_each_gate(rt: HostRuntime) -> Result<(
             line: 14,
             until: 16,
         },
-    ];
-    for hold in holds.iter() {
-        report_of(
-            &rt,
-            rt.alloc(),
-            OPTIONS,
-            WRITERS,
-            &HoldingGate::new(*hold, TURNS),
-        )?;
+    ] {
+        is_legal_under(&rt, rt.alloc(), WRITERS, *hold)?;
     }
     Ok(())
 }
@@ -204,8 +224,8 @@ fn reports_of_two_writers_are_legal_under_each_gate(rt: HostRuntime) -> Result<(
 #[test]
 fn reports_of_two_movers_and_a_reader_are_legal_under_each_gate(
     rt: HostRuntime,
-) -> Result<(), Fail> {
-    let holds = [
+) -> Result<(), OutOfMemory> {
+    for hold in &[
         // The second write of one waits for the first of the other.
         Hold { line: 8, until: 11 },
         Hold { line: 12, until: 7 },
@@ -227,15 +247,8 @@ fn reports_of_two_movers_and_a_reader_are_legal_under_each_gate(
             line: 21,
             until: 13,
         },
-    ];
-    for hold in holds.iter() {
-        report_of(
-            &rt,
-            rt.alloc(),
-            OPTIONS,
-            MOVERS,
-            &HoldingGate::new(*hold, TURNS),
-        )?;
+    ] {
+        is_legal_under(&rt, rt.alloc(), MOVERS, *hold)?;
     }
     Ok(())
 }

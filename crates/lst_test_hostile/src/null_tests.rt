@@ -1,16 +1,17 @@
 //! Rows with nulls, whose lines no text of a script names: what a crew answers, as it is printed, before merges and behind them.
 ghost use Rattle.lst_session.specs.Crews.{IsCrewOf};
 
+use crate::calls::same;
 use crate::prefix_tests::line_fits;
 use arrayvec::ArrayVec;
 use lst_layout::Limits;
-use lst_model::{Call, Key, Line, Row, Text};
+use lst_model::{Call, Key, Line, OutOfMemory, Row, Text};
 use lst_report::push_line;
 use lst_rule::Store;
 use lst_scan::crew_line;
 use lst_session::{Crew, open_crew};
 use std::alloc::Global;
-use std::test::Fail;
+use std::process::Abort;
 
 /// The usual limits, with an index on the second column.
 const INDEXED: Limits = Limits {
@@ -36,17 +37,43 @@ fn insert(key: Key, first: Option<u64>, second: Option<u64>) -> Line {
     said(Call::Insert { key, row })
 }
 
-/// Adds the lines that ask for the rows.
-fn ask(lines: &mut Vec<Line>) -> Result<(), Fail> {
-    lines.push(said(Call::Sum { column: 0 }))?;
-    lines.push(said(Call::Sum { column: 1 }))?;
-    lines.push(said(Call::Count))?;
-    lines.push(said(Call::Find {
-        column: 1,
-        value: 0,
-    }))?;
-    lines.push(said(Call::Get { key: 1 }))?;
-    Ok(())
+/// The lines that put rows.
+fn put() -> [Line; 3] {
+    [
+        said(Call::Begin),
+        insert(1, Some(5), None),
+        insert(2, None, Some(0)),
+    ]
+}
+
+/// The lines that ask for them.
+fn ask() -> [Line; 5] {
+    [
+        said(Call::Sum { column: 0 }),
+        said(Call::Sum { column: 1 }),
+        said(Call::Count),
+        said(Call::Find {
+            column: 1,
+            value: 0,
+        }),
+        said(Call::Get { key: 1 }),
+    ]
+}
+
+/// The lines that commit them and merge both columns, up to the next begin.
+fn merge() -> [Line; 4] {
+    [
+        said(Call::Commit),
+        Line::Merge {
+            range: 0,
+            column: 0,
+        },
+        Line::Merge {
+            range: 0,
+            column: 1,
+        },
+        said(Call::Begin),
+    ]
 }
 
 /// A store with all its sessions at one seat, and what they have answered.
@@ -60,10 +87,10 @@ struct Crewed {
 
 impl Crewed {
     /// A store that opens.
-    fn open(alloc: Global) -> Result<Crewed, Fail> {
+    fn open(rt: &impl Abort, alloc: Global) -> Result<Crewed, OutOfMemory> {
         let limits = INDEXED;
         let Ok(layout) = limits.check() else {
-            return Err(Fail::from("the limits are in range"));
+            panic!(rt; "the limits are in range");
         };
         let (store, crew) = open_crew(alloc, &layout)?;
         Ok(Crewed {
@@ -74,41 +101,38 @@ impl Crewed {
     }
 
     /// Adds the text of the reply to a line.
-    fn answer(&mut self, alloc: Global, line: &Line) -> Result<(), Fail> {
+    fn answer(&mut self, rt: &impl Abort, alloc: Global, line: &Line) -> Result<(), OutOfMemory> {
         if !line_fits(&self.crew.seat.limits(), line) {
-            return Err(Fail::from("the line fits the limits"));
+            panic!(rt; "the line fits the limits");
         }
         let reply = crew_line(alloc, &self.store, &mut self.crew, line)?;
         push_line(&mut self.text, line, &reply)?;
         Ok(())
     }
+
+    /// The same of each line.
+    fn answer_all(
+        &mut self,
+        rt: &impl Abort,
+        alloc: Global,
+        lines: &[Line],
+    ) -> Result<(), OutOfMemory> {
+        for line in lines {
+            self.answer(rt, alloc, line)?;
+        }
+        Ok(())
+    }
 }
 
 #[test]
-fn nulls_are_printed_before_merges_and_behind_them(rt: HostRuntime) -> Result<(), Fail> {
-    let alloc = rt.alloc();
-    let mut lines = Vec::new(alloc);
-    lines.push(said(Call::Begin))?;
-    lines.push(insert(1, Some(5), None))?;
-    lines.push(insert(2, None, Some(0)))?;
-    ask(&mut lines)?;
-    lines.push(said(Call::Commit))?;
-    lines.push(Line::Merge {
-        range: 0,
-        column: 0,
-    })?;
-    lines.push(Line::Merge {
-        range: 0,
-        column: 1,
-    })?;
-    lines.push(said(Call::Begin))?;
-    ask(&mut lines)?;
-    let mut on = Crewed::open(alloc)?;
-    for line in lines.iter() {
-        on.answer(alloc, line)?;
-    }
+fn nulls_are_printed_before_merges_and_behind_them(rt: HostRuntime) -> Result<(), OutOfMemory> {
+    let mut on = Crewed::open(&rt, rt.alloc())?;
+    on.answer_all(&rt, rt.alloc(), put().as_slice())?;
+    on.answer_all(&rt, rt.alloc(), ask().as_slice())?;
+    on.answer_all(&rt, rt.alloc(), merge().as_slice())?;
+    on.answer_all(&rt, rt.alloc(), ask().as_slice())?;
     let wanted =
         "0 begun 0\n0 ok\n0 ok\n0 sum 5\n0 sum 0\n0 count 2\n0 keys 2\n0 row 5 null\n0 committed 1\nmerged 2\nmerged 2\n0 begun 1\n0 sum 5\n0 sum 0\n0 count 2\n0 keys 2\n0 row 5 null\n";
-    assert_eq!(rt; on.text.as_bytes(), wanted.as_bytes());
+    same(&rt, on.text.as_bytes(), wanted.as_bytes(), "replies");
     Ok(())
 }

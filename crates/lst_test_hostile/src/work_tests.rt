@@ -1,14 +1,14 @@
 //! Sessions at work: what `work` writes for a script is a report that `check` judges to be legal.
 
-use crate::calls::{SOUND, Wanted, called, comes_to};
+use crate::calls::{SOUND, Wanted, all_come_to, called, comes_to, same};
 use lst_command::{FreeGate, Gate, Status};
+use lst_model::OutOfMemory;
 use lst_script::FaultKind;
 use lst_test_memory::Ends;
 use std::alloc::Global;
 use std::process::Abort;
 use std::sync::Wait;
 use std::sync::atomic::{AtomicU64, Ordering};
-use std::test::Fail;
 use std::thread::Threads;
 
 /// Two sessions that write the same rows, with merges beside them, in two phases.
@@ -45,6 +45,45 @@ impl<'a, R: Wait + Sync> Gate for InOrder<'a, R> {
     }
 }
 
+/// What sessions at work write for a script, under a gate.
+fn worked<R: Abort + Threads + Wait + Sync, G: Gate + Sync>(
+    rt: &R,
+    alloc: Global,
+    options: &str,
+    script: &str,
+    gate: &G,
+) -> Result<Vec<u8>, OutOfMemory> {
+    let words = format!(in alloc; "work {options}")?;
+    let worked = called(rt, alloc, words.as_str(), script.as_bytes(), &SOUND, gate)?;
+    same(rt, worked.status, Status::Done, options);
+    let has_left = worked.left.is_some() && worked.errors.taken().is_empty();
+    same(rt, has_left, true, options);
+    Ok(worked.sink.taken().to_vec(alloc)?)
+}
+
+/// A script with its report.
+fn claim(alloc: Global, script: &str, report: &[u8]) -> Result<Vec<u8>, OutOfMemory> {
+    let mut claim = script.as_bytes().to_vec(alloc)?;
+    claim.extend_from_slice(b"report\n")?;
+    claim.extend_from_slice(report)?;
+    Ok(claim)
+}
+
+/// A report is judged to be legal for its script.
+fn is_legal(
+    rt: &(impl Abort + Threads + Wait + Sync),
+    alloc: Global,
+    options: &str,
+    script: &str,
+    report: &[u8],
+) -> Result<(), OutOfMemory> {
+    let claim = claim(alloc, script, report)?;
+    let words = format!(in alloc; "check {options}")?;
+    let (line, input) = (words.as_str(), claim.as_slice());
+    let wanted = Wanted::output("legal\n");
+    comes_to(rt, alloc, 0, line, input, &SOUND, wanted)
+}
+
 /// What sessions at work write for a script, under a gate: it is judged to be legal.
 pub(crate) fn report_of<R: Abort + Threads + Wait + Sync, G: Gate + Sync>(
     rt: &R,
@@ -52,27 +91,23 @@ pub(crate) fn report_of<R: Abort + Threads + Wait + Sync, G: Gate + Sync>(
     options: &str,
     script: &str,
     gate: &G,
-) -> Result<Vec<u8>, Fail> {
-    let words = format!(in alloc; "work {options}")?;
-    let worked = called(rt, alloc, words.as_str(), script.as_bytes(), &SOUND, gate)?;
-    assert_eq!(rt; worked.status, Status::Done);
-    assert!(rt; worked.left.is_some() && worked.errors.taken().is_empty());
-    let report = worked.sink.taken().to_vec(alloc)?;
-    let mut claim = script.as_bytes().to_vec(alloc)?;
-    claim.extend_from_slice(b"report\n")?;
-    claim.extend_from_slice(report.as_slice())?;
-    let words = format!(in alloc; "check {options}")?;
-    let wanted = Wanted::output("legal\n");
-    comes_to(
-        rt,
-        alloc,
-        0,
-        words.as_str(),
-        claim.as_slice(),
-        &SOUND,
-        &wanted,
-    )?;
+) -> Result<Vec<u8>, OutOfMemory> {
+    let report = worked(rt, alloc, options, script, gate)?;
+    is_legal(rt, alloc, options, script, report.as_slice())?;
     Ok(report)
+}
+
+/// Two sessions at work on a script, again and again: each report is judged to be legal.
+fn reports_are_legal(
+    rt: &(impl Abort + Threads + Wait + Sync),
+    alloc: Global,
+    options: &str,
+    script: &str,
+) -> Result<(), OutOfMemory> {
+    for _ in 0..20u32 {
+        report_of(rt, alloc, options, script, &FreeGate)?;
+    }
+    Ok(())
 }
 
 /// Two sessions at work, while these lines pass in this order: what they write, which is judged to be legal.
@@ -82,52 +117,57 @@ fn writes_in_order(
     script: &str,
     lines: &[u64],
     wanted: &str,
-) -> Result<(), Fail> {
+) -> Result<(), OutOfMemory> {
     let gate = InOrder {
         rt,
         lines,
         next: AtomicU64::new(0),
     };
     let report = report_of(rt, alloc, "--sessions 2", script, &gate)?;
-    assert_eq!(rt; report.as_slice(), wanted.as_bytes());
+    same(rt, report.as_slice(), wanted.as_bytes(), lines);
     Ok(())
 }
 
 #[test]
-fn two_sessions_at_work_write_a_legal_report(rt: HostRuntime) -> Result<(), Fail> {
-    for options in ["--sessions 2", "--sessions 2 --level 2"] {
-        for _ in 0..20u32 {
-            report_of(&rt, rt.alloc(), options, TWO_PHASES, &FreeGate)?;
-        }
-    }
-    Ok(())
+fn two_sessions_at_work_write_a_legal_report(rt: HostRuntime) -> Result<(), OutOfMemory> {
+    reports_are_legal(&rt, rt.alloc(), "--sessions 2", TWO_PHASES)?;
+    reports_are_legal(&rt, rt.alloc(), "--sessions 2 --level 2", TWO_PHASES)
 }
 
 /// Two sessions that each read the row that the other one writes. The ends of phases put their calls into this order.
 const SKEW: &str =
     "2 begin\n2 insert 1 1 0\n2 insert 2 1 0\n2 commit\nphase\n0 begin\n0 get 1\n0 update 2 0 _\nphase\n1 begin\n1 get 2\n1 update 1 0 _\nphase\n0 commit\nphase\n1 commit\n";
 
-#[test]
-fn write_skew_is_stale_at_level_2_alone(rt: HostRuntime) -> Result<(), Fail> {
-    let alloc = rt.alloc();
-    let front =
-        "2 begun 0\n2 ok\n2 ok\n2 committed 1\n0 begun 1\n0 row 1 0\n0 ok\n1 begun 1\n1 row 1 0\n1 ok\n0 committed 2\n";
-    let skewed = "1 committed 3\nhistory 3\n1 2 1 0\n2 0 1 1\n3 1 1 1\n";
-    let stale = "1 conflict stale 2\nhistory 2\n1 2 1 0\n2 0 1 1\n";
-    for (options, end) in [
-        ("--sessions 3", skewed),
-        ("--sessions 3 --level 1", skewed),
-        ("--sessions 3 --level=2", stale),
-    ] {
-        let report = report_of(&rt, alloc, options, SKEW, &FreeGate)?;
-        let wanted = format!(in alloc; "{front}{end}")?;
-        assert_eq!(rt; report.as_slice(), wanted.as_bytes());
-    }
+/// What both sessions answer to it, up to the second commit.
+const SKEWED: &str =
+    "2 begun 0\n2 ok\n2 ok\n2 committed 1\n0 begun 1\n0 row 1 0\n0 ok\n1 begun 1\n1 row 1 0\n1 ok\n0 committed 2\n";
+
+/// Under these options the report of both sessions ends so.
+fn skew_ends(
+    rt: &(impl Abort + Threads + Wait + Sync),
+    alloc: Global,
+    options: &str,
+    end: &str,
+) -> Result<(), OutOfMemory> {
+    let report = report_of(rt, alloc, options, SKEW, &FreeGate)?;
+    let found = report.as_slice().strip_prefix(SKEWED.as_bytes());
+    same(rt, found, Some(end.as_bytes()), options);
     Ok(())
 }
 
 #[test]
-fn a_line_that_is_held_back_sees_what_was_done_before_it(rt: HostRuntime) -> Result<(), Fail> {
+fn write_skew_is_stale_at_level_2_alone(rt: HostRuntime) -> Result<(), OutOfMemory> {
+    let skewed = "1 committed 3\nhistory 3\n1 2 1 0\n2 0 1 1\n3 1 1 1\n";
+    let stale = "1 conflict stale 2\nhistory 2\n1 2 1 0\n2 0 1 1\n";
+    skew_ends(&rt, rt.alloc(), "--sessions 3", skewed)?;
+    skew_ends(&rt, rt.alloc(), "--sessions 3 --level 1", skewed)?;
+    skew_ends(&rt, rt.alloc(), "--sessions 3 --level=2", stale)
+}
+
+#[test]
+fn a_line_that_is_held_back_sees_what_was_done_before_it(
+    rt: HostRuntime,
+) -> Result<(), OutOfMemory> {
     let alloc = rt.alloc();
     let script = "0 begin\n0 insert 7 10 20\n0 commit\n1 begin\n1 get 7\n1 commit\n";
     writes_in_order(
@@ -154,33 +194,40 @@ fn a_line_that_is_held_back_sees_what_was_done_before_it(rt: HostRuntime) -> Res
 }
 
 #[test]
-fn merges_over_tight_limits_give_a_legal_report(rt: HostRuntime) -> Result<(), Fail> {
-    for options in [
-        "--sessions 2 --ranges 1 --tails 8 --txns 3 --spare 1",
-        "--sessions 2 --ranges 1 --tails 8 --txns 3 --spare 1 --level 2",
-    ] {
-        for _ in 0..20u32 {
-            report_of(&rt, rt.alloc(), options, TIGHT, &FreeGate)?;
-        }
-    }
-    Ok(())
+fn merges_over_tight_limits_give_a_legal_report(rt: HostRuntime) -> Result<(), OutOfMemory> {
+    let options = "--sessions 2 --ranges 1 --tails 8 --txns 3 --spare 1";
+    reports_are_legal(&rt, rt.alloc(), options, TIGHT)?;
+    let options = "--sessions 2 --ranges 1 --tails 8 --txns 3 --spare 1 --level 2";
+    reports_are_legal(&rt, rt.alloc(), options, TIGHT)
 }
 
+/// A fault of a line of work is told.
+const FAULTY: Wanted<'static> = Wanted {
+    status: Status::BadScript {
+        line: 2,
+        kind: FaultKind::BadSession,
+    },
+    output: b"",
+    message: b"lstore: line 2: no such session\n",
+};
+
+/// The sink of work fails at its second call.
+const CUT: Wanted<'static> = Wanted {
+    status: Status::WriteFault,
+    output: b"0 beg",
+    message: b"lstore: write failed\n",
+};
+
 #[test]
-fn the_edges_of_work_are_those_of_run(rt: HostRuntime) -> Result<(), Fail> {
-    let alloc = rt.alloc();
-    let nothing = Wanted::output("history 0\n");
-    comes_to(&rt, alloc, 0, "work", b"", &SOUND, &nothing)?;
-    let faulty = Wanted {
-        status: Status::BadScript {
-            line: 2,
-            kind: FaultKind::BadSession,
-        },
-        output: b"",
-        message: b"lstore: line 2: no such session\n",
-    };
-    let input = b"0 begin\n1 begin\n".as_slice();
-    comes_to(&rt, alloc, 1, "work --sessions 1", input, &SOUND, &faulty)?;
+fn the_edges_of_work_are_those_of_run(rt: HostRuntime) -> Result<(), OutOfMemory> {
+    all_come_to(
+        &rt,
+        rt.alloc(),
+        &[
+            ("work", b"", Wanted::output("history 0\n")),
+            ("work --sessions 1", b"0 begin\n1 begin\n", FAULTY),
+        ],
+    )?;
     let ends = Ends {
         read_step: 7,
         write_step: 5,
@@ -188,10 +235,5 @@ fn the_edges_of_work_are_those_of_run(rt: HostRuntime) -> Result<(), Fail> {
         failing_write: 2,
         failing_report: 0,
     };
-    let cut = Wanted {
-        status: Status::WriteFault,
-        output: b"0 beg",
-        message: b"lstore: write failed\n",
-    };
-    comes_to(&rt, alloc, 2, "work", b"0 begin\n", &ends, &cut)
+    comes_to(&rt, rt.alloc(), 2, "work", b"0 begin\n", &ends, CUT)
 }
