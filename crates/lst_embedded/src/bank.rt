@@ -147,22 +147,31 @@ pub(crate) fn run<R: Threads + Sync>(rt: &R, alloc: Global) -> Result<Books, Sto
 
 #[cfg(test)]
 mod tests {
-    use super::run;
+    use super::{Books, run};
+    use std::fmt::Debug;
     use std::process::Abort;
-    use std::test::Fail;
+
+    /// What was found is what was wanted, at this place of the books.
+    fn same<T: PartialEq + Debug + Drop>(rt: &impl Abort, found: T, wanted: T, at: &str) {
+        assert_eq!(rt; found, wanted, "{at}");
+    }
+
+    /// Nothing is lost.
+    fn are_right(rt: &impl Abort, books: &Books) {
+        same(rt, books.history.len(), 58, "commits");
+        same(rt, books.audits.len(), 10, "audits");
+        for audit in &books.audits {
+            same(rt, audit.total, 8_000, "an audit");
+        }
+        same(rt, books.total, 8_000, "in all");
+    }
 
     /// Where there is memory the bank stays open, and nothing is lost.
     #[test]
-    fn the_books_are_handed_back(rt: HostRuntime) -> Result<(), Fail> {
-        let Ok(books) = run(&rt, rt.alloc()) else {
-            return Err(Fail::from("the bank closed early"));
-        };
-        assert_eq!(rt; books.history.len(), 58);
-        assert_eq!(rt; books.audits.len(), 10);
-        for audit in &books.audits {
-            assert_eq!(rt; audit.total, 8_000);
+    fn the_books_are_handed_back(rt: HostRuntime) {
+        match run(&rt, rt.alloc()) {
+            Ok(books) => are_right(&rt, &books),
+            Err(_) => panic!(rt; "the bank closed early"),
         }
-        assert_eq!(rt; books.total, 8_000);
-        Ok(())
     }
 }

@@ -5,17 +5,17 @@ ghost use Rattle.lst_plain.specs.Plains.{limits_of};
 ghost use Rattle.lst_machine.specs.Machines.{limits_of as machine_limits};
 ghost use Rattle.lst_session.specs.Crews.{IsCrewOf};
 
+use crate::calls::same;
 use arrayvec::ArrayVec;
 use lst_layout::Limits;
 use lst_machine::Machine;
-use lst_model::{Call, Line, Patch, Reply, Row};
+use lst_model::{Call, Line, OutOfMemory, Patch, Reply, Row};
 use lst_plain::Plain;
 use lst_rule::Store;
 use lst_scan::crew_line;
 use lst_session::{Crew, open_crew};
 use std::alloc::Global;
 use std::process::Abort;
-use std::test::Fail;
 
 /// Limits that drawn scripts come to: a range of few tails, few transactions. The second column has an index.
 const NARROW: Limits = Limits {
@@ -227,6 +227,14 @@ struct Answered {
     machine: Reply,
 }
 
+impl Answered {
+    /// All three answers are the same.
+    fn agree(&self, rt: &impl Abort, seed: u64) {
+        same(rt, &self.plain, &self.machine, (seed, &self.line));
+        same(rt, &self.stored, &self.plain, (seed, &self.line));
+    }
+}
+
 /// Asks all three for the answer to a drawn line.
 fn answers(
     alloc: Global,
@@ -236,7 +244,7 @@ fn answers(
     machine: &mut Machine,
     ranges: u32,
     drawer: &mut Drawer,
-) -> Result<Answered, Fail>
+) -> Result<Answered, OutOfMemory>
     requires some { 0 < ranges }
     requires crew { IsCrewOf store.now crew.old }
     requires sessions { (crew.old.seat.view.limits.sessions ≡ 3) × (crew.old.seat.view.limits.ranges ≡ ranges) × (crew.old.seat.view.limits.columns ≡ 2) }
@@ -304,11 +312,11 @@ fn compare(
     seed: u64,
     lines: u32,
     counts: &mut Counts,
-) -> Result<(), Fail>
+) -> Result<(), OutOfMemory>
     requires { (limits.now.sessions ≡ 3) × (0 < limits.now.ranges) × (limits.now.columns ≡ 2) }
 {
     let Ok(layout) = limits.check() else {
-        return Err(Fail::from("the limits are in range"));
+        panic!(rt; "the limits are in range");
     };
     let (store, mut crew) = open_crew(rt.alloc(), &layout)?;
     let mut plain = Plain::new(rt.alloc(), &layout)?;
@@ -324,8 +332,7 @@ fn compare(
             limits.ranges,
             &mut drawer,
         )?;
-        assert_eq!(rt; answers.plain, answers.machine);
-        assert_eq!(rt; answers.stored, answers.plain);
+        answers.agree(rt, seed);
         counts.count(&answers.line, &answers.stored);
     }
     Ok(())
@@ -334,7 +341,7 @@ fn compare(
 #[test]
 fn drawn_scripts_are_answered_as_the_engines_of_one_thread_answer_them(
     rt: HostRuntime,
-) -> Result<(), Fail> {
+) -> Result<(), OutOfMemory> {
     let mut counts = Counts::new();
     for seed in 0..200u64 {
         compare(&rt, &NARROW, 6, seed, 90, &mut counts)?;
@@ -342,27 +349,34 @@ fn drawn_scripts_are_answered_as_the_engines_of_one_thread_answer_them(
     for seed in 200..300u64 {
         compare(&rt, &SPARE, 6, seed, 90, &mut counts)?;
     }
-    assert!(rt; counts.refused > 3000 && counts.rows > 0 && counts.keys > 0);
-    assert!(rt; counts.merged > 0 && counts.no_frame > 0);
+    let is_varied = counts.refused > 3000 && counts.rows > 0 && counts.keys > 0;
+    same(&rt, is_varied, true, "replies");
+    same(
+        &rt,
+        counts.merged > 0 && counts.no_frame > 0,
+        true,
+        "merges",
+    );
     Ok(())
 }
 
 #[test]
-fn drawn_scripts_fill_the_table(rt: HostRuntime) -> Result<(), Fail> {
+fn drawn_scripts_fill_the_table(rt: HostRuntime) -> Result<(), OutOfMemory> {
     for seed in 0..6u64 {
         let mut counts = Counts::new();
         compare(&rt, &WIDE, 400, seed, 2400, &mut counts)?;
-        assert!(rt; counts.refused > 200);
+        same(&rt, counts.refused > 200, true, seed);
     }
     Ok(())
 }
 
 #[test]
-fn drawn_scripts_go_beyond_one_range(rt: HostRuntime) -> Result<(), Fail> {
+fn drawn_scripts_go_beyond_one_range(rt: HostRuntime) -> Result<(), OutOfMemory> {
     let mut counts = Counts::new();
     for seed in 0..2u64 {
         compare(&rt, &BROAD, 500, seed, 7000, &mut counts)?;
     }
-    assert!(rt; counts.merged > 0 && counts.merged_beyond > 0 && counts.keys > 0);
+    let is_varied = counts.merged > 0 && counts.merged_beyond > 0 && counts.keys > 0;
+    same(&rt, is_varied, true, "merges");
     Ok(())
 }

@@ -1,14 +1,13 @@
 //! Loads: what `load` writes, that it reads nothing, and which words name none.
 
-use crate::tests::{Fails, NOTHING, called, shows};
+use crate::calls::{Fails, all_are_refused, called, same, shows};
 use lst_command::{FreeGate, Gate, Status};
-use lst_model::Line;
+use lst_model::{Line, OutOfMemory};
 use lst_script::generate;
 use std::alloc::Global;
 use std::process::Abort;
 use std::sync::Wait;
 use std::sync::atomic::{AtomicU64, Ordering};
-use std::test::Fail;
 use std::thread::Threads;
 
 /// A source that fails when it is read.
@@ -24,52 +23,46 @@ fn loads(
     alloc: Global,
     line: &str,
     output: &str,
-) -> Result<(), Fail> {
+) -> Result<(), OutOfMemory> {
     let shown = called(rt, alloc, line, b"0 begin\n", UNREADABLE, &FreeGate)?;
-    assert_eq!(rt; shown.status, Status::Done);
-    assert_eq!(rt; shown.sink.taken(), output.as_bytes());
-    assert!(rt; shown.left.is_some() && shown.errors.taken().is_empty());
+    same(rt, shown.status, Status::Done, line);
+    same(rt, shown.sink.taken(), output.as_bytes(), line);
+    let has_left = shown.left.is_some() && shown.errors.taken().is_empty();
+    same(rt, has_left, true, line);
     Ok(())
 }
 
-/// Words that are no command line.
-fn is_refused(
+/// The same of each load, by its words and its output.
+fn all_load(
     rt: &(impl Abort + Threads + Wait + Sync),
     alloc: Global,
-    line: &str,
-) -> Result<(), Fail> {
-    shows(
-        rt,
-        alloc,
-        line,
-        b"",
-        NOTHING,
-        Status::Usage,
-        "",
-        "lstore: bad command line\n",
-    )
+    calls: &[(&str, &str)],
+) -> Result<(), OutOfMemory> {
+    for &(line, output) in calls {
+        loads(rt, alloc, line, output)?;
+    }
+    Ok(())
 }
 
 #[test]
-fn a_load_tells_its_rows_and_their_total(rt: HostRuntime) -> Result<(), Fail> {
-    let alloc = rt.alloc();
-    loads(
+fn a_load_tells_its_rows_and_their_total(rt: HostRuntime) -> Result<(), OutOfMemory> {
+    all_load(
         &rt,
-        alloc,
-        "load --seed 1 --keys 1000 --sessions 4",
-        "rows 1000\ntotal 1000000\n",
-    )?;
-    loads(
-        &rt,
-        alloc,
-        "load --sessions=3 --keys=1 --seed=18446744073709551615",
-        "rows 1\ntotal 1000\n",
-    )?;
-    loads(
-        &rt,
-        alloc,
-        "load --keys 300 --seed 0 --sessions 2",
-        "rows 300\ntotal 300000\n",
+        rt.alloc(),
+        &[
+            (
+                "load --seed 1 --keys 1000 --sessions 4",
+                "rows 1000\ntotal 1000000\n",
+            ),
+            (
+                "load --sessions=3 --keys=1 --seed=18446744073709551615",
+                "rows 1\ntotal 1000\n",
+            ),
+            (
+                "load --keys 300 --seed 0 --sessions 2",
+                "rows 300\ntotal 300000\n",
+            ),
+        ],
     )
 }
 
@@ -85,59 +78,67 @@ impl Gate for Counter {
     }
 }
 
-#[test]
-fn the_gate_of_a_load_is_called_twice_for_each_line(rt: HostRuntime) -> Result<(), Fail> {
-    let alloc = rt.alloc();
+/// How often the gate is called while a load runs.
+fn calls_of_the_gate(
+    rt: &(impl Threads + Wait + Sync),
+    alloc: Global,
+    line: &str,
+) -> Result<u64, OutOfMemory> {
     let counter = Counter {
         calls: AtomicU64::new(0),
     };
-    called(
-        &rt,
-        alloc,
-        "load --seed 1 --keys 1000 --sessions 4",
-        b"",
-        UNREADABLE,
-        &counter,
-    )?;
+    called(rt, alloc, line, b"", UNREADABLE, &counter)?;
+    Ok(counter.calls.load(Ordering::SeqCst))
+}
+
+/// Twice the number of lines that are no end of a phase.
+fn twice_the_lines(lines: &[Line]) -> u64 {
     let mut twice = 0u64;
-    for line in generate(alloc, 1, 1000, 4)?.unpacked(alloc)?.iter() {
+    for line in lines {
         if !matches!(line, Line::Phase) {
             twice = twice.wrapping_add(2);
         }
     }
-    assert_eq!(rt; counter.calls.load(Ordering::SeqCst), twice);
+    twice
+}
+
+#[test]
+fn the_gate_of_a_load_is_called_twice_for_each_line(rt: HostRuntime) -> Result<(), OutOfMemory> {
+    let line = "load --seed 1 --keys 1000 --sessions 4";
+    let calls = calls_of_the_gate(&rt, rt.alloc(), line)?;
+    let script = generate(rt.alloc(), 1, 1000, 4)?;
+    let lines = script.unpacked(rt.alloc())?;
+    same(&rt, calls, twice_the_lines(lines.as_slice()), line);
     Ok(())
 }
 
 #[test]
-fn a_load_whose_sink_fails_has_written_a_front(rt: HostRuntime) -> Result<(), Fail> {
+fn a_load_whose_sink_fails_has_written_a_front(rt: HostRuntime) -> Result<(), OutOfMemory> {
     let fails = Fails {
         read: 1,
         write: 2,
         report: 0,
     };
-    shows(
-        &rt,
-        rt.alloc(),
-        "load --keys 2",
-        b"",
-        fails,
-        Status::WriteFault,
-        "rows ",
-        "lstore: write failed\n",
-    )
+    let (status, message) = (Status::WriteFault, "lstore: write failed\n");
+    let line = "load --keys 2";
+    shows(&rt, rt.alloc(), line, b"", fails, status, "rows ", message)
 }
 
 #[test]
-fn other_words_are_no_load(rt: HostRuntime) -> Result<(), Fail> {
-    let alloc = rt.alloc();
-    is_refused(&rt, alloc, "load --keys 0")?;
-    is_refused(&rt, alloc, "load --keys 4097")?;
-    is_refused(&rt, alloc, "load --sessions 17")?;
-    is_refused(&rt, alloc, "load --tails 3")?;
-    is_refused(&rt, alloc, "load --seed 1 --seed 1")?;
-    is_refused(&rt, alloc, "load --seed 18446744073709551616")?;
-    is_refused(&rt, alloc, "load x")?;
-    is_refused(&rt, alloc, "loads")?;
-    is_refused(&rt, alloc, "run --keys 3")
+fn other_words_are_no_load(rt: HostRuntime) -> Result<(), OutOfMemory> {
+    all_are_refused(
+        &rt,
+        rt.alloc(),
+        &[
+            "load --keys 0",
+            "load --keys 4097",
+            "load --sessions 17",
+            "load --tails 3",
+            "load --seed 1 --seed 1",
+            "load --seed 18446744073709551616",
+            "load x",
+            "loads",
+            "run --keys 3",
+        ],
+    )
 }

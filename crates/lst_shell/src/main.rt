@@ -5,6 +5,8 @@
 #[cfg(test)]
 mod asof_tests;
 #[cfg(test)]
+mod calls;
+#[cfg(test)]
 mod check_tests;
 #[cfg(test)]
 mod crash_tests;

@@ -1,13 +1,8 @@
 //! Scripts that name their columns: the examples, rows with nulls, the faults of a header, and what `migrate` writes.
 
-use crate::tests::{NOTHING, shows};
-use lst_command::Status;
+use crate::calls::{all_answer, all_stop, answers};
+use lst_model::OutOfMemory;
 use lst_script::FaultKind;
-use std::alloc::Global;
-use std::process::Abort;
-use std::sync::Wait;
-use std::test::Fail;
-use std::thread::Threads;
 
 const ORDERS_BY_NAME: &str =
     "# Orders: the key is the order's number.\n# Session 0 takes two orders in one transaction.\nversion 2 customer cents\n0 begin\n0 insert 1001 customer=7 cents=250\n0 insert 1002 customer=7 cents=900\n0 commit\n# Session 1 raises an order while session 2 reads the state before.\n2 begin\n1 begin\n1 update 1002 cents=950\n1 commit\n2 get 1002\n2 commit\n# A new transaction sees the change.\n2 begin\n2 get 1002\n2 commit\n";
@@ -27,55 +22,26 @@ const ACCOUNTS_BY_NAME: &str =
 const ACCOUNTS_BY_NAME_REPLIES: &str =
     "0 begun 0\n0 ok\n0 ok\n0 committed 1\n1 begun 1\n1 row 1000 0\n1 ok\n1 row 1000 0\n1 ok\n1 committed 2\n2 begun 2\n2 ok\n2 aborted\n2 begun 2\n2 row 970 1\n2 row 1030 1\n2 ended 2\n3 begun 2\n3 refused exists\n3 refused missing\n3 refused missing\n3 ended 2\n3 refused idle\n";
 
-/// A call with these words and this input that ends well.
-fn answers(
-    rt: &(impl Abort + Threads + Wait + Sync),
-    alloc: Global,
-    words: &str,
-    input: &str,
-    output: &str,
-) -> Result<(), Fail> {
-    shows(
-        rt,
-        alloc,
-        words,
-        input.as_bytes(),
-        NOTHING,
-        Status::Done,
-        output,
-        "",
-    )
+#[test]
+fn orders_by_name_are_answered_as_by_number(rt: HostRuntime) -> Result<(), OutOfMemory> {
+    let (script, replies) = (ORDERS_BY_NAME, ORDERS_BY_NAME_REPLIES);
+    answers(&rt, rt.alloc(), "run", script, replies)
 }
 
 #[test]
-fn orders_by_name_are_answered_as_by_number(rt: HostRuntime) -> Result<(), Fail> {
-    answers(
-        &rt,
-        rt.alloc(),
-        "run",
-        ORDERS_BY_NAME,
-        ORDERS_BY_NAME_REPLIES,
-    )
+fn stock_by_name_are_answered_as_by_number(rt: HostRuntime) -> Result<(), OutOfMemory> {
+    let (script, replies) = (STOCK_BY_NAME, STOCK_BY_NAME_REPLIES);
+    answers(&rt, rt.alloc(), "run", script, replies)
 }
 
 #[test]
-fn stock_by_name_are_answered_as_by_number(rt: HostRuntime) -> Result<(), Fail> {
-    answers(&rt, rt.alloc(), "run", STOCK_BY_NAME, STOCK_BY_NAME_REPLIES)
+fn accounts_by_name_are_answered_as_by_number(rt: HostRuntime) -> Result<(), OutOfMemory> {
+    let (script, replies) = (ACCOUNTS_BY_NAME, ACCOUNTS_BY_NAME_REPLIES);
+    answers(&rt, rt.alloc(), "run", script, replies)
 }
 
 #[test]
-fn accounts_by_name_are_answered_as_by_number(rt: HostRuntime) -> Result<(), Fail> {
-    answers(
-        &rt,
-        rt.alloc(),
-        "run",
-        ACCOUNTS_BY_NAME,
-        ACCOUNTS_BY_NAME_REPLIES,
-    )
-}
-
-#[test]
-fn nulls_are_set_and_read(rt: HostRuntime) -> Result<(), Fail> {
+fn nulls_are_set_and_read(rt: HostRuntime) -> Result<(), OutOfMemory> {
     let script =
         "version 2 qty price\n0 begin\n0 insert 1 qty=5\n0 insert 2 qty=null price=9\n0 sum qty\n0 sum price\n0 update 1 price=7 qty=null\n0 scan\n0 count\n";
     let replies =
@@ -84,43 +50,43 @@ fn nulls_are_set_and_read(rt: HostRuntime) -> Result<(), Fail> {
 }
 
 #[test]
-fn a_script_is_migrated(rt: HostRuntime) -> Result<(), Fail> {
+fn a_script_is_migrated(rt: HostRuntime) -> Result<(), OutOfMemory> {
     let old = "0 begin\n0 insert 7 10 20\n0 update 7 _ 21\nmerge 0 1\n";
     let new = "version 2 c0 c1\n0 begin\n0 insert 7 c0=10 c1=20\n0 update 7 c1=21\nmerge 0 c1\n";
-    answers(&rt, rt.alloc(), "migrate", old, new)?;
-    answers(&rt, rt.alloc(), "migrate --columns 2", new, new)
+    all_answer(
+        &rt,
+        rt.alloc(),
+        &[("migrate", old, new), ("migrate --columns 2", new, new)],
+    )
 }
 
 #[test]
-fn a_faulty_header_ends_the_call(rt: HostRuntime) -> Result<(), Fail> {
-    for (header, kind, message) in [
-        (
-            "version 3 a b",
-            FaultKind::BadVersion,
-            "lstore: line 1: unknown version\n",
-        ),
-        (
-            "version 2 a",
-            FaultKind::BadCount,
-            "lstore: line 1: wrong number of words\n",
-        ),
-        (
-            "version 2 a a",
-            FaultKind::BadName,
-            "lstore: line 1: bad column name\n",
-        ),
-    ] {
-        let status = Status::BadScript { line: 1, kind };
-        shows(
-            &rt,
-            rt.alloc(),
-            "migrate",
-            header.as_bytes(),
-            NOTHING,
-            status,
-            "",
-            message,
-        )?;
-    }
-    Ok(())
+fn a_faulty_header_ends_the_call(rt: HostRuntime) -> Result<(), OutOfMemory> {
+    all_stop(
+        &rt,
+        rt.alloc(),
+        &[
+            (
+                "migrate",
+                "version 3 a b",
+                1,
+                FaultKind::BadVersion,
+                "lstore: line 1: unknown version\n",
+            ),
+            (
+                "migrate",
+                "version 2 a",
+                1,
+                FaultKind::BadCount,
+                "lstore: line 1: wrong number of words\n",
+            ),
+            (
+                "migrate",
+                "version 2 a a",
+                1,
+                FaultKind::BadName,
+                "lstore: line 1: bad column name\n",
+            ),
+        ],
+    )
 }

@@ -1,141 +1,14 @@
 //! The program over memory: what it answers, where it stops, and how it fails.
 
-use lst_command::{FreeGate, Gate, Status};
-use lst_model::{Call, Line, Reply};
+use crate::calls::{Fails, NOTHING, all_answer, all_are_refused, all_stop, answers, same, shows};
+use lst_command::Status;
+use lst_model::{Call, Line, OutOfMemory, Reply};
 use lst_report::print_line;
 use lst_script::FaultKind;
-use lst_test_memory::{Ends, Shown, call};
 use std::alloc::Global;
 use std::process::Abort;
 use std::sync::Wait;
-use std::test::Fail;
 use std::thread::Threads;
-
-/// Which call of the source, of the sink and of the sink of errors fails, counted from 1; none where it is 0.
-#[derive(Clone, Copy)]
-pub(crate) struct Fails {
-    pub read: u64,
-    pub write: u64,
-    pub report: u64,
-}
-
-pub(crate) const NOTHING: Fails = Fails {
-    read: 0,
-    write: 0,
-    report: 0,
-};
-
-/// The words of a command line, which spaces separate.
-fn words_of(alloc: Global, line: &str) -> Result<Vec<String>, Fail> {
-    let mut words = Vec::new(alloc);
-    for word in line.split_whitespace() {
-        words.push(String::from_str(alloc, word)?)?;
-    }
-    Ok(words)
-}
-
-/// A call over memory with these words and this gate.
-pub(crate) fn called<R: Threads + Wait + Sync, G: Gate + Sync>(
-    rt: &R,
-    alloc: Global,
-    line: &str,
-    input: &[u8],
-    fails: Fails,
-    gate: &G,
-) -> Result<Shown, Fail> {
-    let words = words_of(alloc, line)?;
-    let ends = Ends {
-        read_step: 7 + input.len() / 256,
-        write_step: 5,
-        failing_read: fails.read,
-        failing_write: fails.write,
-        failing_report: fails.report,
-    };
-    Ok(call(rt, alloc, words.as_slice(), input, &ends, gate)?)
-}
-
-/// A call over memory with these words: how it ends, and what the sink and the sink of errors took.
-pub(crate) fn shows(
-    rt: &(impl Abort + Threads + Wait + Sync),
-    alloc: Global,
-    line: &str,
-    input: &[u8],
-    fails: Fails,
-    status: Status,
-    output: &str,
-    message: &str,
-) -> Result<(), Fail> {
-    let shown = called(rt, alloc, line, input, fails, &FreeGate)?;
-    assert_eq!(rt; shown.status, status);
-    assert_eq!(rt; shown.sink.taken(), output.as_bytes());
-    assert_eq!(rt; shown.errors.taken(), message.as_bytes());
-    Ok(())
-}
-
-/// A run at which nothing fails.
-fn answers(
-    rt: &(impl Abort + Threads + Wait + Sync),
-    alloc: Global,
-    input: &str,
-    output: &str,
-) -> Result<(), Fail> {
-    answers_with(rt, alloc, "run", input, output)
-}
-
-/// The same with these words.
-fn answers_with(
-    rt: &(impl Abort + Threads + Wait + Sync),
-    alloc: Global,
-    line: &str,
-    input: &str,
-    output: &str,
-) -> Result<(), Fail> {
-    shows(
-        rt,
-        alloc,
-        line,
-        input.as_bytes(),
-        NOTHING,
-        Status::Done,
-        output,
-        "",
-    )
-}
-
-/// A run after one row was put.
-fn answers_after_a_row(
-    rt: &(impl Abort + Threads + Wait + Sync),
-    alloc: Global,
-    input: &str,
-    output: &str,
-) -> Result<(), Fail> {
-    let mut whole = String::from_str(alloc, "0 begin\n0 insert 7 10 20\n0 commit\n")?;
-    whole.push_str(input)?;
-    let mut wanted = String::from_str(alloc, "0 begun 0\n0 ok\n0 committed 1\n")?;
-    wanted.push_str(output)?;
-    answers(rt, alloc, whole.as_str(), wanted.as_str())
-}
-
-/// A run that ends at a faulty line.
-fn stops(
-    rt: &(impl Abort + Threads + Wait + Sync),
-    alloc: Global,
-    input: &str,
-    line: u64,
-    kind: FaultKind,
-    message: &str,
-) -> Result<(), Fail> {
-    shows(
-        rt,
-        alloc,
-        "run",
-        input.as_bytes(),
-        NOTHING,
-        Status::BadScript { line, kind },
-        "",
-        message,
-    )
-}
 
 const SCRIPT: &str = "0 begin\n0 insert 7 10 20\n0 get 7\n0 commit\n";
 
@@ -185,335 +58,292 @@ const FOUND_REPLIES: &str =
     "0 begun 0\n0 ok\n0 ok\n0 ok\n0 committed 1\n1 begun 1\n1 keys 11 13\n1 sum 63\n0 begun 1\n0 ok\n0 ok\n0 keys 13 14\n0 committed 2\n1 keys 11 13\n1 keys 12\n1 ended 1\n1 begun 2\n1 keys 13 14\n1 keys 11 12\nmerged 5\n1 keys 13 14\n1 keys\n1 refused noindex\n1 ended 2\n";
 
 #[test]
-fn each_line_is_answered(rt: HostRuntime) -> Result<(), Fail> {
-    let alloc = rt.alloc();
-    answers(&rt, alloc, "", "")?;
-    answers(&rt, alloc, SCRIPT, ANSWERS)?;
-    answers(&rt, alloc, "0 begin", "0 begun 0\n")?;
-    answers(&rt, alloc, "0 begin\n0 commit\n", "0 begun 0\n0 ended 0\n")
-}
-
-#[test]
-fn a_session_sees_what_was_committed_before_its_begin(rt: HostRuntime) -> Result<(), Fail> {
-    let alloc = rt.alloc();
-    answers_after_a_row(&rt, alloc, "1 begin\n1 get 7\n", "1 begun 1\n1 row 10 20\n")?;
-    answers_after_a_row(
+fn each_line_is_answered(rt: HostRuntime) -> Result<(), OutOfMemory> {
+    all_answer(
         &rt,
-        alloc,
-        "0 begin\n0 delete 7\n0 commit\n0 begin\n0 insert 7 30 40\n0 commit\n1 asof 1\n1 get 7\n1 commit\n1 asof 2\n1 get 7\n1 commit\n1 begin\n1 get 7\n",
-        "0 begun 1\n0 ok\n0 committed 2\n0 begun 2\n0 ok\n0 committed 3\n1 begun 1\n1 row 10 20\n1 ended 1\n1 begun 2\n1 none\n1 ended 2\n1 begun 3\n1 row 30 40\n",
+        rt.alloc(),
+        &[
+            ("run", "", ""),
+            ("run", SCRIPT, ANSWERS),
+            ("run", "0 begin", "0 begun 0\n"),
+            ("run", "0 begin\n0 commit\n", "0 begun 0\n0 ended 0\n"),
+        ],
     )
 }
 
 #[test]
-fn what_cannot_be_done_is_refused_and_the_transaction_goes_on(rt: HostRuntime) -> Result<(), Fail> {
-    let alloc = rt.alloc();
-    answers(
+fn a_session_sees_what_was_committed_before_its_begin(rt: HostRuntime) -> Result<(), OutOfMemory> {
+    all_answer(
         &rt,
-        alloc,
-        "0 get 7\n0 begin\n0 begin\n0 insert 7 1 1\n0 insert 7 1 1\n0 get 8\n0 commit\n",
-        "0 refused idle\n0 begun 0\n0 refused active\n0 ok\n0 refused exists\n0 none\n0 committed 1\n",
-    )?;
-    answers(
-        &rt,
-        alloc,
-        "0 begin\n0 insert 7 1 1\n0 insert 7 1 1\n0 update 9 1 _\n0 delete 7\n0 update 7 1 _\n",
-        "0 begun 0\n0 ok\n0 refused exists\n0 refused missing\n0 ok\n0 refused missing\n",
-    )?;
-    answers(
-        &rt,
-        alloc,
-        "0 get 7\n0 commit\n0 begin\n0 begin\n0 abort\n0 asof 0\n0 insert 1 1 1\n0 commit\n",
-        "0 refused idle\n0 refused idle\n0 begun 0\n0 refused active\n0 aborted\n0 begun 0\n0 refused readonly\n0 ended 0\n",
-    )?;
-    answers(&rt, alloc, "0 asof 1\n", "0 refused future 0\n")
-}
-
-#[test]
-fn scans_are_answered(rt: HostRuntime) -> Result<(), Fail> {
-    let alloc = rt.alloc();
-    // Without a transaction, and of an empty table.
-    answers(
-        &rt,
-        alloc,
-        "0 sum 0\n0 count\n0 scan\n0 find 0 1\n0 begin\n0 sum 0\n0 count\n0 scan\n0 find 0 1\n",
-        "0 refused idle\n0 refused idle\n0 refused idle\n0 refused idle\n0 begun 0\n0 sum 0\n0 count 0\n0 rows\n0 refused noindex\n",
-    )?;
-    // A past state stays while others commit; own writes are seen at once, those of others are not.
-    answers_after_a_row(
-        &rt,
-        alloc,
-        "1 asof 1\n1 sum 1\n0 begin\n0 insert 6 1 18446744073709551615\n0 sum 1\n1 sum 1\n0 commit\n1 sum 1\n1 scan\n1 commit\n1 begin\n1 count\n1 scan\n",
-        "1 begun 1\n1 sum 20\n0 begun 1\n0 ok\n0 sum 18446744073709551635\n1 sum 20\n0 committed 2\n1 sum 20\n1 rows 7:10,20\n1 ended 1\n1 begun 2\n1 count 2\n1 rows 6:1,18446744073709551615 7:10,20\n",
+        rt.alloc(),
+        &[
+            (
+                "run",
+                "0 begin\n0 insert 7 10 20\n0 commit\n1 begin\n1 get 7\n",
+                "0 begun 0\n0 ok\n0 committed 1\n1 begun 1\n1 row 10 20\n",
+            ),
+            (
+                "run",
+                "0 begin\n0 insert 7 10 20\n0 commit\n0 begin\n0 delete 7\n0 commit\n0 begin\n0 insert 7 30 40\n0 commit\n1 asof 1\n1 get 7\n1 commit\n1 asof 2\n1 get 7\n1 commit\n1 begin\n1 get 7\n",
+                "0 begun 0\n0 ok\n0 committed 1\n0 begun 1\n0 ok\n0 committed 2\n0 begun 2\n0 ok\n0 committed 3\n1 begun 1\n1 row 10 20\n1 ended 1\n1 begun 2\n1 none\n1 ended 2\n1 begun 3\n1 row 30 40\n",
+            ),
+        ],
     )
 }
 
 #[test]
-fn rows_are_found_by_the_index(rt: HostRuntime) -> Result<(), Fail> {
-    let alloc = rt.alloc();
-    // The first line of the script names the option.
-    answers_with(&rt, alloc, "run --index 1", FOUND, FOUND_REPLIES)?;
-    answers_with(
+fn what_cannot_be_done_is_refused_and_the_transaction_goes_on(
+    rt: HostRuntime,
+) -> Result<(), OutOfMemory> {
+    all_answer(
         &rt,
-        alloc,
-        "run --index 1",
-        "0 begin\n0 insert 9 30 20\n0 insert 7 10 20\n0 find 1 20\n0 find 0 10\n",
-        "0 begun 0\n0 ok\n0 ok\n0 keys 7 9\n0 refused noindex\n",
-    )?;
-    answers_with(
-        &rt,
-        alloc,
-        "run --index 0",
-        "0 begin\n0 insert 1 5 5\n0 commit\n0 begin\n0 update 1 6 _\n0 find 0 5\n0 find 0 6\n1 begin\n1 find 0 5\n1 find 0 6\n",
-        "0 begun 0\n0 ok\n0 committed 1\n0 begun 1\n0 ok\n0 keys\n0 keys 1\n1 begun 1\n1 keys 1\n1 keys\n",
+        rt.alloc(),
+        &[
+            (
+                "run",
+                "0 get 7\n0 begin\n0 begin\n0 insert 7 1 1\n0 insert 7 1 1\n0 get 8\n0 commit\n",
+                "0 refused idle\n0 begun 0\n0 refused active\n0 ok\n0 refused exists\n0 none\n0 committed 1\n",
+            ),
+            (
+                "run",
+                "0 begin\n0 insert 7 1 1\n0 insert 7 1 1\n0 update 9 1 _\n0 delete 7\n0 update 7 1 _\n",
+                "0 begun 0\n0 ok\n0 refused exists\n0 refused missing\n0 ok\n0 refused missing\n",
+            ),
+            (
+                "run",
+                "0 get 7\n0 commit\n0 begin\n0 begin\n0 abort\n0 asof 0\n0 insert 1 1 1\n0 commit\n",
+                "0 refused idle\n0 refused idle\n0 begun 0\n0 refused active\n0 aborted\n0 begun 0\n0 refused readonly\n0 ended 0\n",
+            ),
+            ("run", "0 asof 1\n", "0 refused future 0\n"),
+        ],
     )
 }
 
 #[test]
-fn the_first_faulty_line_is_named(rt: HostRuntime) -> Result<(), Fail> {
-    let alloc = rt.alloc();
-    stops(
+fn scans_are_answered(rt: HostRuntime) -> Result<(), OutOfMemory> {
+    all_answer(
         &rt,
-        alloc,
-        "0 begin\n0 fly\n0 flee\n",
-        2,
-        FaultKind::UnknownWord,
-        "lstore: line 2: unknown word\n",
-    )?;
-    stops(
+        rt.alloc(),
+        &[
+            // Without a transaction, and of an empty table.
+            (
+                "run",
+                "0 sum 0\n0 count\n0 scan\n0 find 0 1\n0 begin\n0 sum 0\n0 count\n0 scan\n0 find 0 1\n",
+                "0 refused idle\n0 refused idle\n0 refused idle\n0 refused idle\n0 begun 0\n0 sum 0\n0 count 0\n0 rows\n0 refused noindex\n",
+            ),
+            // A past state stays while others commit; own writes are seen at once, those of others are not.
+            (
+                "run",
+                "0 begin\n0 insert 7 10 20\n0 commit\n1 asof 1\n1 sum 1\n0 begin\n0 insert 6 1 18446744073709551615\n0 sum 1\n1 sum 1\n0 commit\n1 sum 1\n1 scan\n1 commit\n1 begin\n1 count\n1 scan\n",
+                "0 begun 0\n0 ok\n0 committed 1\n1 begun 1\n1 sum 20\n0 begun 1\n0 ok\n0 sum 18446744073709551635\n1 sum 20\n0 committed 2\n1 sum 20\n1 rows 7:10,20\n1 ended 1\n1 begun 2\n1 count 2\n1 rows 6:1,18446744073709551615 7:10,20\n",
+            ),
+        ],
+    )
+}
+
+#[test]
+fn rows_are_found_by_the_index(rt: HostRuntime) -> Result<(), OutOfMemory> {
+    all_answer(
         &rt,
-        alloc,
-        "0 update 7 _ _\n",
-        1,
-        FaultKind::NothingToSet,
-        "lstore: line 1: nothing to set\n",
-    )?;
-    stops(
-        &rt,
-        alloc,
-        "\n# a comment\n0 insert 7 1\n",
-        3,
-        FaultKind::BadCount,
-        "lstore: line 3: wrong number of words\n",
-    )?;
-    stops(
-        &rt,
-        alloc,
-        "4 begin\n",
-        1,
-        FaultKind::BadSession,
-        "lstore: line 1: no such session\n",
-    )?;
-    stops(
-        &rt,
-        alloc,
-        "0 get 18446744073709551616\n",
-        1,
-        FaultKind::BadNumber,
-        "lstore: line 1: bad number\n",
-    )?;
-    stops(
-        &rt,
-        alloc,
-        "merge 4 0\n",
-        1,
-        FaultKind::BadRange,
-        "lstore: line 1: no such range\n",
-    )?;
+        rt.alloc(),
+        &[
+            // The first line of the script names the option.
+            ("run --index 1", FOUND, FOUND_REPLIES),
+            (
+                "run --index 1",
+                "0 begin\n0 insert 9 30 20\n0 insert 7 10 20\n0 find 1 20\n0 find 0 10\n",
+                "0 begun 0\n0 ok\n0 ok\n0 keys 7 9\n0 refused noindex\n",
+            ),
+            (
+                "run --index 0",
+                "0 begin\n0 insert 1 5 5\n0 commit\n0 begin\n0 update 1 6 _\n0 find 0 5\n0 find 0 6\n1 begin\n1 find 0 5\n1 find 0 6\n",
+                "0 begun 0\n0 ok\n0 committed 1\n0 begun 1\n0 ok\n0 keys\n0 keys 1\n1 begun 1\n1 keys 1\n1 keys\n",
+            ),
+        ],
+    )
+}
+
+/// A run of one line that is too long.
+fn stops_at_a_long_line(
+    rt: &(impl Abort + Threads + Wait + Sync),
+    alloc: Global,
+) -> Result<(), OutOfMemory> {
     let long = vec![in alloc; b'a'; 1_025]?;
-    let status = Status::BadScript {
-        line: 1,
-        kind: FaultKind::LineTooLong,
-    };
+    let (line, kind) = (1, FaultKind::LineTooLong);
+    let message = "lstore: line 1: line too long\n";
+    let status = Status::BadScript { line, kind };
     shows(
-        &rt,
+        rt,
         alloc,
         "run",
         long.as_slice(),
         NOTHING,
         status,
         "",
-        "lstore: line 1: line too long\n",
+        message,
     )
 }
 
 #[test]
-fn an_input_of_one_byte_too_many_is_refused(rt: HostRuntime) -> Result<(), Fail> {
-    let alloc = rt.alloc();
-    let over = vec![in alloc; b'\n'; 16_777_217]?;
-    shows(
+fn the_first_faulty_line_is_named(rt: HostRuntime) -> Result<(), OutOfMemory> {
+    all_stop(
         &rt,
+        rt.alloc(),
+        &[
+            (
+                "run",
+                "0 begin\n0 fly\n0 flee\n",
+                2,
+                FaultKind::UnknownWord,
+                "lstore: line 2: unknown word\n",
+            ),
+            (
+                "run",
+                "0 update 7 _ _\n",
+                1,
+                FaultKind::NothingToSet,
+                "lstore: line 1: nothing to set\n",
+            ),
+            (
+                "run",
+                "\n# a comment\n0 insert 7 1\n",
+                3,
+                FaultKind::BadCount,
+                "lstore: line 3: wrong number of words\n",
+            ),
+            (
+                "run",
+                "4 begin\n",
+                1,
+                FaultKind::BadSession,
+                "lstore: line 1: no such session\n",
+            ),
+            (
+                "run",
+                "0 get 18446744073709551616\n",
+                1,
+                FaultKind::BadNumber,
+                "lstore: line 1: bad number\n",
+            ),
+            (
+                "run",
+                "merge 4 0\n",
+                1,
+                FaultKind::BadRange,
+                "lstore: line 1: no such range\n",
+            ),
+        ],
+    )?;
+    stops_at_a_long_line(&rt, rt.alloc())
+}
+
+/// A run of so many newlines, which has no output.
+fn ends_behind_newlines(
+    rt: &(impl Abort + Threads + Wait + Sync),
+    alloc: Global,
+    count: usize,
+    status: Status,
+    message: &str,
+) -> Result<(), OutOfMemory> {
+    let input = vec![in alloc; b'\n'; count]?;
+    shows(
+        rt,
         alloc,
         "run",
-        over.as_slice(),
+        input.as_slice(),
         NOTHING,
-        Status::TooLong,
-        "",
-        "lstore: input too long\n",
-    )
-}
-
-#[test]
-fn an_input_of_the_greatest_size_is_read(rt: HostRuntime) -> Result<(), Fail> {
-    let alloc = rt.alloc();
-    let full = vec![in alloc; b'\n'; 16_777_216]?;
-    shows(
-        &rt,
-        alloc,
-        "run",
-        full.as_slice(),
-        NOTHING,
-        Status::Done,
-        "",
-        "",
-    )
-}
-
-#[test]
-fn orders_are_answered_as_the_guide_says(rt: HostRuntime) -> Result<(), Fail> {
-    answers(&rt, rt.alloc(), ORDERS, ORDERS_REPLIES)
-}
-
-#[test]
-fn stock_is_answered_as_the_guide_says(rt: HostRuntime) -> Result<(), Fail> {
-    answers(&rt, rt.alloc(), STOCK, STOCK_REPLIES)
-}
-
-#[test]
-fn accounts_are_answered_as_the_guide_says(rt: HostRuntime) -> Result<(), Fail> {
-    answers(&rt, rt.alloc(), ACCOUNTS, ACCOUNTS_REPLIES)
-}
-
-#[test]
-fn a_report_is_answered_as_the_guide_says(rt: HostRuntime) -> Result<(), Fail> {
-    answers(&rt, rt.alloc(), REPORT, REPORT_REPLIES)
-}
-
-#[test]
-fn two_customers_want_the_last_piece(rt: HostRuntime) -> Result<(), Fail> {
-    answers(&rt, rt.alloc(), RUSH, RUSH_REPLIES)
-}
-
-#[test]
-fn merges_are_answered_as_the_guide_says(rt: HostRuntime) -> Result<(), Fail> {
-    answers(&rt, rt.alloc(), LINEAGE, LINEAGE_REPLIES)
-}
-
-#[test]
-fn other_words_are_no_command_line(rt: HostRuntime) -> Result<(), Fail> {
-    let alloc = rt.alloc();
-    let fails = Fails {
-        read: 1,
-        write: 0,
-        report: 0,
-    };
-    let message = "lstore: bad command line\n";
-    shows(
-        &rt,
-        alloc,
-        "",
-        b"0 begin\n",
-        fails,
-        Status::Usage,
-        "",
-        message,
-    )?;
-    shows(
-        &rt,
-        alloc,
-        "fly",
-        b"0 begin\n",
-        fails,
-        Status::Usage,
-        "",
-        message,
-    )?;
-    shows(
-        &rt,
-        alloc,
-        "run --columns",
-        b"0 begin\n",
-        fails,
-        Status::Usage,
+        status,
         "",
         message,
     )
 }
 
 #[test]
-fn a_source_that_fails_gives_no_output(rt: HostRuntime) -> Result<(), Fail> {
-    let alloc = rt.alloc();
-    let first = Fails {
-        read: 1,
-        write: 0,
-        report: 0,
-    };
-    let message = "lstore: read failed\n";
-    shows(
-        &rt,
-        alloc,
-        "run",
-        SCRIPT.as_bytes(),
-        first,
-        Status::ReadFault,
-        "",
-        message,
-    )?;
-    let third = Fails {
-        read: 3,
-        write: 0,
-        report: 0,
-    };
-    shows(
-        &rt,
-        alloc,
-        "run",
-        SCRIPT.as_bytes(),
-        third,
-        Status::ReadFault,
-        "",
-        message,
-    )
+fn an_input_of_one_byte_too_many_is_refused(rt: HostRuntime) -> Result<(), OutOfMemory> {
+    let message = "lstore: input too long\n";
+    ends_behind_newlines(&rt, rt.alloc(), 16_777_217, Status::TooLong, message)
 }
 
 #[test]
-fn a_sink_that_fails_has_a_front_of_the_output(rt: HostRuntime) -> Result<(), Fail> {
-    let alloc = rt.alloc();
-    let first = Fails {
-        read: 0,
-        write: 1,
-        report: 0,
-    };
-    let message = "lstore: write failed\n";
-    shows(
-        &rt,
-        alloc,
-        "run",
-        SCRIPT.as_bytes(),
-        first,
-        Status::WriteFault,
-        "",
-        message,
-    )?;
-    let third = Fails {
-        read: 0,
-        write: 3,
-        report: 0,
-    };
-    shows(
-        &rt,
-        alloc,
-        "run",
-        SCRIPT.as_bytes(),
-        third,
-        Status::WriteFault,
-        "0 begun 0\n",
-        message,
-    )
+fn an_input_of_the_greatest_size_is_read(rt: HostRuntime) -> Result<(), OutOfMemory> {
+    ends_behind_newlines(&rt, rt.alloc(), 16_777_216, Status::Done, "")
 }
 
 #[test]
-fn a_sink_of_errors_that_fails_changes_nothing_else(rt: HostRuntime) -> Result<(), Fail> {
+fn orders_are_answered_as_the_guide_says(rt: HostRuntime) -> Result<(), OutOfMemory> {
+    answers(&rt, rt.alloc(), "run", ORDERS, ORDERS_REPLIES)
+}
+
+#[test]
+fn stock_is_answered_as_the_guide_says(rt: HostRuntime) -> Result<(), OutOfMemory> {
+    answers(&rt, rt.alloc(), "run", STOCK, STOCK_REPLIES)
+}
+
+#[test]
+fn accounts_are_answered_as_the_guide_says(rt: HostRuntime) -> Result<(), OutOfMemory> {
+    answers(&rt, rt.alloc(), "run", ACCOUNTS, ACCOUNTS_REPLIES)
+}
+
+#[test]
+fn a_report_is_answered_as_the_guide_says(rt: HostRuntime) -> Result<(), OutOfMemory> {
+    answers(&rt, rt.alloc(), "run", REPORT, REPORT_REPLIES)
+}
+
+#[test]
+fn two_customers_want_the_last_piece(rt: HostRuntime) -> Result<(), OutOfMemory> {
+    answers(&rt, rt.alloc(), "run", RUSH, RUSH_REPLIES)
+}
+
+#[test]
+fn merges_are_answered_as_the_guide_says(rt: HostRuntime) -> Result<(), OutOfMemory> {
+    answers(&rt, rt.alloc(), "run", LINEAGE, LINEAGE_REPLIES)
+}
+
+#[test]
+fn other_words_are_no_command_line(rt: HostRuntime) -> Result<(), OutOfMemory> {
+    all_are_refused(&rt, rt.alloc(), &["", "fly", "run --columns"])
+}
+
+/// A run of the script whose source or sink fails at a call has this front of the output.
+fn fails_behind(
+    rt: &(impl Abort + Threads + Wait + Sync),
+    alloc: Global,
+    fails: Fails,
+    status: Status,
+    output: &str,
+    message: &str,
+) -> Result<(), OutOfMemory> {
+    let input = SCRIPT.as_bytes();
+    shows(rt, alloc, "run", input, fails, status, output, message)
+}
+
+/// A source that fails at this call.
+fn failing_read(read: u64) -> Fails {
+    Fails { read, ..NOTHING }
+}
+
+/// A sink that fails at this call.
+fn failing_write(write: u64) -> Fails {
+    Fails { write, ..NOTHING }
+}
+
+#[test]
+fn a_source_that_fails_gives_no_output(rt: HostRuntime) -> Result<(), OutOfMemory> {
+    let (status, message) = (Status::ReadFault, "lstore: read failed\n");
+    fails_behind(&rt, rt.alloc(), failing_read(1), status, "", message)?;
+    fails_behind(&rt, rt.alloc(), failing_read(3), status, "", message)
+}
+
+#[test]
+fn a_sink_that_fails_has_a_front_of_the_output(rt: HostRuntime) -> Result<(), OutOfMemory> {
+    let (status, message) = (Status::WriteFault, "lstore: write failed\n");
+    fails_behind(&rt, rt.alloc(), failing_write(1), status, "", message)?;
+    let front = "0 begun 0\n";
+    fails_behind(&rt, rt.alloc(), failing_write(3), status, front, message)
+}
+
+#[test]
+fn a_sink_of_errors_that_fails_changes_nothing_else(rt: HostRuntime) -> Result<(), OutOfMemory> {
     let fails = Fails {
         read: 0,
         write: 0,
@@ -523,12 +353,17 @@ fn a_sink_of_errors_that_fails_changes_nothing_else(rt: HostRuntime) -> Result<(
 }
 
 #[test]
-fn a_reply_is_printed_by_itself(rt: HostRuntime) -> Result<(), Fail> {
+fn a_reply_is_printed_by_itself(rt: HostRuntime) -> Result<(), OutOfMemory> {
     let line = Line::Call {
         session: 2,
         call: Call::Commit,
     };
     let text = print_line(rt.alloc(), &line, &Reply::Committed { time: 3 })?;
-    assert_eq!(rt; text.as_bytes(), b"2 committed 3\n".as_slice());
+    same(
+        &rt,
+        text.as_bytes(),
+        b"2 committed 3\n".as_slice(),
+        "a commit",
+    );
     Ok(())
 }

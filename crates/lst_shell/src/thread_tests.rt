@@ -4,6 +4,7 @@ ghost use Rattle.std.specs.Prelude.{◌≡◌, All, IfOk};
 ghost use Rattle.lst_session.specs.Parting.{IsMergerOf};
 ghost use Rattle.lst_session.specs.Passes.{IsReady};
 
+use crate::calls::same;
 use crate::drawn_tests::Drawer;
 use lst_layout::Limits;
 use lst_legal::are_sessions_below;
@@ -14,7 +15,6 @@ use lst_scan::session_line;
 use lst_session::{CommitLock, Merger, Session, Sessions, gather, next_phase, open_crew};
 use std::alloc::Global;
 use std::mem;
-use std::process::Abort;
 use std::sync::Wait;
 use std::test::Fail;
 use std::thread::{Threads, join_mut};
@@ -215,6 +215,16 @@ struct Askers {
     three: Asker,
 }
 
+impl Askers {
+    fn new(alloc: Global, seed: u64) -> Askers {
+        Askers {
+            one: Asker::new(alloc, seed),
+            two: Asker::new(alloc, seed.wrapping_add(1000)),
+            three: Asker::new(alloc, seed.wrapping_add(2000)),
+        }
+    }
+}
+
 /// Runs a phase, in which all sessions are asked beside each other, and lets them hear of each other.
 fn phase<R: Threads + Wait + Sync>(
     rt: &R,
@@ -287,40 +297,45 @@ fn stamps(alloc: Global, store: &Store, sessions: Sessions, merger: Merger) -> R
     Ok(stamps)
 }
 
-/// Runs two phases from a seed. Whether the report is legal, and how many commits there are.
-fn run<R: Threads + Wait + Sync>(rt: &R, alloc: Global, seed: u64) -> Result<(bool, usize), Fail> {
-    let (store, mut sessions, merger) = opened(alloc)?;
+/// Runs two phases from a seed. The sessions, and what is told of them.
+fn two_phases<R: Threads + Wait + Sync>(
+    rt: &R,
+    alloc: Global,
+    store: &Store,
+    sessions: Sessions,
+    seed: u64,
+) -> Result<(Sessions, Telling), Fail>
+    requires sessions { All (IsReady store.now) sessions }
+    requires columns { store.now.layout.limits.columns ≡ 2 }
+    ensures { IfOk result (λ all. All (IsReady store.now) all.0) }
+{
     let lock = CommitLock::new();
-    let mut askers = Askers {
-        one: Asker::new(alloc, seed),
-        two: Asker::new(alloc, seed.wrapping_add(1000)),
-        three: Asker::new(alloc, seed.wrapping_add(2000)),
-    };
+    let mut askers = Askers::new(alloc, seed);
     let mut telling = Telling {
         lines: Vec::new(alloc),
         replies: Replies::new(alloc),
     };
-    sessions = phase(
-        rt,
-        alloc,
-        &store,
-        &lock,
-        sessions,
-        &mut askers,
-        &mut telling,
-    )?;
+    let sessions = phase(rt, alloc, store, &lock, sessions, &mut askers, &mut telling)?;
     telling.lines.push(Line::Phase)?;
-    sessions = phase(
-        rt,
-        alloc,
-        &store,
-        &lock,
-        sessions,
-        &mut askers,
-        &mut telling,
-    )?;
-    let Telling { lines, replies } = telling;
+    let sessions = phase(rt, alloc, store, &lock, sessions, &mut askers, &mut telling)?;
+    Ok((sessions, telling))
+}
+
+/// Runs two phases on a store of their own. What is told of them, and the stamps of the commits.
+fn told<R: Threads + Wait + Sync>(
+    rt: &R,
+    alloc: Global,
+    seed: u64,
+) -> Result<(Telling, Stamps), Fail> {
+    let (store, sessions, merger) = opened(alloc)?;
+    let (sessions, telling) = two_phases(rt, alloc, &store, sessions, seed)?;
     let history = stamps(alloc, &store, sessions, merger)?;
+    Ok((telling, history))
+}
+
+/// Runs two phases from a seed. Whether the report is legal, and how many commits there are.
+fn run<R: Threads + Wait + Sync>(rt: &R, alloc: Global, seed: u64) -> Result<(bool, usize), Fail> {
+    let (Telling { lines, replies }, history) = told(rt, alloc, seed)?;
     if !are_sessions_below(3, &lines) {
         return Err(Fail::from("there are three sessions"));
     }
@@ -334,9 +349,9 @@ fn sessions_on_threads_give_a_legal_report(rt: HostRuntime) -> Result<(), Fail> 
     let mut commits = 0usize;
     for seed in 0..20u64 {
         let (is_legal, more) = run(&rt, rt.alloc(), seed)?;
-        assert!(rt; is_legal, "the report from seed {seed} is legal");
+        same(&rt, is_legal, true, seed);
         commits = commits.wrapping_add(more);
     }
-    assert!(rt; commits > 100);
+    same(&rt, commits > 100, true, "commits");
     Ok(())
 }
