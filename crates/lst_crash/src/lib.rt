@@ -8,8 +8,6 @@
 mod crash;
 mod recovered;
 mod running;
-#[cfg(test)]
-mod tests;
 mod words;
 
 pub use crash::{Crashed, crash_lines};

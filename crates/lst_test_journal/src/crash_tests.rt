@@ -3,7 +3,7 @@ ghost use Rattle.std.specs.Prelude.{◌≤◌, All, IfOk};
 ghost use Rattle.lst_layout.specs.Limits.{IsValid};
 ghost use Rattle.lst_crash.specs.Crashes.{IsTaken, most_bytes};
 
-use crate::crash_lines;
+use lst_crash::crash_lines;
 use lst_layout::{Layout, Limits};
 use lst_model::{OutOfMemory, Text};
 use lst_script::{Script, ScriptFault, parse};
