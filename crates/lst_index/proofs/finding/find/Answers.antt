@@ -53,3 +53,6 @@ returns-in_default-clause-works c = works_on _ _ _ _ _ c.loop-offset.invariant.0
 
 pub unreachable-requires : goal.unreachable-requires
 unreachable-requires c = let few = size_few c.args.store.now.layout.limits c.args.store.now.layout.valid in let low = c.loop-offset.invariant.1 in let over = c.loop-offset-test.false in omega arith
+
+pub compare-requires-clause-shows : goal.compare-requires-clause-shows
+compare-requires-clause-shows c = search rules

@@ -1,3 +1,4 @@
+use Rattle.std.proofs.Common.{rules}
 use Rattle.std.proofs.Common.{arith, take, ◌++◌, length-append}
 use Rattle.std.proofs.lemmas.List.{length-take}
 use Rattle.std.proofs.KnownBytes.{Consumes-trans}
@@ -16,3 +17,6 @@ returns-then-is_err-clause-part g c = record {
   consumed = Consumes-trans _ _ _ _ _ c.loop-count.invariant.read c.in-Ok.ensures.bytes.0;
   few = omega (arith, length-append c.loop-count.bytes.items (take c.in-Ok.count c.read.new.into), c.in-Ok.ensures.bound.1);
 }
+
+pub returns-then-count-eq0-clause-part : goal.returns-then-count-eq0-clause-part
+returns-then-count-eq0-clause-part g c = search rules

@@ -1,3 +1,4 @@
+use Rattle.std.proofs.Common.{rules}
 use Rattle.lst_scan.proofs.lines.crew_line.Goals as goal
 
 pub sum_call-requires-clause-crew : goal.sum_call-requires-clause-crew
@@ -23,3 +24,6 @@ find_call-requires-clause-crew c = c.requires.crew
 
 pub returns-in-Find-clause-crew : goal.returns-in-Find-clause-crew
 returns-in-Find-clause-crew c = c.find_call.ensures.crew
+
+pub returns-in-Sum-clause-machine : goal.returns-in-Sum-clause-machine
+returns-in-Sum-clause-machine c = search rules

@@ -1,3 +1,5 @@
+use Rattle.std.proofs.Common.{arith}
+use Rattle.std.proofs.lemmas.Grind.{common_steps}
 use Rattle.std.proofs.Common.{◌≡◌, ◌+◌, drop, position, Some, set, false, sym, ap, ◌∙◌}
 use Rattle.std.proofs.lemmas.List.{take_rest, length-set}
 use Rattle.lst_script.specs.Pairs.{is_equals, cell_of_value, is_set}
@@ -21,3 +23,6 @@ returns c =
       free,
       rw c.as_mut_slice-slots.ensures.value (refilled before (set before column (Some cell)) (length-set before column (Some cell))),
     )
+
+pub returns-in_default-value : goal.returns-in_default-value
+returns-in_default-value c = grind (arith, common_steps)

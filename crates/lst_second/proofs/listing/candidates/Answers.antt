@@ -1,3 +1,4 @@
+use Rattle.std.proofs.Common.{rules}
 use Rattle.std.proofs.Common.{◌<◌}
 use Rattle.lst_core_state.specs.Cells.{record_count}
 use Rattle.lst_rule.specs.declared.records.RecordId.{RecordId}
@@ -16,3 +17,6 @@ returns-in-Ok-clause-rising c = record {
 
 pub returns-in-Ok-clause-holders : goal.returns-in-Ok-clause-holders
 returns-in-Ok-clause-holders c = holders_of c.gather.new.seat.view c.args.s c.args.column c.args.value c.in-Ok.records.items c.rising.result c.rising.ensures.keeps c.rising.ensures.adds_none c.in-Ok.ensures.holders
+
+pub returns-then-not-is_indexed-clause-indexed : goal.returns-then-not-is_indexed-clause-indexed
+returns-then-not-is_indexed-clause-indexed c = search rules

@@ -37,3 +37,7 @@ load_cell-value-requires-clause-seat c = c.load_cell-encoding.ensures.seat
 
 pub returns-clause-seat : goal.returns-clause-seat
 returns-clause-seat c = c.load_cell-value.ensures.seat
+
+pub load_cell-encoding-requires-clause-place : goal.load_cell-encoding-requires-clause-place
+load_cell-encoding-requires-clause-place c = let h = hand_is c.args.seat.now.view.limits c.args.seat.now.view c.args.s refl c.requires.host c.requires.own c.requires.tail c.consider.ensures in
+    (c.in-Some.ensures.0, (let few = h.1 in let e = c.in-Some.ensures.1 in omega arith), omega arith)

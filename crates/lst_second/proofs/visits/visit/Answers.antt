@@ -1,3 +1,4 @@
+use Rattle.std.proofs.Common.{rules}
 use Rattle.lst_rule.proofs.PostingViews.{posts_on}
 use Rattle.lst_second.proofs.visits.visit.Goals as goal
 
@@ -42,3 +43,6 @@ returns-clause-shown c = c.settle.ensures.shown
 
 pub returns-clause-next : goal.returns-clause-next
 returns-clause-next c = c.settle.ensures.next
+
+pub settle-requires-clause-may : goal.settle-requires-clause-may
+settle-requires-clause-may c = search rules

@@ -1,3 +1,4 @@
+use Rattle.std.proofs.Common.{rules}
 use Rattle.std.proofs.Common.{subst, arith}
 use Rattle.std.specs.Prelude.{ℕ, Option}
 use Rattle.lst_changes.specs.Changes.{LastWrite}
@@ -9,3 +10,6 @@ returns-else-time-begin c history key last = let h = c.if-time-begin.false in un
 
 pub returns-in-None : goal.returns-in-None
 returns-in-None c history key last = unchanged_none history key c.args.begin (subst (λ (o : Option ℕ). LastWrite history key o) c.in-None.is last)
+
+pub returns-then-time-begin : goal.returns-then-time-begin
+returns-then-time-begin c = search rules
