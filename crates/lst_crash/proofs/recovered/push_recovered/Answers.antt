@@ -1,3 +1,4 @@
+use Rattle.std.proofs.lemmas.Grind.{common_steps}
 use Rattle.std.proofs.Common.{◌<◌, subst, arith}
 use Rattle.lst_historic.specs.Places.{IsBuiltAt}
 use Rattle.lst_historic.specs.Refusals.{IsRefusalOf}
@@ -10,3 +11,6 @@ unreachable-requires c =
     let until = built_length c.in_ok-block.block c.in-Err-Late.field-0-0 c.args.columns c.args.history.now refused.0 c.in_ok-block.ensures.has in
     let all = c.len-2.ensures in
     let late = refused.1 in omega (arith, until, all, late)
+
+pub returns-in-Ok : goal.returns-in-Ok
+returns-in-Ok c = grind (arith, common_steps)

@@ -1,3 +1,4 @@
+use Rattle.std.proofs.lemmas.Grind.{common_steps}
 use Rattle.std.proofs.Common.{Some, refl, sym, ap, ◌∷◌, [], arith}
 use Rattle.lst_reply_queue.specs.declared.kinds.Kind.TheVariants.{Begun, Done, Absent, Committed, Ended, Aborted}
 use Rattle.lst_reply_queue.proofs.Keeping.{keeps_told, keeps_bare, keeps_other, no_kind, when_failed}
@@ -74,3 +75,6 @@ returns-in_err-push_back-in_default c = record { ok = no_kind _ _ _ c.from_resid
 
 pub returns-in_ok-push_back-in_default : goal.returns-in_ok-push_back-in_default
 returns-in_ok-push_back-in_default c = record { ok = keeps_other _ _ _ _ c.in_ok-push_back-in_default.ensures.items; err = tt }
+
+pub returns-in_ok-extend_from_slice-in-Row-clause-ok : goal.returns-in_ok-extend_from_slice-in-Row-clause-ok
+returns-in_ok-extend_from_slice-in-Row-clause-ok c = grind (arith, common_steps)
