@@ -26,3 +26,12 @@ loop-rest-preserved g c = let e = c.in_ok-merge_block.ensures in let f = c.first
       subst (All (CanRun c.args.store.now.layout.limits)) (sym f.rest) (All-drop (CanRun c.args.store.now.layout.limits) block_length c.loop-rest.rest.now x.1),
       (let p = x.2 in let r = s.1 in omega arith),
     )
+
+pub merge_block-requires-clause-merger : goal.merge_block-requires-clause-merger
+merge_block-requires-clause-merger g c = c.loop-rest.invariant.0.ready
+
+pub returns-in_err-merge_block-clause-merger : goal.returns-in_err-merge_block-clause-merger
+returns-in_err-merge_block-clause-merger g c = c.in_err-merge_block.ensures.merger
+
+pub returns-clause-merger : goal.returns-clause-merger
+returns-clause-merger g c = c.loop-rest.invariant.0.ready

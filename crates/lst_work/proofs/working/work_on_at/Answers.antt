@@ -10,3 +10,12 @@ returns-clause-works g c =
     let all : AreAll store c.from_vec.result = search rules in
     let run : HaveRunThrough store c.args.script.now c.args.sessions c.from_vec.result c.args.merger.now.seat.view c.run_script.new.merger.seat.view c.from_items.result = search rules in
     they_work store c.args.script.now c.args.sessions c.from_vec.result c.args.merger.now.seat.view c.run_script.new.merger.seat.view c.from_items.result c.requires.all all c.requires.merger.seat_of.limits c.requires.fits run
+
+pub returns-clause-merger : goal.returns-clause-merger
+returns-clause-merger g c = c.in_ok-passes.ensures.merger
+
+pub returns-in_err-passes-clause-merger : goal.returns-in_err-passes-clause-merger
+returns-in_err-passes-clause-merger g c = c.in_err-passes.ensures.merger
+
+pub returns-in_err-lines-clause-merger : goal.returns-in_err-lines-clause-merger
+returns-in_err-lines-clause-merger g c = c.requires.merger
