@@ -1,5 +1,5 @@
 -- What steps have found stays so.
-use Rattle.std.proofs.Common.{◌≡◌, ◌≢◌, ℕ, zero, suc, ◌+◌, ◌-◌, ◌/◌, ◌%◌, ◌<◌, ◌≤◌, List, [], ◌∷◌, ◌++◌, Bool, true, false, cond, eqb, nat_lt, Contains, refl, sym, subst, ap, ◌∙◌, arith, true≢false, eqb-true, eq-eqb, ◌⊎◌, ⊎_elim, inl, inr}
+use Rattle.std.proofs.Common.{◌≡◌, ◌≢◌, ℕ, zero, suc, ◌+◌, ◌-◌, ◌*◌, ◌/◌, ◌%◌, ◌<◌, ◌≤◌, List, [], ◌∷◌, ◌++◌, Bool, true, false, cond, eqb, nat_lt, Contains, refl, sym, subst, ap, ◌∙◌, arith, true≢false, eqb-true, eq-eqb, ◌⊎◌, ⊎_elim, inl, inr}
 use Rattle.std.proofs.lemmas.List.Elements.{Contains-append_cases, Contains-append_left, Contains-append_right}
 use mathlib.Core.Logic.{dite}
 use native.Mathlib.Decide.{ℕ_discrete}
@@ -16,8 +16,8 @@ use Rattle.lst_layout.specs.declared.place.Place.TheVariants.{ClockWord, CommitW
 use Rattle.lst_core_state.specs.Cells.{record_count}
 use Rattle.lst_core_state.specs.Index.{size}
 use Rattle.lst_core_state.specs.State.{Words, Core, line, name_of}
-use Rattle.lst_core_state.specs.Facts.{IsFact, index_fact, index_below, index_facts, state_fact, cell_fact, stored_fact, commit_fact, cell_facts, chain_facts, post_fact}
-use Rattle.lst_core_state.specs.Step.{session_of, IsWithin, Enabled, Stands, words_after, known_after, look_at, gives_up, given_up, took, held_off, record_drawn, records_full, claimed, claim_lost, latched, latch_lost, tail_drawn, tails_full, cell_started, word_stored, posted, post_lost}
+use Rattle.lst_core_state.specs.Facts.{IsFact, index_fact, index_below, index_facts, state_fact, cell_fact, stored_fact, commit_fact, cell_facts, chain_facts, chains_below, range_facts, post_fact}
+use Rattle.lst_core_state.specs.Step.{session_of, IsWithin, Enabled, Stands, words_after, known_after, look_at, is_reading, gives_up, given_up, took, held_off, record_drawn, records_full, claimed, claim_lost, latched, latch_lost, tail_drawn, tails_full, cell_started, word_stored, posted, post_lost}
 use Rattle.lst_core_state.specs.Sound.{FactsOf, Sound}
 use Rattle.lst_core_state.proofs.Functions.{either, each_put, put_here, put_else, put_in_else}
 use Rattle.lst_core_state.proofs.Positions.{placed_holds}
@@ -90,6 +90,17 @@ pub post_facts : (l : Limits) (w : Words) (i q : ℕ) → FactsOf l w (post_fact
 post_facts l w i q = either (FactsOf l w) (eqb (w.postings i q) 0) [] (PostAt i q (w.postings i q) ∷ []) (λ _. no_facts l w)
     (λ e. one_fact l w (PostAt i q (w.postings i q)) (let some : w.postings i q ≢ 0 = (λ z. true≢false (sym (eq-eqb (w.postings i q) 0 z) ∙ e)) in omega arith, refl))
 
+-- they have those of each record of the range
+chains_have : (l : Limits) (w : Words) (range n i : ℕ) (f : Fact) → i < n → Contains (chain_facts l w (256 * range + i)) f → Contains (chains_below n l w range) f
+chains_have l w range zero i f low h = absurd (omega arith)
+chains_have l w range (suc n) i f low h = dite (ℕ_discrete i n)
+    (λ e. Contains-append_right (chains_below n l w range) (chain_facts l w (256 * range + n)) f (subst (λ (j : ℕ). Contains (chain_facts l w (256 * range + j)) f) e h))
+    (λ ne. Contains-append_left (chains_below n l w range) (chain_facts l w (256 * range + n)) f (chains_have l w range n i f (omega arith) h))
+
+pub range_has : (l : Limits) (w : Words) (range i : ℕ) (f : Fact) → i < 256 → Contains (chain_facts l w (256 * range + i)) f → Contains (range_facts l w range) f
+unfolding range_facts
+range_has l w range i f low h = chains_have l w range 256 i f low h
+
 module _ (c : Core) (sound : Sound c) where
   abbrev L : Limits
   L = c.limits
@@ -116,6 +127,15 @@ module _ (c : Core) (sound : Sound c) where
 
   pub chain_are_facts : (r : ℕ) → r < record_count L → FactsOf L w (chain_facts L w r)
   chain_are_facts r low = cons_facts L w (ChainEnds r (line L w r)) (cell_facts L w (line L w r)) (low, ([], refl)) (cells_are_facts r low (line L w r) (λ t i. i))
+
+  -- all of the chains of a range
+  chains_are_facts : (range n : ℕ) → range < L.ranges → n ≤ 256 → FactsOf L w (chains_below n L w range)
+  chains_are_facts range zero low few = no_facts L w
+  chains_are_facts range (suc n) low few = more_facts L w (chains_below n L w range) (chain_facts L w (256 * range + n)) (chains_are_facts range n low (omega arith)) (chain_are_facts (256 * range + n) (omega arith))
+
+  pub range_are_facts : (range : ℕ) → range < L.ranges → FactsOf L w (range_facts L w range)
+  unfolding range_facts
+  range_are_facts range low = chains_are_facts range 256 low (omega arith)
 
   ends : (s x j n : ℕ) → w.states s (K s).number ≡ 0 → (put_in w.states s (K s).number x j n ≡ w.states j n) ⊎ (w.states j n ≡ 0)
   ends s x j n none = dite (ℕ_discrete j s)
@@ -177,15 +197,16 @@ module _ (c : Core) (sound : Sound c) where
   facts_stay e low ok stands fs a f i = fact_stays e low ok stands f (a f i)
 
   -- what a load finds is so
-  pub look_facts : (v : Known) → FactsOf L w v.facts → (p : Place) → ((r : ℕ) → p ≡ HeadWord r → r < record_count L) → FactsOf L w (look_at L w v p).facts
+  pub look_facts : (v : Known) → FactsOf L w v.facts → (p : Place) → layout.IsWithin L p → FactsOf L w (look_at L w v p).facts
   look_facts v old ClockWord low = more_facts L w v.facts (index_facts L w) old (index_are_facts L w (size L))
   look_facts v old EpochWord low = more_facts L w v.facts (EpochAtLeast w.epoch ∷ []) old (one_fact L w (EpochAtLeast w.epoch) (omega arith))
   look_facts v old RecordCounter low = more_facts L w v.facts (RecordsAtLeast w.counter ∷ []) old (one_fact L w (RecordsAtLeast w.counter) (omega arith))
   look_facts v old (StateWord s n) low = more_facts L w v.facts (state_fact w s n) old (state_facts L w s n)
   look_facts v old (KeyWord r) low = either (λ (u : Known). FactsOf L w u.facts) (gives_up v r (w.keys r)) (given_up v) v (λ _. old) (λ _. old)
   look_facts v old (IndexWord q) low = more_facts L w v.facts (index_fact w q) old (index_is_fact L w q)
-  look_facts v old (HeadWord r) low = more_facts L w v.facts (chain_facts L w r) old (chain_are_facts r (low r refl))
-  look_facts v old (TailCounter range) low = more_facts L w v.facts (TailsAtLeast range (w.counts range) ∷ []) old (one_fact L w (TailsAtLeast range (w.counts range)) (omega arith))
+  look_facts v old (HeadWord r) low = more_facts L w v.facts (chain_facts L w r) old (chain_are_facts r low)
+  look_facts v old (TailCounter range) low = more_facts L w v.facts (TailsAtLeast range (w.counts range) ∷ cond (is_reading v) (range_facts L w range) []) old
+      (cons_facts L w (TailsAtLeast range (w.counts range)) (cond (is_reading v) (range_facts L w range) []) (omega arith) (either (FactsOf L w) (is_reading v) (range_facts L w range) [] (λ _. range_are_facts range low) (λ _. no_facts L w)))
   look_facts v old (CellWord t p) low = more_facts L w v.facts (stored_fact L w t ++ commit_fact w.log (w.cells t 0)) old (more_facts L w (stored_fact L w t) (commit_fact w.log (w.cells t 0)) (stored_facts L w t) (commit_facts t))
   look_facts v old CommitWord low = old
   look_facts v old (LogWord i) low = old
@@ -195,15 +216,8 @@ module _ (c : Core) (sound : Sound c) where
   look_facts v old (PinWord i) low = old
   look_facts v old (PostingWord i n) low = more_facts L w v.facts (post_fact w i n) old (post_facts L w i n)
 
-  -- the place of an address is a record's only where there is the record
-  head_low : (p : Place) → layout.IsWithin L p → (r : ℕ) → p ≡ HeadWord r → r < record_count L
-  head_low p is r e = low (subst (layout.IsWithin L) e is)
-    where
-      low : layout.IsWithin L (HeadWord r) → r < record_count L
-      low h = h
-
   pub looks_facts : (a : ℕ) → a < words_of L → (v : Known) → FactsOf L w v.facts → FactsOf L w (look_at L w v (place_of L a)).facts
-  looks_facts a inside v old = look_facts v old (place_of L a) (head_low (place_of L a) (at L a sound.sized inside).within)
+  looks_facts a inside v old = look_facts v old (place_of L a) (at L a sound.sized inside).within
 
   new_facts : (e : Event) → session_of e < L.sessions → IsWithin L e → Enabled L (K (session_of e)) e → Stands L w (K (session_of e)) e → let w' : Words = words_after L w (K (session_of e)) e in FactsOf L w' (K (session_of e)).facts → FactsOf L w' (known_after L w (K (session_of e)) e).facts
   new_facts (Look s a) low within ok stands old = looks_facts a within.1 (K s) old

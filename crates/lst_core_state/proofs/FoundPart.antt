@@ -21,7 +21,7 @@ use Rattle.lst_layout.specs.declared.place.Place.TheVariants.{ClockWord, CommitW
 use Rattle.lst_core_state.specs.Cells.{record_count}
 use Rattle.lst_core_state.specs.State.{Words, Core, entry, name_of, writer_at, line, record_in}
 use Rattle.lst_core_state.specs.Facts.{Wrote, WroteOf, UnloggedUntil, IsFind, unfinished, active_find, early_find}
-use Rattle.lst_core_state.specs.Step.{session_of, IsWithin, Enabled, words_after, known_after, look_at, gives_up, given_up, if_full, took, held_off, record_drawn, records_full, claimed, claim_lost, latched, latch_lost, tail_drawn, tails_full, cell_started, word_stored, posted, post_lost}
+use Rattle.lst_core_state.specs.Step.{session_of, IsWithin, Enabled, words_after, known_after, look_at, is_reading, gives_up, given_up, if_full, took, held_off, record_drawn, records_full, claimed, claim_lost, latched, latch_lost, tail_drawn, tails_full, cell_started, word_stored, posted, post_lost}
 use Rattle.lst_core_state.specs.Sound.{InHand, Looked, Found, FoundOf, Sound}
 use Rattle.lst_core_state.proofs.Functions.{either, each_put}
 use Rattle.lst_core_state.proofs.Steps.{writer_odd, name_session, name_number, name_entry}
@@ -194,7 +194,8 @@ module _ (c : Core) (sound : Sound c) where
     look_found (KeyWord r) within = either (FoundOf L w K s) (gives_up v r (w.keys r)) (given_up v) v (λ _. found) (λ _. found)
     look_found (IndexWord q) within = record { each = found.each; last = index_looked L w.states K v.looks (w.index q) found.last }
     look_found (HeadWord r) within = found
-    look_found (TailCounter range) within = two (CountedTails range (w.counts range)) (if_full L.tails (w.counts range) (FullTails range)) tt (if_find L w.counter w.counts w.clock w.log K s L.tails (w.counts range) (FullTails range) (λ full. full))
+    look_found (TailCounter range) within = two (CountedTails range (w.counts range)) (cond (is_reading v) [] (if_full L.tails (w.counts range) (FullTails range))) tt
+        (either (All s) (is_reading v) [] (if_full L.tails (w.counts range) (FullTails range)) (λ _. no_finds L w.counter w.counts w.clock w.log K s) (λ _. if_find L w.counter w.counts w.clock w.log K s L.tails (w.counts range) (FullTails range) (λ full. full)))
     look_found (CellWord t p) within = cell_found t p
     look_found CommitWord within = found
     look_found (LogWord i) within = found

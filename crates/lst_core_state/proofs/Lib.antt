@@ -32,6 +32,7 @@ pub mod FoundPart
 pub mod Starts
 pub mod Keeps
 pub mod Statements
+pub mod Reading
 pub mod Room
 pub mod Lists
 pub mod Sights

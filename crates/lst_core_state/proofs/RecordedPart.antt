@@ -1,5 +1,5 @@
 -- Each step keeps that the facts have the records of the keys that were seen, are own, or are latched.
-use Rattle.std.proofs.Common.{◌≡◌, ◌≢◌, ℕ, ◌+◌, ◌-◌, ◌%◌, ◌<◌, List, [], ◌∷◌, ◌++◌, true, eqb, nat_lt, Contains, refl, sym, subst, ◌∙◌, arith, append-nil, ◌⊎◌, ⊎_elim, inl, inr}
+use Rattle.std.proofs.Common.{cond, ◌≡◌, ◌≢◌, ℕ, ◌+◌, ◌-◌, ◌%◌, ◌<◌, List, [], ◌∷◌, ◌++◌, true, eqb, nat_lt, Contains, refl, sym, subst, ◌∙◌, arith, append-nil, ◌⊎◌, ⊎_elim, inl, inr}
 use Rattle.std.proofs.lemmas.List.Elements.{Contains-append_left, Contains-append_right}
 use mathlib.Core.Logic.{dite}
 use native.Mathlib.Decide.{ℕ_discrete}
@@ -21,8 +21,8 @@ use Rattle.lst_layout.specs.Addresses.{place_of}
 use Rattle.lst_core_state.specs.Cells.{record_count}
 use Rattle.lst_core_state.specs.Index.{is_placed, size}
 use Rattle.lst_core_state.specs.State.{Words, Core, history_of, act_in}
-use Rattle.lst_core_state.specs.Facts.{index_fact, index_facts, state_fact, cell_fact, stored_fact, commit_fact, chain_facts, post_fact}
-use Rattle.lst_core_state.specs.Step.{session_of, Enabled, Stands, words_after, known_after, look_at, gives_up, given_up, took, held_off, record_drawn, records_full, claimed, claim_lost, latched, latch_lost, tail_drawn, tails_full, cell_started, word_stored, posted, post_lost}
+use Rattle.lst_core_state.specs.Facts.{index_fact, index_facts, state_fact, cell_fact, stored_fact, commit_fact, chain_facts, range_facts, post_fact}
+use Rattle.lst_core_state.specs.Step.{session_of, Enabled, Stands, words_after, known_after, look_at, is_reading, gives_up, given_up, took, held_off, record_drawn, records_full, claimed, claim_lost, latched, latch_lost, tail_drawn, tails_full, cell_started, word_stored, posted, post_lost}
 use Rattle.lst_core_state.specs.Sound.{IsRecorded, SeenIsRecorded, Recorded, RecordedOf, Sound}
 use Rattle.lst_core_state.proofs.Functions.{either, each_put}
 use Rattle.lst_core_state.proofs.Positions.{placed_says}
@@ -126,7 +126,7 @@ module _ (c : Core) (sound : Sound c) where
   looks s a low (KeyWord r) = either (RecordedOf w.keys) (gives_up (K s) r (w.keys r)) (given_up (K s)) (K s) (λ _. same (Look s a) low tt) (λ _. same (Look s a) low tt)
   looks s a low (IndexWord q) = by (Look s a) low tt (index_fact w q)
   looks s a low (HeadWord r) = by (Look s a) low tt (chain_facts L w r)
-  looks s a low (TailCounter range) = by (Look s a) low tt (TailsAtLeast range (w.counts range) ∷ [])
+  looks s a low (TailCounter range) = by (Look s a) low tt (TailsAtLeast range (w.counts range) ∷ cond (is_reading (K s)) (range_facts L w range) [])
   looks s a low (CellWord t p) = by (Look s a) low tt (stored_fact L w t ++ commit_fact w.log (w.cells t 0))
   looks s a low CommitWord = same (Look s a) low tt
   looks s a low (LogWord i) = same (Look s a) low tt
@@ -145,7 +145,7 @@ module _ (c : Core) (sound : Sound c) where
   look_seen v old (KeyWord r) = either (λ (u : Known). SeenIsRecorded u.facts u.seen) (gives_up v r (w.keys r)) (given_up v) v (λ _. old) (λ _. old)
   look_seen v old (IndexWord q) = seen_by v old (index_fact w q)
   look_seen v old (HeadWord r) = seen_by v old (chain_facts L w r)
-  look_seen v old (TailCounter range) = seen_by v old (TailsAtLeast range (w.counts range) ∷ [])
+  look_seen v old (TailCounter range) = seen_by v old (TailsAtLeast range (w.counts range) ∷ cond (is_reading v) (range_facts L w range) [])
   look_seen v old (CellWord t p) = seen_by v old (stored_fact L w t ++ commit_fact w.log (w.cells t 0))
   look_seen v old CommitWord = old
   look_seen v old (LogWord i) = old

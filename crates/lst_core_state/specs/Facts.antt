@@ -67,6 +67,15 @@ cell_facts l w (t ∷ ts) = cell_fact l w t ∷ cell_facts l w ts
 abbrev pub chain_facts : Limits → Words → ℕ → List Fact
 chain_facts l w r = ChainEnds r (line l w r) ∷ cell_facts l w (line l w r)
 
+-- those of the first n records of a range
+abbrev pub chains_below : ℕ → Limits → Words → ℕ → List Fact
+chains_below zero l w range = []
+chains_below (suc n) l w range = chains_below n l w range ++ chain_facts l w (256 * range + n)
+
+-- of each record of a range
+unfoldable pub range_facts : Limits → Words → ℕ → List Fact
+range_facts l w range = chains_below 256 l w range
+
 -- a posting that isn't 0
 abbrev pub post_fact : Words → ℕ → ℕ → List Fact
 post_fact w c q = cond (eqb (w.postings c q) 0) [] (PostAt c q (w.postings c q) ∷ [])

@@ -8,6 +8,7 @@ pub mod Step
 pub mod Sound
 pub mod Runs
 pub mod Laws
+pub mod Reading
 pub mod Lists
 pub mod Writes
 pub mod Numbers

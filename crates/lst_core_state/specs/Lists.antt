@@ -74,3 +74,8 @@ Fitted F base (a ∷ rest) = F base a × Fitted F (base ++ a ∷ []) rest
 -- committed at most at b, by a state word
 abbrev pub is_until : ℕ → ℕ → Bool
 is_until b x = nat_lt 1 x && nat_le x (b + 1)
+
+-- the m numbers above n, from n + m down to n + 1
+abbrev pub above : ℕ → ℕ → List ℕ
+above n zero = []
+above n (suc m) = (n + suc m) ∷ above n m

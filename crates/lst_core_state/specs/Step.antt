@@ -22,7 +22,7 @@ use Rattle.lst_core_state.specs.Index.{size, is_placed, Reaches}
 use Rattle.lst_core_state.specs.Postings.{postings_size, IsPut, IsPostable, is_unposted}
 use Rattle.lst_core_state.specs.State.{Words, Core, rank, name_of, entry, writer_at, state_at, line, record_in, act_in, history_of, sight, FitsAfter, no_hold, counter_of}
 use Rattle.lst_layout.specs.Addresses.{place_of}
-use Rattle.lst_core_state.specs.Facts.{index_fact, index_facts, state_fact, cell_fact, stored_fact, commit_fact, chain_facts, post_fact, active_find, early_find}
+use Rattle.lst_core_state.specs.Facts.{index_fact, index_facts, state_fact, cell_fact, stored_fact, commit_fact, chain_facts, range_facts, post_fact, active_find, early_find}
 
 abbrev pub session_of : Event → ℕ
 session_of (Look s a) = s
@@ -148,6 +148,10 @@ spent c = record c { is_serving = false }
 abbrev pub if_full : ℕ → ℕ → Find → List Find
 if_full limit x f = cond (nat_lt x limit) [] (f ∷ [])
 
+-- a session reads while it has a transaction open, and no latch
+abbrev pub is_reading : Known → Bool
+is_reading v = v.is_open && eqb v.hold.latch 0
+
 -- the record in hand is given up where its key shows on another one, which the index word loaded last named
 abbrev pub gives_up : Known → ℕ → ℕ → Bool
 gives_up v r key = cond (eqb v.placing.hand (r + 1)) false (v.placing.has_key && eqb key v.placing.key && eqb v.looks.index (r + 1))
@@ -174,8 +178,8 @@ look_at l w v (IndexWord q) = record v { facts = v.facts ++ index_fact w q; look
 look_at l w v (HeadWord r) = record v { facts = v.facts ++ chain_facts l w r }
 look_at l w v (TailCounter range) = record v {
   counters = slice_set v.counters range (served l.tails (w.counts range) (counter_of v range));
-  facts = v.facts ++ TailsAtLeast range (w.counts range) ∷ [];
-  finds = v.finds ++ CountedTails range (w.counts range) ∷ if_full l.tails (w.counts range) (FullTails range);
+  facts = v.facts ++ TailsAtLeast range (w.counts range) ∷ cond (is_reading v) (range_facts l w range) [];
+  finds = v.finds ++ CountedTails range (w.counts range) ∷ cond (is_reading v) [] (if_full l.tails (w.counts range) (FullTails range));
 }
 look_at l w v (CellWord t p) = record v {
   facts = v.facts ++ (stored_fact l w t ++ commit_fact w.log (w.cells t 0));

@@ -1,5 +1,6 @@
 //! The laws of the protocol. Each function is a law: its contract holds at all values, and its body does nothing.
 ghost use Rattle.lst_core_state.specs.Laws.{HistoriesAreSound, ChainsAreSights, AbsentIsUnseen, VisibleIsSeen, ChainsAreHistory, AbsentIsUnwritten, PostingsHaveRoom, VersionsAreShown, PostingsAreTails, MarkedArePosted, EndsAreMarked, UnpostedMayBePosted, SeenMayGrow, MergerMayGrow, StepsAreSound};
+ghost use Rattle.lst_core_state.specs.Reading.{DrawnAreChained, RunsGoOn, SeenIsOnChain, SeenMeansKnown, KnownStays, TailsTellChains};
 ghost use Rattle.lst_core_state.specs.Runs.{EveryRunIsSound};
 
 /// Every list of enabled events, from the opening state of a store with any limits, leads to a sound state.
@@ -63,4 +64,19 @@ pub fn unposted_may_be_posted()
 pub fn seen_may_grow()
     ensures sessions { SeenMayGrow }
     ensures merger { MergerMayGrow }
+{}
+
+/// A tail that a transaction sees, stored, was on its record's chain in each earlier state in which the transaction was open already
+/// and its session had no stored tail in hand: so its number had been drawn by then. Conversely a version on a chain stays
+/// there, and is seen later exactly where it is seen now. Therefore those tails of a range that are seen, looked at by rising
+/// number, each at a time of its own, are the seen versions of the chains as they were when the counter of the range was loaded.
+/// Where nobody has a tail in hand, each tail that was drawn is on a chain.
+/// A session's later states are those that it comes to by loads and stamps, whatever the others do.
+pub fn seen_means_known()
+    ensures runs { RunsGoOn }
+    ensures chained { SeenIsOnChain }
+    ensures known { SeenMeansKnown }
+    ensures stays { KnownStays }
+    ensures tails { TailsTellChains }
+    ensures drawn { DrawnAreChained }
 {}

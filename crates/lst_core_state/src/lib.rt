@@ -22,7 +22,8 @@ pub use facts::{Fact, Find};
 pub use known::{Counter, Done, Draft, Hold, Known, Looks, Placing, Stage};
 pub use laws::{
     chains_are_history, chains_are_sights, every_run_is_sound, histories_are_sound,
-    postings_are_complete, seen_may_grow, steps_are_sound, unposted_may_be_posted, visible_is_seen,
+    postings_are_complete, seen_may_grow, seen_means_known, steps_are_sound,
+    unposted_may_be_posted, visible_is_seen,
 };
 pub use numbers::{Numbers, newcomers};
 pub use pages::{MergerFrames, PageInHand, PageKnown, Retired, SessionFrames};

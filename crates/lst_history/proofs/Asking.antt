@@ -57,8 +57,9 @@ watched_peeked u k away w = record {
   finds = w.finds;
   later = w.later;
   looks = w.looks;
+  counters = w.counters;
   frames = w.frames;
-  is = w.is ∙ (λ i. record u { seen = u.seen ++ w.later; turn = same i; facts = u.facts ++ w.facts; finds = u.finds ++ w.finds; looks = w.looks; pages = record u.pages { session = w.frames } });
+  is = w.is ∙ (λ i. record u { seen = u.seen ++ w.later; turn = same i; counters = w.counters; facts = u.facts ++ w.facts; finds = u.finds ++ w.finds; looks = w.looks; pages = record u.pages { session = w.frames } });
   room = w.room;
   pin = w.pin;
 }

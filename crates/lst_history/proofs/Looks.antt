@@ -42,6 +42,7 @@ peeked_same u = record {
   finds = [];
   later = [];
   looks = u.looks;
+  counters = u.counters;
   frames = u.pages.session;
   is = λ i. record u { seen = sym (append-nil u.seen) i; facts = sym (append-nil u.facts) i; finds = sym (append-nil u.finds) i; looks = u.looks };
   room = All-nil IsNotFull;
@@ -54,10 +55,12 @@ peeked_on u v w a b = record {
   finds = a.finds ++ b.finds;
   later = a.later ++ b.later;
   looks = b.looks;
+  counters = b.counters;
   frames = b.frames;
-  is = b.is ∙ (ap (λ (k : Known). record k { seen = k.seen ++ b.later; facts = k.facts ++ b.facts; finds = k.finds ++ b.finds; looks = b.looks; pages = record k.pages { session = b.frames } }) a.is
+  is = b.is ∙ (ap (λ (k : Known). record k { seen = k.seen ++ b.later; counters = b.counters; facts = k.facts ++ b.facts; finds = k.finds ++ b.finds; looks = b.looks; pages = record k.pages { session = b.frames } }) a.is
       ∙ (λ i. record u {
         seen = append_assoc u.seen a.later b.later i;
+        counters = b.counters;
         facts = append_assoc u.facts a.facts b.facts i;
         finds = append_assoc u.finds a.finds b.finds i;
         looks = b.looks;
@@ -126,6 +129,7 @@ module _ (l : Limits) (w : Words) (u : Known) (away : rank u.turn ≡ 0) (none :
     finds = FreshClock w.clock ∷ early_find u w.clock;
     later = all.0;
     looks = u.looks;
+    counters = u.counters;
     frames = u.pages.session;
     is = λ i. record u { seen = all.1 i; turn = still u.turn away i; facts = u.facts ++ index_facts l w; finds = u.finds ++ FreshClock w.clock ∷ early_find u w.clock; looks = u.looks };
     room = clock_not_full u w.clock;
@@ -139,6 +143,7 @@ module _ (l : Limits) (w : Words) (u : Known) (away : rank u.turn ≡ 0) (none :
     finds = TailLoad t ∷ cond (eqb p 0 && eqb (w.cells t 0) 0) (EmptyStart t ∷ []) [];
     later = [];
     looks = cond (eqb p 0) (record u.looks { start = w.cells t 0; about = record_in l w.cells t + 1; tail = t }) u.looks;
+    counters = u.counters;
     frames = u.pages.session;
     is = λ i. record u {
       seen = sym (append-nil u.seen) i;
@@ -216,7 +221,7 @@ module _ (store : Store) (a b : Sitting) (s x : ℕ) (p : Place) (reader : IsRea
   }
 
   pub look_reads : Reads store a b s
-  look_reads = let same : knows b.view s ≡ record k { seen = k.seen ++ peeks.peeked.later; facts = k.facts ++ peeks.peeked.facts; finds = k.finds ++ peeks.peeked.finds; looks = peeks.peeked.looks; pages = record k.pages { session = peeks.peeked.frames } } = peeks.peeked.is in record {
+  look_reads = let same : knows b.view s ≡ record k { seen = k.seen ++ peeks.peeked.later; counters = peeks.peeked.counters; facts = k.facts ++ peeks.peeked.facts; finds = k.finds ++ peeks.peeked.finds; looks = peeks.peeked.looks; pages = record k.pages { session = peeks.peeked.frames } } = peeks.peeked.is in record {
     reader = record {
       seat_of = seat;
       host = ap (λ (hs : List Bool). slice_index_or hs s false) looked.view.hosted ∙ reader.host;

@@ -4,6 +4,7 @@ use Rattle.std.specs.List.{All}
 use Rattle.lst_layout.specs.Words.{Words, shown}
 use Rattle.lst_model.specs.declared.commits.Commit.{Commit}
 use Rattle.lst_core_state.specs.declared.known.Known.{Known}
+use Rattle.lst_core_state.specs.declared.known.Counter.{Counter}
 use Rattle.lst_core_state.specs.declared.known.Looks.{Looks}
 use Rattle.lst_core_state.specs.declared.pages.SessionFrames.{SessionFrames}
 use Rattle.lst_core_state.specs.declared.facts.Fact.{Fact}
@@ -25,8 +26,9 @@ pub record Peeked (u v : Known) : Type 0 where
   pub finds : List Find
   pub later : List Commit
   pub looks : Looks
+  pub counters : List Counter
   pub frames : SessionFrames
-  pub is : v ≡ record u { seen = u.seen ++ later; facts = u.facts ++ facts; finds = u.finds ++ finds; looks = looks; pages = record u.pages { session = frames } }
+  pub is : v ≡ record u { seen = u.seen ++ later; counters = counters; facts = u.facts ++ facts; finds = u.finds ++ finds; looks = looks; pages = record u.pages { session = frames } }
   pub room : All IsNotFull finds
   pub pin : frames.pin ≡ u.pages.session.pin
 

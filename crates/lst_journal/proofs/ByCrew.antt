@@ -19,6 +19,7 @@ use Rattle.lst_journal.specs.declared.journal.Kept.TheVariants.{Reply as Replied
 use Rattle.lst_journal.specs.declared.journal.Redo.{Redo}
 use Rattle.lst_journal.specs.Journals.{view_of, IsJournalOf}
 use Rattle.lst_journal.specs.Answers.{CommitsWrites, MayLeave, IsAnswered, commits_after, LacksRoom, CountsLine, IsWritten, CrewAnswers}
+use Rattle.lst_journal.proofs.Crewing.{crew_for, journal_on}
 
 -- while no call of the disk is made, a crash leaves what the journal stands for
 pub rests : {D : Type 0} (content : D → List ℕ) (images : D → List ℕ → Type 0) (clock : D → ℕ) (images_since : D → ℕ → List ℕ → Type 0) (before : Redo D) (log : Log D) (line : Line) (commits : List Commit)
@@ -30,14 +31,14 @@ rests {D} content images clock images_since before log line commits only_now sam
     (λ image left. inl (subst (λ (c : List ℕ). StandsFor before.log.columns c commits) (sym (journal.keeps.lasts image (only_now before.log.disk image left))) journal.keeps.stands)))
 
 -- only a commit of writes lacks room
-lacks_commits : (v : View) (line : Line) (columns end size : ℕ) → LacksRoom v line columns end size → CommitsWrites v line
+pub lacks_commits : (v : View) (line : Line) (columns end size : ℕ) → LacksRoom v line columns end size → CommitsWrites v line
 lacks_commits v (Call s call.Commit) columns end size x = (x.0, x.1)
 lacks_commits v line columns end size x = absurd x
 
-replied_not_full : (r : Reply) → JournalFull ≡ Replied r → ⊥
+pub replied_not_full : (r : Reply) → JournalFull ≡ Replied r → ⊥
 replied_not_full r e = cc
 
-replied_not_fault : (r : Reply) → DiskFault ≡ Replied r → ⊥
+pub replied_not_fault : (r : Reply) → DiskFault ≡ Replied r → ⊥
 replied_not_fault r e = cc
 
 ok_is : (x y : Kept) → ◌≡◌ {A = Result Kept OutOfMemory} (Ok x) (Ok y) → x ≡ y
@@ -47,41 +48,41 @@ err_not : (x : OutOfMemory) (y : Kept) → ◌≡◌ {A = Result Kept OutOfMemor
 err_not x y e = cc
 
 module _ {D : Type 0} (content : D → List ℕ) (images : D → List ℕ → Type 0) (before after : Redo D) (line : Line) (none : ¬ CommitsWrites (view_of before) line) where
-  pub answered : (r : Result Kept OutOfMemory) → CrewAnswers content images before after line r → IfOk r (λ kept. IsAnswered (view_of before) (view_of after) line kept)
+  pub answered : (r : Result Kept OutOfMemory) → CrewAnswers before after line r → IfOk r (λ kept. IsAnswered (view_of before) (view_of after) line kept)
   answered (Ok kept) x = subst (IsAnswered (view_of before) (view_of after) line) (sym x.reply.1) x.reply.2
   answered (Err e) x = tt
 
-  pub stands : (r : Result Kept OutOfMemory) → CrewAnswers content images before after line r → (commits : List Commit) → IsJournalOf content images commits before
+  pub stands : (r : Result Kept OutOfMemory) → CrewAnswers before after line r → (commits : List Commit) → IsJournalOf content images commits before
       → IfOk r (λ kept. ¬ (kept ≡ DiskFault) → IsJournalOf content images (commits_after (view_of before) commits line kept) after)
-  stands (Ok kept) x commits journal = λ no. subst (λ (cs : List Commit). IsJournalOf content images cs after) (sym (x.none commits)) (x.journal commits journal)
+  stands (Ok kept) x commits journal = λ no. subst (λ (cs : List Commit). IsJournalOf content images cs after) (sym (x.none commits)) (journal_on content images before after commits x.log journal (x.crew commits (crew_for content images before commits journal)))
   stands (Err e) x commits journal = tt
 
-  pub stands_still : (r : Result Kept OutOfMemory) → CrewAnswers content images before after line r → OnErr r ((commits : List Commit) → IsJournalOf content images commits before → IsJournalOf content images commits after)
+  pub stands_still : (r : Result Kept OutOfMemory) → CrewAnswers before after line r → OnErr r ((commits : List Commit) → IsJournalOf content images commits before → IsJournalOf content images commits after)
   stands_still (Ok kept) x = tt
-  stands_still (Err e) x = x.journal
+  stands_still (Err e) x = λ commits journal. journal_on content images before after commits x.log journal (x.crew commits (crew_for content images before commits journal))
 
-  pub never_full : (r : Result Kept OutOfMemory) → CrewAnswers content images before after line r → r ≡ Ok JournalFull → ⊥
+  pub never_full : (r : Result Kept OutOfMemory) → CrewAnswers before after line r → r ≡ Ok JournalFull → ⊥
   never_full (Ok kept) x e = replied_not_full x.reply.0 (sym (ok_is kept JournalFull e) ∙ x.reply.1)
   never_full (Err f) x e = err_not f JournalFull e
 
-  pub never_faults : (r : Result Kept OutOfMemory) → CrewAnswers content images before after line r → r ≡ Ok DiskFault → ⊥
+  pub never_faults : (r : Result Kept OutOfMemory) → CrewAnswers before after line r → r ≡ Ok DiskFault → ⊥
   never_faults (Ok kept) x e = replied_not_fault x.reply.0 (sym (ok_is kept DiskFault e) ∙ x.reply.1)
   never_faults (Err f) x e = err_not f DiskFault e
 
-  pub full_is : (r : Result Kept OutOfMemory) (columns end size : ℕ) → CrewAnswers content images before after line r → (r ≡ Ok JournalFull) ↔ LacksRoom (view_of before) line columns end size
+  pub full_is : (r : Result Kept OutOfMemory) (columns end size : ℕ) → CrewAnswers before after line r → (r ≡ Ok JournalFull) ↔ LacksRoom (view_of before) line columns end size
   full_is r columns end size x = (λ e. absurd (never_full r x e), λ lacks. absurd (none (lacks_commits (view_of before) line columns end size lacks)))
 
-  pub failed_is : (r : Result Kept OutOfMemory) → CrewAnswers content images before after line r → before.failed ≡ false → (after.failed ≡ true) ↔ (r ≡ Ok DiskFault)
+  pub failed_is : (r : Result Kept OutOfMemory) → CrewAnswers before after line r → before.failed ≡ false → (after.failed ≡ true) ↔ (r ≡ Ok DiskFault)
   failed_is r x sound = (λ e. absurd (true≢false (sym e ∙ (x.failed ∙ sound))), λ e. absurd (never_faults r x e))
 
   counts : (left : D → Option ℕ) (kept : Kept) (r : Reply) → kept ≡ Replied r → after.log ≡ before.log → CountsLine (view_of before) line (left before.log.disk) (left after.log.disk) kept
   counts left kept r is same = subst (CountsLine (view_of before) line (left before.log.disk) (left after.log.disk)) (sym is) (λ commits. absurd (none commits), λ no. ap (λ (l : Log D). left l.disk) same)
 
-  pub counts_none : (left : D → Option ℕ) (r : Result Kept OutOfMemory) → CrewAnswers content images before after line r → IfOk r (CountsLine (view_of before) line (left before.log.disk) (left after.log.disk))
+  pub counts_none : (left : D → Option ℕ) (r : Result Kept OutOfMemory) → CrewAnswers before after line r → IfOk r (CountsLine (view_of before) line (left before.log.disk) (left after.log.disk))
   counts_none left (Ok kept) x = counts left kept x.reply.0 x.reply.1 x.log
   counts_none left (Err e) x = tt
 
-  pub unspent : (size : D → List ℕ) (left : D → Option ℕ) (faults : D → ℕ) (r : Result Kept OutOfMemory) → CrewAnswers content images before after line r
+  pub unspent : (size : D → List ℕ) (left : D → Option ℕ) (faults : D → ℕ) (r : Result Kept OutOfMemory) → CrewAnswers before after line r
       → OnErr r ((size after.log.disk ≡ size before.log.disk) × (left after.log.disk ≡ left before.log.disk) × (faults after.log.disk ≡ faults before.log.disk))
   unspent size left faults (Ok kept) x = tt
   unspent size left faults (Err e) x = (ap (λ (l : Log D). size l.disk) x.log, ap (λ (l : Log D). left l.disk) x.log, ap (λ (l : Log D). faults l.disk) x.log)
@@ -92,14 +93,14 @@ module _ {D : Type 0} (content : D → List ℕ) (images : D → List ℕ → Ty
   written_by columns end was now (Call s c) r none = tt
   written_by columns end was now l r none = tt
 
-  pub written : (columns end : ℕ) (was now : List ℕ) (r : Result Kept OutOfMemory) → CrewAnswers content images before after line r → IfOk r (IsWritten (view_of before) line columns end was now)
+  pub written : (columns end : ℕ) (was now : List ℕ) (r : Result Kept OutOfMemory) → CrewAnswers before after line r → IfOk r (IsWritten (view_of before) line columns end was now)
   written columns end was now (Ok kept) x = subst (IsWritten (view_of before) line columns end was now) (sym x.reply.1)
       (written_by columns end was now line x.reply.0 (λ commits. ap (commits_after (view_of before) commits line) (sym x.reply.1) ∙ x.none commits))
   written columns end was now (Err e) x = tt
 
-  pub faults_stay : (faults : D → ℕ) (r : Result Kept OutOfMemory) → CrewAnswers content images before after line r → faults before.log.disk ≤ faults after.log.disk
+  pub faults_stay : (faults : D → ℕ) (r : Result Kept OutOfMemory) → CrewAnswers before after line r → faults before.log.disk ≤ faults after.log.disk
   faults_stay faults r x = let same = ap (λ (l : Log D). faults l.disk) x.log in omega (arith, same)
 
-  pub size_stays : (size : D → List ℕ) (r : Result Kept OutOfMemory) → CrewAnswers content images before after line r → IfOk r (λ kept. ¬ (kept ≡ DiskFault) → length (size after.log.disk) ≡ length (size before.log.disk))
+  pub size_stays : (size : D → List ℕ) (r : Result Kept OutOfMemory) → CrewAnswers before after line r → IfOk r (λ kept. ¬ (kept ≡ DiskFault) → length (size after.log.disk) ≡ length (size before.log.disk))
   size_stays size (Ok kept) x = λ no. ap (λ (l : Log D). length (size l.disk)) x.log
   size_stays size (Err e) x = tt

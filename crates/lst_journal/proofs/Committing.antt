@@ -36,16 +36,17 @@ use Rattle.lst_session.specs.Calls.{Commits}
 use Rattle.lst_session.specs.Crews.{IsCrewOf, TellsState, Answers, store_told}
 use Rattle.lst_session.proofs.Crewed.{IsCrewView, crew_view, core_of, known_is, is_crew, told_is, begins_is, opened_by, opened_some}
 use Rattle.lst_journal.specs.declared.journal.Redo.{Redo}
-use Rattle.lst_journal.specs.Journals.{view_of, IsJournalOf}
+use Rattle.lst_journal.specs.Journals.{view_of, IsJournalOf, IsCrewFor}
 use Rattle.lst_journal.specs.Owns.{FitRecord, AreOwn, commit_of}
 use Rattle.lst_journal.specs.Answers.{MayLeave, HasRoomAfter}
 use Rattle.lst_journal.proofs.Answering.{leaves}
+use Rattle.lst_journal.proofs.Crewing.{crew_for, journal_of}
 use Rattle.lst_journal.proofs.Lists.{own_kept}
 use Rattle.lst_journal.proofs.Owning.{over}
 use Rattle.lst_journal.proofs.Telling.{committed_history}
 
-module _ {D : Type 0} (content : D → List ℕ) (images : D → List ℕ → Type 0) (before : Redo D) (p : Possible (view_of before)) (s : ℕ) (low : s < (view_of before).limits.sessions)
-    (is_open : (knows (view_of before) s).is_open ≡ true) (some : 0 < length (knows (view_of before) s).own) (commits : List Commit) (journal : IsJournalOf content images commits before) where
+module _ {D : Type 0} (before : Redo D) (p : Possible (view_of before)) (s : ℕ) (low : s < (view_of before).limits.sessions)
+    (is_open : (knows (view_of before) s).is_open ≡ true) (some : 0 < length (knows (view_of before) s).own) (commits : List Commit) (journal : IsCrewFor commits before) where
   crew : IsCrewView (view_of before)
   crew = crew_view before.store before.crew journal.crew_of journal.tells
 
@@ -117,11 +118,10 @@ module _ {D : Type 0} (content : D → List ℕ) (images : D → List ℕ → Ty
 
   -- the journal once the crew made it too
   module _ (log : Log D) (crew_now : Crew) (own : List (List Write)) (columns_stay : log.columns ≡ before.log.columns) where
-    pub committed : (time : ℕ) → Keeps content images (commits ++ commit_of (view_of before) s ∷ []) log → IsCrewOf before.store crew_now → TellsState crew_now.seat.view → Answers (view_of before) crew_now.seat.view s CommitCall (reply.Committed time)
-        → Commits (view_of before) crew_now.seat.view s time → own ≡ before.own → IsJournalOf content images (commits ++ commit_of (view_of before) s ∷ []) (record before { log = log; crew = crew_now; own = own })
-    committed time keeps of tells answers commits_so is =
+    pub committed : (time : ℕ) → IsCrewOf before.store crew_now → TellsState crew_now.seat.view → Answers (view_of before) crew_now.seat.view s CommitCall (reply.Committed time)
+        → Commits (view_of before) crew_now.seat.view s time → own ≡ before.own → IsCrewFor (commits ++ commit_of (view_of before) s ∷ []) (record before { log = log; crew = crew_now; own = own })
+    committed time of tells answers commits_so is =
         let told : store_told crew_now.seat.view ≡ after = ap (λ (st : State). st.store) answers.next in record {
-          keeps = keeps;
           columns = columns_stay ∙ journal.columns;
           few = subst (λ (n : ℕ). n ≤ 8) (sym columns_stay) journal.few;
           crew_of = of;
@@ -134,15 +134,18 @@ module _ {D : Type 0} (content : D → List ℕ) (images : D → List ℕ → Ty
 
 -- ---- the log is another, or the lists were put back
 
+pub crew_with_log : {D : Type 0} (before : Redo D) (log : Log D) (own : List (List Write)) (commits : List Commit) → log.columns ≡ before.log.columns → own ≡ before.own → IsCrewFor commits before → IsCrewFor commits (record before { log = log; own = own })
+crew_with_log before log own commits columns_stay is crew = record {
+  columns = columns_stay ∙ crew.columns;
+  few = subst (λ (n : ℕ). n ≤ 8) (sym columns_stay) crew.few;
+  crew_of = crew.crew_of;
+  tells = crew.tells;
+  same = crew.same;
+  counted = crew.counted;
+  own = subst (AreOwn (view_of before)) (sym is) crew.own;
+}
+
 pub with_log : {D : Type 0} (content : D → List ℕ) (images : D → List ℕ → Type 0) (before : Redo D) (log : Log D) (own : List (List Write)) (commits : List Commit)
     → log.columns ≡ before.log.columns → Keeps content images commits log → own ≡ before.own → IsJournalOf content images commits before → IsJournalOf content images commits (record before { log = log; own = own })
-with_log content images before log own commits columns_stay keeps is journal = record {
-  keeps = keeps;
-  columns = columns_stay ∙ journal.columns;
-  few = subst (λ (n : ℕ). n ≤ 8) (sym columns_stay) journal.few;
-  crew_of = journal.crew_of;
-  tells = journal.tells;
-  same = journal.same;
-  counted = journal.counted;
-  own = subst (AreOwn (view_of before)) (sym is) journal.own;
-}
+with_log content images before log own commits columns_stay keeps is journal =
+    journal_of content images (record before { log = log; own = own }) commits keeps (crew_with_log before log own commits columns_stay is (crew_for content images before commits journal))

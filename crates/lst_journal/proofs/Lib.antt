@@ -8,3 +8,6 @@ pub mod Answering
 pub mod Looking
 pub mod Opened
 pub mod Staying
+pub mod Crewing
+pub mod Ahead
+pub mod Ran

@@ -28,7 +28,7 @@ use Rattle.lst_session.specs.Crews.{IsCrewOf, TellsState, AnswersLine, store_tol
 use Rattle.lst_session.specs.Lines.{WriteLeaves}
 use Rattle.lst_journal.specs.declared.journal.Kept.TheVariants.{Reply as Replied}
 use Rattle.lst_journal.specs.declared.journal.Redo.{Redo}
-use Rattle.lst_journal.specs.Journals.{view_of, IsJournalOf, IsOpenJournal}
+use Rattle.lst_journal.specs.Journals.{view_of, HasCrew}
 use Rattle.lst_journal.specs.Owns.{AreOwn, own_after, done_after, lists_after, MakesNone}
 use Rattle.lst_journal.specs.Answers.{CommitsWrites, CrewAnswers}
 use Rattle.lst_journal.proofs.Lists.{own_kept, own_on, line_looked}
@@ -38,14 +38,14 @@ use Rattle.lst_journal.proofs.Telling.{line_history, line_counted, none_committe
 pub call_low : (sessions ranges columns : ℕ) (line : Line) → LineFits sessions ranges columns line → (s : ℕ) (c : CallValue) → line ≡ Call s c → s < sessions
 call_low sessions ranges columns line fits s c is = (subst (LineFits sessions ranges columns) is fits).0
 
-module _ {D : Type 0} (content : D → List ℕ) (images : D → List ℕ → Type 0) (before : Redo D) (crew : Crew) (line : Line) (of : IsCrewOf before.store crew) (opened : IsOpenJournal content images before) where
+module _ {D : Type 0} (before : Redo D) (crew : Crew) (line : Line) (of : IsCrewOf before.store crew) (opened : HasCrew before) where
   pub limits_stay : crew.seat.view.limits ≡ (view_of before).limits
   limits_stay = of.seat_of.limits ∙ sym opened.1.crew_of.seat_of.limits
 
   -- it is answered
   pub crew_answers : (r : Reply) (own : List (List Write)) → LineFits (view_of before).limits.sessions (view_of before).limits.ranges (view_of before).limits.columns line → ¬ CommitsWrites (view_of before) line
       → (TellsState (view_of before) → TellsState crew.seat.view × AnswersLine (view_of before) crew.seat.view line r) → EachLineLeaves (view_of before) crew.seat.view line r
-      → (AreOwn (view_of before) before.own → AreOwn crew.seat.view own) → CrewAnswers content images before (record before { crew = crew; own = own }) line (Ok (Replied r))
+      → (AreOwn (view_of before) before.own → AreOwn crew.seat.view own) → CrewAnswers before (record before { crew = crew; own = own }) line (Ok (Replied r))
   crew_answers r own fits none machine leaves keeps_own = record {
     log = refl;
     failed = refl;
@@ -53,11 +53,10 @@ module _ {D : Type 0} (content : D → List ℕ) (images : D → List ℕ → Ty
     crew_of = of;
     reply = (r, refl, (machine opened.1.tells).1);
     none = λ commits. none_committed (view_of before) crew.seat.view line r commits none leaves;
-    journal = λ commits journal.
+    crew = λ commits journal.
         let told = machine journal.tells in
         let same_history : (store_told crew.seat.view).history ≡ (store_told (view_of before)).history = ap (λ (st : State). st.store.history) told.1.then
         ∙ line_history (view_of before).limits (state_told (view_of before)) line (λ time e. not_committed (view_of before) crew.seat.view line time none (subst (EachLineLeaves (view_of before) crew.seat.view line) (told.1.is ∙ e) leaves)) in record {
-          keeps = journal.keeps;
           columns = journal.columns;
           few = journal.few;
           crew_of = of;
@@ -73,7 +72,7 @@ module _ {D : Type 0} (content : D → List ℕ) (images : D → List ℕ → Ty
 
   -- memory is wanting
   pub crew_wants : (e : OutOfMemory) (own : List (List Write)) → own ≡ before.own → KeepsState (view_of before) crew.seat.view → LineLooks (view_of before) crew.seat.view line
-      → CrewAnswers content images before (record before { crew = crew; own = own }) line (Err e)
+      → CrewAnswers before (record before { crew = crew; own = own }) line (Err e)
   crew_wants e own same keeps looks = record {
     log = refl;
     failed = refl;
@@ -81,9 +80,8 @@ module _ {D : Type 0} (content : D → List ℕ) (images : D → List ℕ → Ty
     crew_of = of;
     reply = tt;
     none = tt;
-    journal = λ commits journal.
+    crew = λ commits journal.
         let told = keeps journal.tells in record {
-          keeps = journal.keeps;
           columns = journal.columns;
           few = journal.few;
           crew_of = of;

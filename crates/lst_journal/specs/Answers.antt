@@ -19,7 +19,7 @@ use Rattle.lst_redo.specs.Journals.{StandsFor}
 use Rattle.lst_journal.specs.declared.journal.Kept.{Kept}
 use Rattle.lst_journal.specs.declared.journal.Kept.TheVariants.{Reply as Replied, JournalFull, DiskFault}
 use Rattle.lst_journal.specs.declared.journal.Redo.{Redo}
-use Rattle.lst_journal.specs.Journals.{view_of, IsJournalOf}
+use Rattle.lst_journal.specs.Journals.{view_of, IsCrewFor}
 use Rattle.lst_journal.specs.Owns.{commit_of}
 
 -- a line commits an open transaction that has writes
@@ -71,14 +71,14 @@ abbrev pub IsWritten : View → Line → ℕ → ℕ → List ℕ → List ℕ �
 IsWritten v (CallLine s CommitCall) columns end old new (Replied (Committed time)) = new ≡ opened old end (body columns (commit_of v s) ++ 0 ∷ [])
 IsWritten v line columns end old new kept = Unit {0}
 
--- the crew alone answered: the log is as it was, and the journal stands for the same commits, also where memory is wanting
-pub record CrewAnswers {D : Type 0} (content : D → List ℕ) (images : D → List ℕ → Type 0) (old new : Redo D) (line : Line) (result : Result Kept OutOfMemory) : Type 0 where
+-- the crew alone answered: the log is as it was, and the crew has the same commits, also where memory is wanting
+pub record CrewAnswers {D : Type 0} (old new : Redo D) (line : Line) (result : Result Kept OutOfMemory) : Type 0 where
   pub log : new.log ≡ old.log
   pub failed : new.failed ≡ old.failed
   pub store : new.store ≡ old.store
   pub crew_of : IsCrewOf new.store new.crew
   pub reply : IfOk result (λ kept. (answer : Reply) × (kept ≡ Replied answer) × AnswersLine (view_of old) (view_of new) line answer)
   pub none : IfOk result (λ kept. (commits : List Commit) → commits_after (view_of old) commits line kept ≡ commits)
-  pub journal : (commits : List Commit) → IsJournalOf content images commits old → IsJournalOf content images commits new
+  pub crew : (commits : List Commit) → IsCrewFor commits old → IsCrewFor commits new
   pub memory : OnErr result (KeepsState (view_of old) (view_of new))
   pub looks : OnErr result (LineLooks (view_of old) (view_of new) line)

@@ -26,3 +26,17 @@ pub record IsJournalOf {D : Type 0} (content : D → List ℕ) (images : D → L
 -- it stands for some commits
 abbrev pub IsOpenJournal : {D : Type 0} → (D → List ℕ) → (D → List ℕ → Type 0) → Redo D → Type 0
 IsOpenJournal content images redo = (commits : List Commit) × IsJournalOf content images commits redo
+
+-- what a journal's crew tells has these commits, whatever its disk has of them: the same but for the disk
+pub record IsCrewFor {D : Type 0} (commits : List Commit) (redo : Redo D) : Type 0 where
+  pub columns : redo.log.columns ≡ redo.store.layout.limits.columns
+  pub few : redo.log.columns ≤ 8
+  pub crew_of : IsCrewOf redo.store redo.crew
+  pub tells : TellsState (view_of redo)
+  pub same : SameCommits (store_told (view_of redo)).history commits
+  pub counted : IsCounted (view_of redo).limits (store_told (view_of redo))
+  pub own : AreOwn (view_of redo) redo.own
+
+-- it has some commits
+abbrev pub HasCrew : {D : Type 0} → Redo D → Type 0
+HasCrew redo = (commits : List Commit) × IsCrewFor commits redo

@@ -8,6 +8,8 @@ mod fits;
 mod journal;
 mod lines;
 mod opening;
+mod together;
 
 pub use journal::{Kept, Redo};
 pub use opening::{OpenCause, OpenRefusal, open_redo};
+pub use together::RunFault;

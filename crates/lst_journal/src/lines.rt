@@ -12,7 +12,7 @@ ghost use Rattle.lst_replies.specs.Runs as runs;
 ghost use Rattle.lst_rule.specs.Rule.{knows};
 ghost use Rattle.lst_scan.specs.Lines.{KeepsState, LineLooks};
 ghost use Rattle.lst_session.specs.Crews.{IsCrewOf};
-ghost use Rattle.lst_journal.specs.Journals.{view_of, IsJournalOf, IsOpenJournal};
+ghost use Rattle.lst_journal.specs.Journals.{view_of, IsJournalOf, IsOpenJournal, HasCrew};
 ghost use Rattle.lst_journal.specs.Owns.{MakesNone};
 ghost use Rattle.lst_journal.specs.Answers.{CommitsWrites, MayLeave, IsAnswered, commits_after, HasRoomAfter, LacksRoom, CountsLine, IsWritten, CrewAnswers};
 
@@ -73,8 +73,8 @@ impl<D: Disk> Redo<D> {
     }
 
     /// The session whose open transaction, with writes, a line commits.
-    fn commits_writes(&self, line: &Line) -> Option<u32>
-        requires journal { IsOpenJournal D.content D.images self.now }
+    pub(crate) fn commits_writes(&self, line: &Line) -> Option<u32>
+        requires crew { HasCrew self.now }
         requires fits { LineFits (view_of self.now).limits.sessions (view_of self.now).limits.ranges (view_of self.now).limits.columns line.now }
         ensures commits { IfSome result (λ s. (line.now ≡ CallLine s CommitCall) × (s < (view_of self.now).limits.sessions) × ((knows (view_of self.now) s).is_open ≡ true) × (0 < length (knows (view_of self.now) s).own)) }
         ensures none { IfNone result (¬ CommitsWrites (view_of self.now) line.now) }
@@ -151,11 +151,11 @@ impl<D: Disk> Redo<D> {
     }
 
     /// A line that the crew answers alone.
-    fn by_crew(&mut self, alloc: Global, line: &Line) -> Result<Kept, OutOfMemory>
-        requires journal { IsOpenJournal D.content D.images self.old }
+    pub(crate) fn by_crew(&mut self, alloc: Global, line: &Line) -> Result<Kept, OutOfMemory>
+        requires crew { HasCrew self.old }
         requires fits { LineFits (view_of self.old).limits.sessions (view_of self.old).limits.ranges (view_of self.old).limits.columns line.now }
         requires none { ¬ CommitsWrites (view_of self.old) line.now }
-        ensures { CrewAnswers D.content D.images self.old self.new line.now result }
+        ensures { CrewAnswers self.old self.new line.now result }
     {
         match line {
             Line::Call { session, call } => match write_of(call, self.log.columns) {
@@ -168,11 +168,11 @@ impl<D: Disk> Redo<D> {
 
     /// One that makes no write.
     fn pass(&mut self, alloc: Global, line: &Line) -> Result<Kept, OutOfMemory>
-        requires journal { IsOpenJournal D.content D.images self.old }
+        requires crew { HasCrew self.old }
         requires fits { LineFits (view_of self.old).limits.sessions (view_of self.old).limits.ranges (view_of self.old).limits.columns line.now }
         requires none { ¬ CommitsWrites (view_of self.old) line.now }
         requires makes { MakesNone line.now }
-        ensures { CrewAnswers D.content D.images self.old self.new line.now result }
+        ensures { CrewAnswers self.old self.new line.now result }
     {
         let reply = crew_line(alloc, &self.store, &mut self.crew, line)?;
         follow(&mut self.own, alloc, line, &reply);
@@ -188,12 +188,12 @@ impl<D: Disk> Redo<D> {
         session: u32,
         write: Write,
     ) -> Result<Kept, OutOfMemory>
-        requires journal { IsOpenJournal D.content D.images self.old }
+        requires crew { HasCrew self.old }
         requires fits { LineFits (view_of self.old).limits.sessions (view_of self.old).limits.ranges (view_of self.old).limits.columns line.now }
         requires none { ¬ CommitsWrites (view_of self.old) line.now }
         requires call { (call : CallValue) × (line.now ≡ CallLine session call) × (runs.write_of call ≡ Some write) }
         requires write { IsWrite self.old.log.columns write }
-        ensures { CrewAnswers D.content D.images self.old self.new line.now result }
+        ensures { CrewAnswers self.old self.new line.now result }
     {
         if self.own.count(session) >= u32::MAX as usize {
             return Err(OutOfMemory);

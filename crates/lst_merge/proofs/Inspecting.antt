@@ -12,8 +12,8 @@ use Rattle.lst_core_state.specs.declared.known.Counter.{Counter}
 use Rattle.lst_core_state.specs.declared.known.Known.{Known}
 use Rattle.lst_core_state.specs.declared.known.Stage.{Stage}
 use Rattle.lst_core_state.specs.declared.known.Stage.TheVariants.{Away, Taken, Fresh, Logged, Stated, Done}
-use Rattle.lst_core_state.specs.Facts.{stored_fact, commit_fact}
-use Rattle.lst_core_state.specs.Step.{look_at, refreshed, if_full}
+use Rattle.lst_core_state.specs.Facts.{stored_fact, commit_fact, range_facts}
+use Rattle.lst_core_state.specs.Step.{look_at, refreshed, is_reading, if_full}
 use Rattle.lst_core_state.proofs.Histories.{starts_trans, starts_whole}
 use Rattle.lst_rule.specs.declared.view.View.{View}
 use Rattle.lst_rule.specs.Rule.{knows}
@@ -100,12 +100,12 @@ inspects_cell v w s t p x k = let W : Words = shown v.limits k.met.made.told.wor
 -- of a tail counter
 pub inspects_counter : (v w : View) (s range x : ℕ) → Looked v w s (TailCounter range) x → Inspects v w s
 inspects_counter v w s range x k = let W : Words = shown v.limits k.met.made.told.words in
-    inspects_load v w s x (TailCounter range) (TailsAtLeast range (W.counts range) ∷ []) (CountedTails range (W.counts range) ∷ if_full v.limits.tails (W.counts range) (FullTails range)) k (refl, refl, refl)
+    inspects_load v w s x (TailCounter range) (TailsAtLeast range (W.counts range) ∷ cond (is_reading (knows v s)) (range_facts v.limits W range) []) (CountedTails range (W.counts range) ∷ cond (is_reading (knows v s)) [] (if_full v.limits.tails (W.counts range) (FullTails range))) k (refl, refl, refl)
 
 -- which is found
 pub counter_found : (v w : View) (s range x : ℕ) → Looked v w s (TailCounter range) x → FoundSince (knows v s) (knows w s) (CountedTails range x)
 counter_found v w s range x k = subst (λ (y : ℕ). FoundSince (knows v s) (knows w s) (CountedTails range y)) k.met.found (let W : Words = shown v.limits k.met.made.told.words in
-    (CountedTails range (W.counts range) ∷ if_full v.limits.tails (W.counts range) (FullTails range), ap (λ (m : Known). m.finds) k.view.now, (0, omega arith, refl)))
+    (CountedTails range (W.counts range) ∷ cond (is_reading (knows v s)) [] (if_full v.limits.tails (W.counts range) (FullTails range)), ap (λ (m : Known). m.finds) k.view.now, (0, omega arith, refl)))
 
 -- facts and finds stay
 module _ (v w : View) (s : ℕ) (a : Inspects v w s) where

@@ -1,16 +1,17 @@
--- What an image stands for while a record is stored behind the closed gate, and while the gate is opened.
-use Rattle.std.proofs.Common.{◌≡◌, ◌≢◌, inl, inr, ℕ, suc, ◌+◌, ◌≤◌, List, [], ◌∷◌, ◌++◌, length, get_or, take, drop, sym, ◌∙◌, ap, subst, arith, append_assoc, length-append}
+-- What an image stands for while records are stored behind the closed gate, and while the gate is opened.
+use Rattle.std.proofs.Common.{◌≡◌, ◌≢◌, inl, inr, ℕ, suc, ◌+◌, ◌-◌, ◌≤◌, ◌<◌, List, [], ◌∷◌, ◌++◌, length, get_or, set, take, drop, sym, ◌∙◌, ap, subst, arith, append_assoc, length-append}
 use Rattle.std.specs.List.{AllByRecursion}
 use Rattle.std.proofs.lemmas.Bool.{cases_eq}
-use Rattle.std.proofs.lemmas.List.{append-nil, take_at, drop_at, drop_more, take-append-drop}
+use Rattle.std.proofs.lemmas.List.{append-nil, take_at, drop_at, drop_more, take-append-drop, take_all, length-drop}
+use Rattle.std.proofs.Math.Seq.{set-append_seam}
 use Rattle.std.proofs.lemmas.Grind.{flat_map-append}
 use Rattle.lst_model.specs.declared.commits.Commit.{Commit}
 use Rattle.lst_model.specs.Soundness.{IsSound}
 use Rattle.lst_model.proofs.Sounding.{sound_snoc}
-use Rattle.lst_disk.specs.Disk.{Torn}
-use Rattle.lst_redo.specs.Format.{body, record_of, journal, HasRecord}
+use Rattle.lst_disk.specs.Disk.{overwritten, Torn}
+use Rattle.lst_redo.specs.Format.{body, record_of, journal, HasRecord, IsPieceOf, IsBatchOf}
 use Rattle.lst_snapshots.specs.Replays.{numbered_at, numbered_from, IsRecovered, MayFollow}
-use Rattle.lst_redo.specs.Journals.{Ends, StandsFor, StandsForOrOneMore}
+use Rattle.lst_redo.specs.Journals.{Ends, AllMayFollow, StandsFor, StandsForOrAll}
 use Rattle.lst_redo.specs.Stores.{staged, opened, HalfStored}
 
 -- ---- one commit more
@@ -38,6 +39,28 @@ pub journal_length : (columns : ℕ) (commits : List Commit) (commit : Commit) �
 journal_length columns commits commit =
     let whole = ap length (sym (append-nil (journal columns (commits ++ commit ∷ []))) ∙ journal_more columns commits commit []) in
     omega (arith, whole, length-append (journal columns commits) (1 ∷ (body columns commit ++ [])), ap length (append-nil (body columns commit)))
+
+-- ---- some commits more
+
+pub each_all : (P : Commit → Type 0) (commits more : List Commit) → AllByRecursion P commits → AllByRecursion P more → AllByRecursion P (commits ++ more)
+each_all P [] more before behind = behind
+each_all P (c ∷ commits) more before behind = (before.0, each_all P commits more before.1 behind)
+
+pub recovered_all : (commits more : List Commit) → IsRecovered commits → AllMayFollow commits more → IsRecovered (commits ++ more)
+recovered_all commits [] recovered follow = subst IsRecovered (sym (append-nil commits)) recovered
+recovered_all commits (c ∷ more) recovered follow =
+    subst IsRecovered (append_assoc commits (c ∷ []) more) (recovered_all (commits ++ c ∷ []) more (recovered_more commits c recovered follow.0) follow.1)
+
+-- the piece of one commit
+pub piece_of_one : (columns : ℕ) (commit : Commit) → HasRecord columns commit → IsPieceOf columns (commit ∷ []) (body columns commit ++ 0 ∷ [])
+piece_of_one columns commit has = record { bytes = ap (λ (bytes : List ℕ). 1 ∷ bytes ++ 0 ∷ []) (sym (append-nil (body columns commit))); each = (has, tt) }
+
+-- the piece of some, of which there is one at least
+pub piece_of_all : (columns : ℕ) (commits : List Commit) (records : List ℕ) → 0 < length commits → AllByRecursion (HasRecord columns) commits → records ≡ journal columns commits ++ 0 ∷ [] → IsPieceOf columns commits (take (length records - 1) (drop 1 records))
+piece_of_all columns [] records some each is = absurd (omega (arith, some))
+piece_of_all columns (c ∷ commits) records some each is =
+    let all : take (length records - 1) (drop 1 records) ≡ drop 1 records = take_all (length records - 1) (drop 1 records) (omega (arith, length-drop 1 records)) in
+    record { bytes = ap (λ (bytes : List ℕ). 1 ∷ bytes) (all ∙ ap (drop 1) is); each = each }
 
 -- ---- the closed gate
 
@@ -92,33 +115,42 @@ module _ (columns : ℕ) (content : List ℕ) (commits : List Commit) (stands : 
       let behind : drop (gate + 1) s ≡ tail piece = ap (drop (gate + 1)) (staged_is piece) ∙ behind_one front (tail piece) shut.gate gate end in
       (λ i. before i ++ (1 ∷ []) ++ behind i) ∙ append_assoc front (1 ∷ []) (tail piece)
 
-  module _ (commit : Commit) (has : HasRecord columns commit) (follows : MayFollow commits commit) (piece : List ℕ) (piece_is : piece ≡ body columns commit ++ 0 ∷ []) where
+  -- the same, as one piece from the gate on
+  pub opened_whole : (piece : List ℕ) → opened content gate piece ≡ overwritten content gate (1 ∷ piece)
+  opened_whole piece =
+      let before : take gate content ≡ front = ap (take gate) shut.whole ∙ take_at front (shut.gate ∷ shut.more) gate (sym end) in
+      let behind : gate + 1 + length piece ≡ gate + suc (length piece) = omega arith in
+      opened_is piece ∙ (λ i. sym before i ++ 1 ∷ (piece ++ drop (behind i) content)) ∙ sym (append_assoc (take gate content) (1 ∷ piece) (drop (gate + suc (length piece)) content))
+
+  module _ (more : List Commit) (follow : AllMayFollow commits more) (piece : List ℕ) (piece_of : IsPieceOf columns more piece) where
     abbrev pub after : List ℕ
     after = drop (gate + 1 + length piece) content
 
-    tail_is : tail piece ≡ body columns commit ++ 0 ∷ after
-    tail_is = ap (λ (bytes : List ℕ). bytes ++ after) piece_is ∙ append_assoc (body columns commit) (0 ∷ []) after
+    opened_tail : front ++ 1 ∷ tail piece ≡ journal columns (commits ++ more) ++ 0 ∷ after
+    opened_tail =
+        ap (λ (bytes : List ℕ). front ++ (bytes ++ after)) piece_of.bytes ∙ ap (λ (bytes : List ℕ). front ++ bytes) (append_assoc (journal columns more) (0 ∷ []) after)
+        ∙ sym (append_assoc front (journal columns more) (0 ∷ after)) ∙ ap (λ (bytes : List ℕ). bytes ++ 0 ∷ after) (sym (flat_map-append (record_of columns) commits more))
 
-    -- an open gate makes it one commit more
-    one_more : (image : List ℕ) → image ≡ front ++ 1 ∷ tail piece → StandsFor columns image (commits ++ commit ∷ [])
-    one_more image is = record {
+    -- an open gate makes it all of them more
+    all_more : (image : List ℕ) → image ≡ front ++ 1 ∷ tail piece → StandsFor columns image (commits ++ more)
+    all_more image is = record {
       lists = record {
         rest = 0 ∷ after;
-        whole = is ∙ ap (λ (bytes : List ℕ). front ++ 1 ∷ bytes) tail_is ∙ sym (journal_more columns commits commit (0 ∷ after));
+        whole = is ∙ opened_tail;
         ended = omega arith;
-        each = each_more (HasRecord columns) commits commit stands.lists.each has;
+        each = each_all (HasRecord columns) commits more stands.lists.each piece_of.each;
       };
-      recovered = recovered_more commits commit stands.recovered follows;
+      recovered = recovered_all commits more stands.recovered follow;
     }
 
-    -- any byte in the gate's place makes it one commit more, or none
-    any_gate : (x : ℕ) (image : List ℕ) → image ≡ front ++ x ∷ tail piece → StandsForOrOneMore columns commits commit image
+    -- any byte in the gate's place makes it all of them more, or none
+    any_gate : (x : ℕ) (image : List ℕ) → image ≡ front ++ x ∷ tail piece → StandsForOrAll columns commits more image
     any_gate x image is = elim (cases_eq x 1) [
-      | inl is_open ↦ inr (one_more image (is ∙ ap (λ (y : ℕ). front ++ y ∷ tail piece) is_open))
+      | inl is_open ↦ inr (all_more image (is ∙ ap (λ (y : ℕ). front ++ y ∷ tail piece) is_open))
       | inr is_shut ↦ inl (record { lists = record { rest = x ∷ tail piece; whole = is; ended = is_shut; each = stands.lists.each }; recovered = stands.recovered })
     ]
 
-    torn_gate : (image : List ℕ) → Torn gate 1 (staged content gate piece) image → StandsForOrOneMore columns commits commit image
+    torn_gate : (image : List ℕ) → Torn gate 1 (staged content gate piece) image → StandsForOrAll columns commits more image
     torn_gate image torn =
         let s = staged content gate piece in
         let before : take gate image ≡ front = torn.before ∙ ap (take gate) (staged_is piece) ∙ take_at front (shut.gate ∷ tail piece) gate (sym end) in
@@ -130,9 +162,48 @@ module _ (columns : ℕ) (content : List ℕ) (commits : List Commit) (stands : 
         any_gate x image whole
 
     -- at any moment of the two
-    pub half_stored : (image : List ℕ) → HalfStored content gate piece image → StandsForOrOneMore columns commits commit image
+    pub half_stored : (image : List ℕ) → HalfStored content gate piece image → StandsForOrAll columns commits more image
     half_stored image (inl first) = inl (torn_behind (length piece) image first)
     half_stored image (inr second) = torn_gate image second
 
-    pub stored : (image : List ℕ) → image ≡ opened content gate piece → StandsFor columns image (commits ++ commit ∷ [])
-    stored image is = one_more image (is ∙ opened_is piece)
+    pub stored : (image : List ℕ) → image ≡ opened content gate piece → StandsFor columns image (commits ++ more)
+    stored image is = all_more image (is ∙ opened_is piece)
+
+    -- where the records end then
+    pub end_after : gate + length piece ≡ length (journal columns (commits ++ more))
+    end_after = omega (arith, end, ap length piece_of.bytes, length-append (journal columns more) (0 ∷ []), ap length (flat_map-append (record_of columns) commits more), length-append (journal columns commits) (journal columns more))
+
+-- what is written for one commit, from the gate on, and behind the gate
+pub one_written : (columns : ℕ) (commit : Commit) (new content : List ℕ) (commits : List Commit) (stands : StandsFor columns content commits) (gate : ℕ) → gate ≡ length (journal columns commits) → gate + 1 ≤ length content
+    → new ≡ overwritten content gate (journal columns (commit ∷ []) ++ 0 ∷ []) → new ≡ opened content gate (body columns commit ++ 0 ∷ [])
+one_written columns commit new content commits stands gate end long is =
+    is ∙ ap (λ (bytes : List ℕ). overwritten content gate (1 ∷ bytes ++ 0 ∷ [])) (append-nil (body columns commit)) ∙ sym (opened_whole columns content commits stands gate end long (body columns commit ++ 0 ∷ []))
+
+-- ---- a batch
+
+-- one commit more: the last byte of the batch so far becomes its open gate
+pub batch_of_one : (columns : ℕ) (commits : List Commit) (commit : Commit) (batch : List ℕ) → HasRecord columns commit → IsBatchOf columns commits batch → length batch ≡ 0
+    → IsBatchOf columns (commits ++ commit ∷ []) (batch ++ (body columns commit ++ 0 ∷ []))
+batch_of_one columns [] commit batch has is none = subst (λ (bytes : List ℕ). IsPieceOf columns (commit ∷ []) (bytes ++ (body columns commit ++ 0 ∷ []))) (sym is) (piece_of_one columns commit has)
+batch_of_one columns (c ∷ commits) commit batch has is none = absurd (omega (arith, none, ap length is.bytes, length-append (body columns c) (journal columns commits), length-append (body columns c ++ journal columns commits) (0 ∷ [])))
+
+pub batch_more : (columns : ℕ) (commits : List Commit) (commit : Commit) (batch : List ℕ) (n : ℕ) → HasRecord columns commit → IsBatchOf columns commits batch → length batch ≡ suc n
+    → IsBatchOf columns (commits ++ commit ∷ []) (set (batch ++ (body columns commit ++ 0 ∷ [])) n 1)
+batch_more columns [] commit batch n has is some = absurd (omega (arith, some, ap length is))
+batch_more columns (c ∷ commits) commit batch n has is some =
+    let front = body columns c ++ journal columns commits in
+    let piece = body columns commit ++ 0 ∷ [] in
+    let batch_is : batch ≡ front ++ 0 ∷ [] = ap (drop 1) is.bytes in
+    let place : n ≡ length front = omega (arith, some, ap length batch_is, length-append front (0 ∷ [])) in
+    let placed : set (batch ++ piece) n 1 ≡ front ++ 1 ∷ piece =
+    ap (λ (bytes : List ℕ). set (bytes ++ piece) n 1) batch_is ∙ ap (λ (bytes : List ℕ). set bytes n 1) (append_assoc front (0 ∷ []) piece)
+    ∙ ap (λ (m : ℕ). set (front ++ 0 ∷ piece) m 1) place ∙ set-append_seam front 0 piece 1 in
+    record {
+      bytes = ap (λ (bytes : List ℕ). 1 ∷ bytes) placed ∙ sym (journal_more columns (c ∷ commits) commit (0 ∷ []));
+      each = each_more (HasRecord columns) (c ∷ commits) commit is.each has;
+    }
+
+-- a batch is as long as the records
+pub batch_length : (columns : ℕ) (commits : List Commit) (batch : List ℕ) → IsBatchOf columns commits batch → length batch ≡ length (journal columns commits)
+batch_length columns [] batch is = ap length is
+batch_length columns (c ∷ commits) batch is = omega (arith, ap length is.bytes, length-append (journal columns (c ∷ commits)) (0 ∷ []))

@@ -1,6 +1,7 @@
 mod Again
 mod Crashes
 mod Loops
+mod Logging
 pub mod Moments
 mod Ones
 mod Pushes

@@ -26,6 +26,15 @@ pub record StandsFor (columns : ℕ) (image : List ℕ) (commits : List Commit) 
 abbrev pub StandsForOrOneMore : ℕ → List Commit → Commit → List ℕ → Type 0
 StandsForOrOneMore columns commits commit image = StandsFor columns image commits ⊎ StandsFor columns image (commits ++ commit ∷ [])
 
+-- commits may stand behind these, one after another, their numbers aside
+abbrev pub AllMayFollow : List Commit → List Commit → Type 0
+AllMayFollow commits [] = Unit {0}
+AllMayFollow commits (c ∷ more) = MayFollow commits c × AllMayFollow (commits ++ c ∷ []) more
+
+-- with all of these more, or with none of them
+abbrev pub StandsForOrAll : ℕ → List Commit → List Commit → List ℕ → Type 0
+StandsForOrAll columns commits more image = StandsFor columns image commits ⊎ StandsFor columns image (commits ++ more)
+
 -- an image isn't in the format: behind the records of these commits stands an open gate, and no record of one more that may follow. The place is
 -- that of its gate
 pub record IsDamagedAt (columns : ℕ) (image : List ℕ) (at : ℕ) : Type 0 where

@@ -15,6 +15,6 @@ mod store;
 mod write;
 
 pub use laws::image_has_one_history;
-pub use log::{AppendFault, Log};
+pub use log::{AppendFault, Log, StageFault};
 pub use opening::{OpenCause, OpenRefusal, open};
 pub use read::{has_place, is_record};

@@ -1,28 +1,32 @@
 -- What loads and latches find of a chain and of its versions.
-use Rattle.std.proofs.Common.{◌≡◌, ℕ, ◌+◌, ◌*◌, ◌/◌, ◌%◌, ◌<◌, List, [], ◌∷◌, ◌++◌, true, cond, eqb, get_or, Contains, refl, sym, subst, ap, ◌∙◌, arith, true≢false, eq-eqb, ne_eqb}
+use mathlib.Core.Logic.{dite}
+use native.Mathlib.Decide.{ℕ_discrete}
+use Rattle.std.proofs.Common.{◌≡◌, ◌≢◌, ◌⊎◌, ⊎_elim, ◌&&◌, ◌≤◌, Bool, ℕ, ◌+◌, ◌*◌, ◌/◌, ◌%◌, ◌<◌, List, [], ◌∷◌, ◌++◌, true, cond, eqb, get_or, Contains, refl, sym, subst, ap, ◌∙◌, arith, true≢false, eq-eqb, ne_eqb}
 use Rattle.std.proofs.lemmas.List.Elements.{Contains-append_left, Contains-append_right}
 use Rattle.lst_layout.specs.declared.limits.Limits.{Limits}
 use Rattle.lst_layout.specs.declared.place.Place.{Place}
-use Rattle.lst_layout.specs.declared.place.Place.TheVariants.{StateWord, HeadWord, CellWord}
+use Rattle.lst_layout.specs.declared.place.Place.TheVariants.{StateWord, HeadWord, TailCounter, CellWord}
 use Rattle.lst_layout.specs.Addresses.{address}
 use Rattle.lst_layout.specs.Words.{shown}
 use Rattle.lst_layout.proofs.Places.{addresses_are_read}
-use Rattle.lst_core_state.specs.Lists.{is_until}
+use Rattle.lst_core_state.specs.Lists.{Has, is_until}
 use Rattle.lst_core_state.specs.declared.known.Known.{Known}
 use Rattle.lst_core_state.specs.declared.events.Event.{Event}
 use Rattle.lst_core_state.specs.declared.events.Event.TheVariants.{Look, Latch}
 use Rattle.lst_core_state.specs.declared.facts.Fact.{Fact}
-use Rattle.lst_core_state.specs.declared.facts.Fact.TheVariants.{StateAt, CommitAt}
+use Rattle.lst_core_state.specs.declared.facts.Fact.TheVariants.{StateAt, CommitAt, TailsAtLeast}
 use Rattle.lst_core_state.specs.declared.facts.Find.{Find}
 use Rattle.lst_core_state.specs.declared.facts.Find.TheVariants.{UnfinishedVersion}
-use Rattle.lst_core_state.specs.Cells.{record_count, record_of}
-use Rattle.lst_core_state.specs.Facts.{IsFact, index_facts, chain_facts, state_fact, stored_fact, commit_fact, active_find, unfinished}
-use Rattle.lst_core_state.specs.State.{Words, writer, name_of, record_in}
-use Rattle.lst_core_state.specs.Step.{look_at, latched, latch_lost}
-use Rattle.lst_core_state.specs.Sound.{FactsOf, StoredOf}
+use Rattle.lst_core_state.specs.Cells.{record_count, range_of, record_of}
+use Rattle.lst_core_state.specs.Facts.{IsFact, index_facts, chain_facts, range_facts, state_fact, stored_fact, commit_fact, active_find, unfinished}
+use Rattle.lst_core_state.specs.State.{Core, Words, line, head_of, back_in, writer, name_of, record_in}
+use Rattle.lst_core_state.specs.Step.{look_at, is_reading, latched, latch_lost}
+use Rattle.lst_core_state.specs.Sound.{Drawn, Sound, FactsOf, StoredOf}
 use Rattle.lst_core_state.proofs.Functions.{either}
 use Rattle.lst_core_state.proofs.Steps.{writer_odd, writer_even}
-use Rattle.lst_core_state.proofs.FactsPart.{more_facts, index_are_facts, chain_are_facts}
+use Rattle.lst_core_state.proofs.FactsPart.{more_facts, index_are_facts, chain_are_facts, range_has, look_facts}
+use Rattle.lst_core_state.proofs.Reading.{links_head}
+use Rattle.lst_core_state.proofs.CellsKept.{tail_at-some}
 use Rattle.lst_core_state.specs.Index.{size}
 use Rattle.lst_core_state.specs.State.{state_over}
 use Rattle.lst_rule.specs.declared.view.View.{View}
@@ -32,7 +36,7 @@ use Rattle.lst_rule.proofs.Knowing.{is_fact}
 use Rattle.lst_rule.specs.Copies.{Version, fact_of, IsVersionOf, Includes}
 use Rattle.lst_rule.specs.Seen.{is_early, SeesAlike}
 use Rattle.lst_rule.specs.Loads.{ChainFound, StartFound, StateFound}
-use Rattle.lst_rule.specs.Laws.{LoadsFindChains, LatchesFindChains, StartsAreFound, TailsAreFound, WordsAreFound, StatesAreFound, UnfinishedIsAbout}
+use Rattle.lst_rule.specs.Laws.{RangesAreFound, LoadsFindChains, LatchesFindChains, StartsAreFound, TailsAreFound, WordsAreFound, StatesAreFound, UnfinishedIsAbout}
 use Rattle.lst_rule.proofs.Copying.{listed_at, version_at, stored_is}
 use Rattle.lst_rule.proofs.Seeing.{chain_found}
 use Rattle.lst_rule.proofs.StatusTelling.{low, is_known, is_on_known, state_tells}
@@ -50,6 +54,19 @@ chain_met v w e p x y s rec k hosted m now below facts all same older is_open he
     (λ is_on. let was : (knows v s).is_open ≡ true = sym is_open ∙ is_on in
     (low v t.words t.known t.merger a s hosted was, is_on_known v t.words t.known t.merger a s hosted was, subst (λ (u : Known). SeesAlike u k) (is_known v t.words t.known t.merger a s hosted was) same, subst (λ (u : Known). Includes k.facts u.facts) (is_known v t.words t.known t.merger a s hosted was) older)))))
 
+-- the number that an indirection word names was drawn
+head_drawn : (c : Core) → Sound c → (rec range : ℕ) → rec < record_count c.limits → range_of rec ≡ range → c.words.heads rec / 2 ≤ c.words.counts range
+head_drawn c sound rec range below is = dite (ℕ_discrete (c.words.heads rec / 2) 0)
+    (λ none. omega (arith, none))
+    (λ ne. let L = sound.versions.lines rec below in let h : ℕ = head_of c.limits rec (c.words.heads rec) in let n : ℕ = c.words.heads rec / 2 in
+    let at : h ≡ range_of rec * c.limits.tails + n = tail_at-some c.limits.tails (range_of rec) n (omega (arith, ne)) in
+    ⊎_elim (λ (z : h ≡ 0). absurd (omega (arith, at, z, ne)))
+    (λ (i : Has h (line c.limits c.words rec)). drawn n h at (subst (λ (r : ℕ). Drawn c.limits c.words.counts (range_of r) h) (L.here h i) (sound.versions.stored h (L.stored h i)).drawn).2)
+    (links_head (back_in c.limits c.words.cells) h (line c.limits c.words rec) L.links))
+  where
+    drawn : (n h : ℕ) → h ≡ range_of rec * c.limits.tails + n → h ≤ range_of rec * c.limits.tails + c.words.counts (range_of rec) → n ≤ c.words.counts range
+    drawn n h at low = subst (λ (r : ℕ). n ≤ c.words.counts r) is (let e = at in omega (arith, low))
+
 pub loads_find_chains : LoadsFindChains
 loads_find_chains v w s rec x hosted below m = let t = m.made.told in let W : Words = shown v.limits t.words in let k : Known = knows v s in
     let old : FactsOf v.limits W k.facts = is_fact v t.words t.known t.merger t.allowed s hosted in
@@ -58,6 +75,28 @@ loads_find_chains v w s rec x hosted below m = let t = m.made.told in let W : Wo
     (more_facts v.limits W k.facts (chain_facts v.limits W rec) old (chain_are_facts (state_over v.limits t.words t.known t.merger) t.allowed.sound rec below))
     (λ f h. Contains-append_right k.facts (chain_facts v.limits W rec) f h)
     record { number = refl; begin = refl; own = refl; front = refl } (λ f h. Contains-append_left k.facts (chain_facts v.limits W rec) f h) refl m.found
+
+-- a session that reads finds all chains of a range at its counter
+pub ranges_are_found : RangesAreFound
+ranges_are_found v w s range x rec hosted is_on free inside m below is = let t = m.made.told in let W : Words = shown v.limits t.words in let k : Known = knows v s in let a = t.allowed in
+    let more : List Fact = TailsAtLeast range (W.counts range) ∷ cond (is_reading k) (range_facts v.limits W range) [] in let u : Known = look_at v.limits W k (TailCounter range) in
+    let now : knows w s ≡ u = m.made.view.now ∙ ap (look_at v.limits W k) ((addresses_are_read v.limits a.sound.sized).back (TailCounter range) inside) in
+    let old : FactsOf v.limits W k.facts = is_fact v t.words t.known t.merger a s hosted in
+    let facts : FactsOf v.limits W u.facts = look_facts (state_over v.limits t.words t.known t.merger) a.sound k old (TailCounter range) inside in
+    let all : Includes u.facts (chain_facts v.limits W rec) = λ f h. Contains-append_right k.facts more f (Contains-append_right (TailsAtLeast range (W.counts range) ∷ []) (cond (is_reading k) (range_facts v.limits W range) []) f
+    (subst (λ (b : Bool). Contains (cond b (range_facts v.limits W range) []) f) (sym (λ i. is_on i && eq-eqb k.hold.latch 0 free i))
+    (range_has v.limits W range (rec % 256) f (omega arith) (subst (λ (r : ℕ). Contains (chain_facts v.limits W r) f) (let e : rec ≡ 256 * range + rec % 256 = omega (arith, is) in e) h)))) in
+    let found : ChainFound v.limits u s rec (W.heads rec / 2) = chain_found (state_over v.limits t.words t.known t.merger) a.sound s rec u below facts all
+    (λ _. (
+      low v t.words t.known t.merger a s hosted is_on,
+      is_on_known v t.words t.known t.merger a s hosted is_on,
+      subst (λ (z : Known). SeesAlike z u) (is_known v t.words t.known t.merger a s hosted is_on) record { number = refl; begin = refl; own = refl; front = refl },
+      subst (λ (z : Known). Includes u.facts z.facts) (is_known v t.words t.known t.merger a s hosted is_on) (λ f h. Contains-append_left k.facts more f h),
+    )) in (
+      W.heads rec / 2,
+      subst (λ (n : ℕ). W.heads rec / 2 ≤ n) m.found (head_drawn (state_over v.limits t.words t.known t.merger) a.sound rec range below is),
+      subst (λ (l : Limits). ChainFound l (knows w s) s rec (W.heads rec / 2)) (sym m.made.view.limits) (subst (λ (z : Known). ChainFound v.limits z s rec (W.heads rec / 2)) (sym now) found),
+    )
 
 pub latches_find_chains : LatchesFindChains
 latches_find_chains v w s rec x y hosted m = let t = m.made.told in let W : Words = shown v.limits t.words in let k : Known = knows v s in let below = t.within.1 in

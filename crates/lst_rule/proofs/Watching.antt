@@ -1,5 +1,5 @@
 -- What a session knows after looks.
-use Rattle.std.proofs.Common.{◌≡◌, ◌⊎◌, ℕ, ◌+◌, ◌<◌, ◌≤◌, Some, None, slice_index, slice_set, get_or-set_other, Bool, true, false, nat_lt, arith, [], ◌∷◌, ◌++◌, cond, eqb, ◌&&◌, length, refl, sym, subst, ap, ◌∙◌, inl, inr, append_assoc, append-nil}
+use Rattle.std.proofs.Common.{◌≡◌, ◌⊎◌, ℕ, ◌+◌, ◌<◌, ◌≤◌, Some, None, slice_index, slice_set, get_or-set_other, Bool, true, false, nat_lt, arith, [], ◌∷◌, ◌++◌, cond, eqb, ◌&&◌, length, refl, sym, subst, ap, ◌∙◌, inl, inr, append_assoc, append-nil, eq-eqb}
 use mathlib.Core.Logic.{dite}
 use native.Mathlib.Decide.{ℕ_discrete}
 use Rattle.std.proofs.lemmas.List.{take-append-le}
@@ -18,11 +18,12 @@ use Rattle.lst_core_state.specs.declared.known.Stage.TheVariants.{Away, Taken, F
 use Rattle.lst_core_state.specs.declared.pages.PageInHand.{PageInHand}
 use Rattle.lst_core_state.specs.declared.pages.SessionFrames.{SessionFrames}
 use Rattle.lst_core_state.specs.declared.facts.Find.{Find}
-use Rattle.lst_core_state.specs.declared.facts.Find.TheVariants.{FreshClock, TailLoad, EmptyStart}
-use Rattle.lst_core_state.specs.Facts.{index_facts, chain_facts, state_fact, stored_fact, commit_fact, unfinished, active_find, early_find}
+use Rattle.lst_core_state.specs.declared.facts.Find.TheVariants.{FreshClock, TailLoad, EmptyStart, CountedTails, FullTails}
+use Rattle.lst_core_state.specs.declared.facts.Fact.TheVariants.{TailsAtLeast}
+use Rattle.lst_core_state.specs.Facts.{index_facts, chain_facts, range_facts, state_fact, stored_fact, commit_fact, unfinished, active_find, early_find}
 use Rattle.lst_core_state.specs.declared.events.Event.TheVariants.{Look}
-use Rattle.lst_core_state.specs.State.{Words, record_in, history_of, commits_of, mine, state_over}
-use Rattle.lst_core_state.specs.Step.{look_at, refreshed}
+use Rattle.lst_core_state.specs.State.{Words, counter_of, record_in, history_of, commits_of, mine, state_over}
+use Rattle.lst_core_state.specs.Step.{look_at, is_reading, if_full, served, refreshed}
 use Rattle.lst_pages.specs.State.{hand_of}
 use Rattle.lst_pages.specs.Runs.{IsReadable}
 use Rattle.lst_pages.specs.Known.{pages_in}
@@ -34,7 +35,7 @@ use Rattle.lst_rule.proofs.Knowing.{is_seen, knows_own}
 use Rattle.lst_rule.proofs.Learning.{learns_on, learns_same, kept_by}
 use Rattle.lst_rule.proofs.Paging.{hand_is_readable}
 use Rattle.lst_rule.specs.Watching.{IsNotFull, HasInHand, Watches, SamePins, Watched, IsWatched, IsStamped, KeepsStamps}
-use Rattle.lst_rule.specs.Laws.{LooksWatch, PagesWatch, StampsWatch, WatchesJoin, WatchersKeepPins, WatchersKeep, KeptBy}
+use Rattle.lst_rule.specs.Laws.{CountersWatch, LooksWatch, PagesWatch, StampsWatch, WatchesJoin, WatchersKeepPins, WatchersKeep, KeptBy}
 use Rattle.lst_rule.proofs.Stamps.{stamped_same, stamped_on, kept_stamped, made_stamped, kept_keeps, made_keeps}
 use Rattle.lst_rule.proofs.StatusTelling.{low, is_known, is_on_known}
 
@@ -68,6 +69,7 @@ watches_same u = record {
   later = [];
   turn = u.turn;
   looks = u.looks;
+  counters = u.counters;
   frames = u.pages.session;
   is = λ i. record u { seen = sym (append-nil u.seen) i; turn = u.turn; facts = sym (append-nil u.facts) i; finds = sym (append-nil u.finds) i; looks = u.looks };
   stage = inl refl;
@@ -97,11 +99,13 @@ watches_on u v w a b = record {
   later = a.later ++ b.later;
   turn = b.turn;
   looks = b.looks;
+  counters = b.counters;
   frames = b.frames;
-  is = b.is ∙ (ap (λ (k : Known). record k { seen = k.seen ++ b.later; turn = b.turn; facts = k.facts ++ b.facts; finds = k.finds ++ b.finds; looks = b.looks; pages = record k.pages { session = b.frames } }) a.is
+  is = b.is ∙ (ap (λ (k : Known). record k { seen = k.seen ++ b.later; turn = b.turn; counters = b.counters; facts = k.facts ++ b.facts; finds = k.finds ++ b.finds; looks = b.looks; pages = record k.pages { session = b.frames } }) a.is
       ∙ (λ i. record u {
         seen = append_assoc u.seen a.later b.later i;
         turn = b.turn;
+        counters = b.counters;
         facts = append_assoc u.facts a.facts b.facts i;
         finds = append_assoc u.finds a.finds b.finds i;
         looks = b.looks;
@@ -173,6 +177,7 @@ look_watches l w u ClockWord all is = record {
   later = all.0;
   turn = refreshed u.turn;
   looks = u.looks;
+  counters = u.counters;
   frames = u.pages.session;
   is = λ i. record u { seen = all.1 i; turn = refreshed u.turn; facts = u.facts ++ index_facts l w; finds = u.finds ++ FreshClock w.clock ∷ early_find u w.clock; looks = u.looks };
   stage = inr refl;
@@ -186,6 +191,7 @@ look_watches l w u (StateWord s n) all is = record {
   later = [];
   turn = u.turn;
   looks = record u.looks { state = w.states s n; session = s; number = n };
+  counters = u.counters;
   frames = u.pages.session;
   is = λ i. record u { seen = sym (append-nil u.seen) i; turn = u.turn; facts = u.facts ++ state_fact w s n; finds = u.finds ++ active_find u s n (w.states s n); looks = record u.looks { state = w.states s n; session = s; number = n } };
   stage = inl refl;
@@ -199,6 +205,7 @@ look_watches l w u (HeadWord r) all is = record {
   later = [];
   turn = u.turn;
   looks = u.looks;
+  counters = u.counters;
   frames = u.pages.session;
   is = λ i. record u { seen = sym (append-nil u.seen) i; turn = u.turn; facts = u.facts ++ chain_facts l w r; finds = sym (append-nil u.finds) i; looks = u.looks };
   stage = inl refl;
@@ -212,6 +219,7 @@ look_watches l w u (CellWord t p) all is = record {
   later = [];
   turn = u.turn;
   looks = cond (eqb p 0) (record u.looks { start = w.cells t 0; about = record_in l w.cells t + 1; tail = t }) u.looks;
+  counters = u.counters;
   frames = u.pages.session;
   is = λ i. record u {
     seen = sym (append-nil u.seen) i;
@@ -237,6 +245,39 @@ look_watches l w u (DirectoryWord r c) all is = watches_same u
 look_watches l w u (FrameWord f c) all is = watches_same u
 look_watches l w u (PinWord s) all is = absurd is
 look_watches l w u (PostingWord c q) all is = absurd is
+
+-- a load of a tail counter, while the session reads
+counter_watches : (l : Limits) (w : Words) (u : Known) (range : ℕ) → is_reading u ≡ true → Watches u (look_at l w u (TailCounter range))
+counter_watches l w u range reading = record {
+  facts = TailsAtLeast range (w.counts range) ∷ cond (is_reading u) (range_facts l w range) [];
+  finds = CountedTails range (w.counts range) ∷ cond (is_reading u) [] (if_full l.tails (w.counts range) (FullTails range));
+  later = [];
+  turn = u.turn;
+  looks = u.looks;
+  counters = slice_set u.counters range (served l.tails (w.counts range) (counter_of u range));
+  frames = u.pages.session;
+  is = λ i. record u {
+    seen = sym (append-nil u.seen) i;
+    counters = slice_set u.counters range (served l.tails (w.counts range) (counter_of u range));
+    facts = u.facts ++ TailsAtLeast range (w.counts range) ∷ cond (is_reading u) (range_facts l w range) [];
+    finds = u.finds ++ CountedTails range (w.counts range) ∷ cond (is_reading u) [] (if_full l.tails (w.counts range) (FullTails range));
+  };
+  stage = inl refl;
+  room = All-cons IsNotFull (CountedTails range (w.counts range)) (cond (is_reading u) [] (if_full l.tails (w.counts range) (FullTails range))) tt
+      (subst (λ (b : Bool). All IsNotFull (cond b [] (if_full l.tails (w.counts range) (FullTails range)))) (sym reading) (All-nil IsNotFull));
+  pin = refl;
+  hand = hand_same u.pages.session;
+}
+
+reading_says : (u : Known) → u.is_open ≡ true → u.hold.latch ≡ 0 → is_reading u ≡ true
+reading_says u is_on free = λ i. is_on i && eq-eqb u.hold.latch 0 free i
+
+pub counters_watch : CountersWatch
+counters_watch v w s range x hosted is_on free inside m = let t = m.made.told in let W : Words = shown v.limits t.words in let k : Known = knows v s in
+    watched v w s (look_at v.limits W k (TailCounter range)) (subst (λ (q : Place). Learns v w s (look_at v.limits W k q)) ((addresses_are_read v.limits t.allowed.sound.sized).back (TailCounter range) inside) m.made.view)
+    (counter_watches v.limits W k range (reading_says k is_on free)) (λ low. refl)
+    (kept_stamped v w m.made.view.limits (kept_by v w (Look s (address v.limits (TailCounter range))) (TailCounter range) x m))
+    (kept_keeps v w m.made.view.limits (kept_by v w (Look s (address v.limits (TailCounter range))) (TailCounter range) x m))
 
 pub looks_watch : LooksWatch
 looks_watch v w s x p hosted inside is m = let t = m.made.told in let W : Words = shown v.limits t.words in let k : Known = knows v s in
@@ -269,6 +310,7 @@ module _ (v w : View) (s r c f : ℕ) (hosted : hosts v s ≡ true) (low : s < v
     later = [];
     turn = (knows v s).turn;
     looks = (knows v s).looks;
+    counters = (knows v s).counters;
     frames = frames;
     is = λ i. record (knows v s) { seen = sym (append-nil (knows v s).seen) i; facts = sym (append-nil (knows v s).facts) i; finds = sym (append-nil (knows v s).finds) i; pages = record (knows v s).pages { session = frames } };
     stage = inl refl;

@@ -3,7 +3,7 @@ use Rattle.std.specs.Prelude.{◌≡◌, ◌≢◌, ◌⊎◌, ◌↔◌, ℕ, �
 use Rattle.std.specs.List.{Contains}
 use Rattle.lst_layout.specs.declared.limits.Limits.{Limits}
 use Rattle.lst_layout.specs.declared.place.Place.{Place}
-use Rattle.lst_layout.specs.declared.place.Place.TheVariants.{StateWord, HeadWord, CellWord}
+use Rattle.lst_layout.specs.declared.place.Place.TheVariants.{StateWord, HeadWord, TailCounter, CellWord}
 use Rattle.lst_layout.specs.Addresses.{address, IsWithin}
 use Rattle.lst_layout.specs.Words.{shown}
 use Rattle.lst_model.specs.Histories.{Extends}
@@ -37,6 +37,11 @@ LoadsFindChains = (v w : View) (s rec x : ℕ) → hosts v s ≡ true → rec < 
 
 abbrev pub LatchesFindChains : Type 0
 LatchesFindChains = (v w : View) (s rec x y : ℕ) → hosts v s ≡ true → Met v w (Latch s rec) (HeadWord rec) x y → ChainFound w.limits (knows w s) s rec (y / 2)
+
+-- and a load of a tail counter, by a session that has a transaction open and no latch, finds those of all records of the range: no number on them is greater
+abbrev pub RangesAreFound : Type 0
+RangesAreFound = (v w : View) (s range x rec : ℕ) → hosts v s ≡ true → (knows v s).is_open ≡ true → (knows v s).hold.latch ≡ 0 → range < v.limits.ranges → Met v w (Look s (address v.limits (TailCounter range))) (TailCounter range) x x
+    → rec < record_count v.limits → range_of rec ≡ range → (head : ℕ) × (head ≤ x) × ChainFound w.limits (knows w s) s rec head
 
 -- it has a first version exactly where the number isn't 0; the others are then the chain from its back word on
 pub record FromNumber (l : Limits) (facts : List Fact) (rec n : ℕ) (versions : List Version) : Type 0 where
@@ -120,6 +125,9 @@ UnfinishedIsAbout = (v : Known) (rec : ℕ) (c : Version) → v.is_open ≡ true
 
 abbrev pub LooksWatch : Type 0
 LooksWatch = (v w : View) (s x : ℕ) (p : Place) → hosts v s ≡ true → IsWithin v.limits p → IsWatched p → Met v w (Look s (address v.limits p)) p x x → Watched v w s
+
+abbrev pub CountersWatch : Type 0
+CountersWatch = (v w : View) (s range x : ℕ) → hosts v s ≡ true → (knows v s).is_open ≡ true → (knows v s).hold.latch ≡ 0 → range < v.limits.ranges → Met v w (Look s (address v.limits (TailCounter range))) (TailCounter range) x x → Watched v w s
 
 -- a page is taken in hand
 abbrev pub PagesWatch : Type 0

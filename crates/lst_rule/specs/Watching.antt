@@ -7,6 +7,7 @@ use Rattle.lst_layout.specs.declared.place.Place.TheVariants.{ClockWord, StateWo
 use Rattle.lst_layout.specs.Words.{Words, shown}
 use Rattle.lst_model.specs.declared.commits.Commit.{Commit}
 use Rattle.lst_core_state.specs.declared.known.Known.{Known}
+use Rattle.lst_core_state.specs.declared.known.Counter.{Counter}
 use Rattle.lst_core_state.specs.declared.known.Looks.{Looks}
 use Rattle.lst_core_state.specs.declared.known.Stage.{Stage}
 use Rattle.lst_core_state.specs.declared.pages.PageInHand.{PageInHand}
@@ -33,7 +34,7 @@ pub record HasInHand (frames : SessionFrames) (f : ℕ) (words : ℕ → ℕ) : 
   pub in_hand : hand_of frames f ≡ Some page
   pub same : (n : ℕ) → n < FRAME_WORDS → slice_index page.words n ≡ words n
 
--- v is u with more facts, finds and commits seen, other words loaded last, and maybe pages taken in hand. Where u has the turn, the clock may be
+-- v is u with more facts, finds and commits seen, other words loaded last, other loads of tail counters, and maybe pages taken in hand. Where u has the turn, the clock may be
 -- loaded in it. No counter was found full, the pin is the same, and each frame in hand stays in hand, with the same words
 pub record Watches (u v : Known) : Type 0 where
   pub facts : List Fact
@@ -41,8 +42,9 @@ pub record Watches (u v : Known) : Type 0 where
   pub later : List Commit
   pub turn : Stage
   pub looks : Looks
+  pub counters : List Counter
   pub frames : SessionFrames
-  pub is : v ≡ record u { seen = u.seen ++ later; turn = turn; facts = u.facts ++ facts; finds = u.finds ++ finds; looks = looks; pages = record u.pages { session = frames } }
+  pub is : v ≡ record u { seen = u.seen ++ later; turn = turn; counters = counters; facts = u.facts ++ facts; finds = u.finds ++ finds; looks = looks; pages = record u.pages { session = frames } }
   pub stage : (turn ≡ u.turn) ⊎ (turn ≡ refreshed u.turn)
   pub room : All IsNotFull finds
   pub pin : frames.pin ≡ u.pages.session.pin

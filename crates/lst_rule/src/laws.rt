@@ -1,5 +1,5 @@
 //! The laws. Each function is a law: its contract holds at all values, and its body does nothing.
-ghost use Rattle.lst_rule.specs.Laws.{LoadsFindChains, LatchesFindChains, ChainsAreWalked, CopiesStay, SeenIsByName, SightsStay, SightsFit, StatesTell, StatusesTell, StartsAreFound, TailsAreFound, WordsAreFound, StatesAreFound, UnfinishedIsAbout, LooksWatch, PagesWatch, StampsWatch, WatchesJoin, WatchersKeepPins, WatchersKeep, ClosedArePassed, JudgedMayDraw, CommittedWrote, CommittedMayBeStamped};
+ghost use Rattle.lst_rule.specs.Laws.{RangesAreFound, CountersWatch, LoadsFindChains, LatchesFindChains, ChainsAreWalked, CopiesStay, SeenIsByName, SightsStay, SightsFit, StatesTell, StatusesTell, StartsAreFound, TailsAreFound, WordsAreFound, StatesAreFound, UnfinishedIsAbout, LooksWatch, PagesWatch, StampsWatch, WatchesJoin, WatchersKeepPins, WatchersKeep, ClosedArePassed, JudgedMayDraw, CommittedWrote, CommittedMayBeStamped};
 
 /// A load of a record's indirection word, and a latch, leave a copy of the record's whole chain in the facts. What the open
 /// transaction sees of the copy is its sight of the record's key. The copy is walked by numbers: the word loaded names the
@@ -7,6 +7,7 @@ ghost use Rattle.lst_rule.specs.Laws.{LoadsFindChains, LatchesFindChains, Chains
 pub fn chains_are_copied()
     ensures loads { LoadsFindChains }
     ensures latches { LatchesFindChains }
+    ensures ranges { RangesAreFound }
     ensures walked { ChainsAreWalked }
     ensures stay { CopiesStay }
 {}
@@ -43,6 +44,7 @@ pub fn words_are_found()
 /// start words of stored versions may be stamped; each version keeps its transaction.
 pub fn watchers_keep()
     ensures looks { LooksWatch }
+    ensures counters { CountersWatch }
     ensures pages { PagesWatch }
     ensures stamps { StampsWatch }
     ensures joins { WatchesJoin }

@@ -47,6 +47,7 @@ probes_watch v w s a none = let k : Known = knows v s in record {
     later = [];
     turn = k.turn;
     looks = k.looks;
+    counters = k.counters;
     frames = k.pages.session;
     is = a.view.now ∙ (λ i. record k { seen = sym (append-nil k.seen) i; draft = record k.draft { unposted = a.still none i }; facts = k.facts ++ a.facts; finds = k.finds ++ a.finds });
     stage = inl refl;

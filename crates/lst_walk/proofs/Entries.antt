@@ -43,7 +43,7 @@ middle true true z e = e
 apart : {A : Type 0} (x z : Bool) → x ≡ true → z ≡ true → (x && z) ≡ false → A
 apart x z e f none = absurd (true≢false (sym (λ i. e i && f i) ∙ none))
 
-record_says : (tails t e : ℕ) → record_of tails t e ≡ 256 * tail_range tails t + slot_of e
+pub record_says : (tails t e : ℕ) → record_of tails t e ≡ 256 * tail_range tails t + slot_of e
 unfolding record_of
 record_says tails t e = refl
 
@@ -51,11 +51,11 @@ record_says tails t e = refl
 
 module _ (c : Core) (sound : Sound c) (rec : ℕ) (below : rec < record_count c.limits) where
   -- a tail of the chain is one of the range, and has the record's slot
-  inside : (t : ℕ) → Has t (line c.limits c.words rec) → range_of rec * c.limits.tails < t
+  pub inside : (t : ℕ) → Has t (line c.limits c.words rec) → range_of rec * c.limits.tails < t
   inside t i = let L = sound.versions.lines rec below in let k : StoredOf c.limits c.words c.known t = sound.versions.stored t (L.stored t i) in
       subst (λ (r : ℕ). range_of r * c.limits.tails < t) (L.here t i) k.drawn.0
 
-  slot_here : (t : ℕ) → Has t (line c.limits c.words rec) → (tail_in c.limits c.words t).slot ≡ rec % 256
+  pub slot_here : (t : ℕ) → Has t (line c.limits c.words rec) → (tail_in c.limits c.words t).slot ≡ rec % 256
   slot_here t i = let L = sound.versions.lines rec below in
       let is : 256 * tail_range c.limits.tails t + slot_of (c.words.cells t 1) ≡ rec = sym (record_says c.limits.tails t (c.words.cells t 1)) ∙ L.here t i in omega arith
 
@@ -64,7 +64,7 @@ module _ (c : Core) (sound : Sound c) (rec : ℕ) (below : rec < record_count c.
   open_hand t stored hand = let j : ℕ = hand.0 in let at = hand.2 in let some = (sound.versions.hands j hand.1).some hand.3 in
       subst (λ (u : ℕ). state_at c.words u ≡ 0) at (hand_open c.limits c.words c.known sound.sized sound.times sound.each sound.versions j hand.1 some (subst (λ (u : ℕ). 0 < c.words.cells u 0) (sym at) stored))
 
-  placed_on : (m : ℕ) → 0 < m → m ≤ length (settled_tails c.limits c.words (range_of rec)) → (tail_in c.limits c.words (range_of rec * c.limits.tails + m)).slot ≡ rec % 256 → Has (range_of rec * c.limits.tails + m) (line c.limits c.words rec)
+  pub placed_on : (m : ℕ) → 0 < m → m ≤ length (settled_tails c.limits c.words (range_of rec)) → (tail_in c.limits c.words (range_of rec * c.limits.tails + m)).slot ≡ rec % 256 → Has (range_of rec * c.limits.tails + m) (line c.limits c.words rec)
   placed_on m some low same = let l : Limits = c.limits in let w : Words = c.words in let t : ℕ = range_of rec * l.tails + m in let n : AreNumbered l w (range_of rec) = settled_are_numbered l w (range_of rec) in
       let q = settled_says w t (n.each m some low) in let k : StoredOf l w c.known t = sound.versions.stored t q.0 in
       let most = n.few in let range : tail_range l.tails t ≡ range_of rec = tail_range-is l.tails (range_of rec) t (omega arith) (omega arith) in

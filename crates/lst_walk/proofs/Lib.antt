@@ -21,3 +21,12 @@ pub mod Newest
 pub mod Masks
 pub mod Firsts
 pub mod Ahead
+pub mod Chained
+pub mod Sighted
+pub mod Ranged
+pub mod Numbered
+pub mod Arrays
+pub mod Entered
+pub mod Folding
+pub mod Telling
+pub mod Counting

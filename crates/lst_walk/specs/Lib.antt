@@ -11,3 +11,5 @@ pub mod Filling
 pub mod Taken
 pub mod Whole
 pub mod Newest
+pub mod Numbered
+pub mod Folding

@@ -9,6 +9,7 @@
 #![tactic(auto)]
 
 mod columns;
+mod laws;
 mod packed;
 mod pages;
 mod placed;
@@ -19,6 +20,10 @@ mod whole;
 mod words;
 
 pub use columns::{column, column_by_chain, column_from};
+pub use laws::{
+    counters_tell_ranges, folds_are_cells, folds_are_numbers, folds_on_pages, looks_tell_folds,
+    seen_are_known,
+};
 pub use placed::{TailPlaces, tails_of};
 pub use presence::has_row;
 pub use rows::{put_row, row};

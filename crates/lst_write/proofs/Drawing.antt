@@ -1,5 +1,5 @@
 -- The draw of a tail.
-use Rattle.std.proofs.Common.{◌≡◌, ℕ, ◌+◌, ◌-◌, ◌*◌, ◌/◌, ◌%◌, ◌<◌, ◌≤◌, List, [], ◌∷◌, ◌++◌, Bool, true, false, cond, nat_lt, set, slice_index_or, length, replicate, refl, sym, subst, ap, ◌∙◌, arith, inl, inr, ⊎_elim, append_assoc, lt-ltb, get_or-set_same}
+use Rattle.std.proofs.Common.{◌&&◌, ne_eqb, ◌≡◌, ℕ, ◌+◌, ◌-◌, ◌*◌, ◌/◌, ◌%◌, ◌<◌, ◌≤◌, List, [], ◌∷◌, ◌++◌, Bool, true, false, cond, nat_lt, set, slice_index_or, length, replicate, refl, sym, subst, ap, ◌∙◌, arith, inl, inr, ⊎_elim, append_assoc, lt-ltb, get_or-set_same}
 use Rattle.std.proofs.lemmas.Bool.Decides.{Decides-ltb}
 use Rattle.std.proofs.lemmas.List.Elements.{Contains-append_left}
 use Rattle.lst_layout.specs.declared.limits.Limits.{Limits}
@@ -14,7 +14,8 @@ use Rattle.lst_core_state.specs.declared.facts.Find.TheVariants.{CountedTails, F
 use Rattle.lst_core_state.specs.declared.events.Event.TheVariants.{DrawTail}
 use Rattle.lst_core_state.specs.Cells.{range_of}
 use Rattle.lst_core_state.specs.State.{counter_of, no_counter}
-use Rattle.lst_core_state.specs.Step.{Enabled, served, spent, drawn_full, tail_drawn, tails_full}
+use Rattle.lst_core_state.specs.Facts.{range_facts}
+use Rattle.lst_core_state.specs.Step.{Enabled, is_reading, served, spent, drawn_full, tail_drawn, tails_full}
 use Rattle.lst_rule.specs.declared.view.View.{View}
 use Rattle.lst_rule.specs.Rule.{knows, hosts}
 use Rattle.lst_rule.specs.Learned.{Learns, Kept, CanStand, Met}
@@ -59,18 +60,30 @@ module _ (v w : View) (s range x : ℕ) (h : Looked v w s (TailCounter range) x)
   abbrev W : Words
   W = shown v.limits h.met.made.told.words
 
-  learns : (b : Bool) → nat_lt x v.limits.tails ≡ b
-      → Learns v w s (record k { counters = set k.counters range (served v.limits.tails x (counter_of k range)); facts = k.facts ++ TailsAtLeast range x ∷ []; finds = k.finds ++ CountedTails range x ∷ cond b [] (FullTails range ∷ []) })
-  learns b e = subst (λ (u : Known). Learns v w s u)
-      ((λ i. let y = h.met.found i in record k { counters = set k.counters range (served v.limits.tails y (counter_of k range)); facts = k.facts ++ TailsAtLeast range y ∷ []; finds = k.finds ++ CountedTails range y ∷ cond (nat_lt y v.limits.tails) [] (FullTails range ∷ []) })
-      ∙ (λ i. record k { counters = set k.counters range (served v.limits.tails x (counter_of k range)); facts = k.facts ++ TailsAtLeast range x ∷ []; finds = k.finds ++ CountedTails range x ∷ cond (e i) [] (FullTails range ∷ []) }))
+  learns : (b r : Bool) → nat_lt x v.limits.tails ≡ b → is_reading (knows v s) ≡ r
+      → Learns v w s (record k { counters = set k.counters range (served v.limits.tails x (counter_of k range)); facts = k.facts ++ TailsAtLeast range x ∷ cond r (range_facts v.limits W range) []; finds = k.finds ++ CountedTails range x ∷ cond r [] (cond b [] (FullTails range ∷ [])) })
+  learns b r e f = subst (λ (u : Known). Learns v w s u)
+      ((λ i. let y = h.met.found i in record k { counters = set k.counters range (served v.limits.tails y (counter_of k range)); facts = k.facts ++ TailsAtLeast range y ∷ cond (is_reading k) (range_facts v.limits W range) []; finds = k.finds ++ CountedTails range y ∷ cond (is_reading k) [] (cond (nat_lt y v.limits.tails) [] (FullTails range ∷ [])) })
+      ∙ (λ i. record k { counters = set k.counters range (served v.limits.tails x (counter_of k range)); facts = k.facts ++ TailsAtLeast range x ∷ cond (f i) (range_facts v.limits W range) []; finds = k.finds ++ CountedTails range x ∷ cond (f i) [] (cond (e i) [] (FullTails range ∷ [])) }))
       h.view
 
-  pub counter_left : x < v.limits.tails → Counts v w s range x []
-  counter_left low = record { counters = set k.counters range (served v.limits.tails x (counter_of k range)); facts = TailsAtLeast range x ∷ []; view = learns true (lt-ltb x v.limits.tails low) }
+  left : (r : Bool) → is_reading (knows v s) ≡ r → x < v.limits.tails → Counts v w s range x []
+  left true f low = record { counters = set k.counters range (served v.limits.tails x (counter_of k range)); facts = TailsAtLeast range x ∷ range_facts v.limits W range; view = learns true true (lt-ltb x v.limits.tails low) f }
+  left false f low = record { counters = set k.counters range (served v.limits.tails x (counter_of k range)); facts = TailsAtLeast range x ∷ []; view = learns true false (lt-ltb x v.limits.tails low) f }
 
-  pub counter_full : v.limits.tails ≤ x → FindsFull v w s range
-  counter_full high = record { count = x; counts = record { counters = set k.counters range (served v.limits.tails x (counter_of k range)); facts = TailsAtLeast range x ∷ []; view = learns false (not_below x v.limits.tails high) }; kept = h.kept }
+  pub counter_left : x < v.limits.tails → Counts v w s range x []
+  counter_left low = left (is_reading k) refl low
+
+  -- a session with a latch doesn't read
+  latched_not : 0 < (knows v s).hold.latch → is_reading (knows v s) ≡ false
+  latched_not held = ap (λ (b : Bool). k.is_open && b) (ne_eqb k.hold.latch 0 (λ e. omega arith)) ∙ none k.is_open
+    where
+      none : (b : Bool) → (b && false) ≡ false
+      none true = refl
+      none false = refl
+
+  pub counter_full : 0 < (knows v s).hold.latch → v.limits.tails ≤ x → FindsFull v w s range
+  counter_full held high = record { count = x; counts = record { counters = set k.counters range (served v.limits.tails x (counter_of k range)); facts = TailsAtLeast range x ∷ []; view = learns false false (not_below x v.limits.tails high) (latched_not held) }; kept = h.kept }
 
   -- to a view that knows each word
   pub counter_below : x < v.limits.tails → v.whole ≡ true → (known_words v).counts range < v.limits.tails
@@ -80,7 +93,7 @@ module _ (v w : View) (s range x : ℕ) (h : Looked v w s (TailCounter range) x)
   pub counter_serves : hosts v s ≡ true → s < v.limits.sessions → range < v.limits.ranges → x < v.limits.tails → (counter_of (knows w s) range).is_serving ≡ true
   counter_serves hosted own low below = let t = h.met.made.told in let a = t.allowed in
       let same : length k.counters ≡ v.limits.ranges = ap (λ (u : Known). length u.counters) (knows_own v t.words t.known t.merger a s hosted (λ e. omega arith)) ∙ a.sound.counters s own in
-      ap (λ (u : Known). (counter_of u range).is_serving) (learns true (lt-ltb x v.limits.tails below)).now
+      ap (λ (u : Known). (counter_of u range).is_serving) (learns true (is_reading k) (lt-ltb x v.limits.tails below) refl).now
       ∙ (ap (λ (c : Counter). c.is_serving) (get_or-set_same k.counters range (served v.limits.tails x (counter_of k range)) no_counter (omega arith))
       ∙ or_right (counter_of k range).is_serving (nat_lt x v.limits.tails) (lt-ltb x v.limits.tails below))
 

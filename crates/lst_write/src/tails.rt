@@ -31,6 +31,7 @@ fn look_at_counter(store: &Store, seat: &mut Seat, s: u32, range: u32) -> Result
     requires host { hosts seat.old.view s ≡ true }
     requires own { s < seat.old.view.limits.sessions }
     requires range { range < seat.old.view.limits.ranges }
+    requires latch { 0 < (knows seat.old.view s).hold.latch }
     ensures seat { IsSeatOf store.now seat.new }
     ensures ok { OnOk result ((count : ℕ) × Counts seat.old.view seat.new.view s range count []) }
     ensures serves { OnOk result ((counter_of (knows seat.new.view s) range).is_serving ≡ true) }

@@ -1,4 +1,4 @@
-use Rattle.lst_rule.proofs.Watching.{looks_watch, pages_watch, stamps_watch, watches_join, watchers_keep_pins, watchers_keep}
+use Rattle.lst_rule.proofs.Watching.{counters_watch, looks_watch, pages_watch, stamps_watch, watches_join, watchers_keep_pins, watchers_keep}
 use Rattle.lst_rule.proofs.laws.watchers_keep.Goals as goal
 
 pub returns-clause-looks : goal.returns-clause-looks
@@ -18,3 +18,6 @@ returns-clause-pins c = watchers_keep_pins
 
 pub returns-clause-keep : goal.returns-clause-keep
 returns-clause-keep c = watchers_keep
+
+pub returns-clause-counters : goal.returns-clause-counters
+returns-clause-counters c = counters_watch

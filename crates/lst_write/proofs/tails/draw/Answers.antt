@@ -1,12 +1,16 @@
 use Rattle.std.proofs.Common.{ap, arith}
 use Rattle.lst_layout.specs.declared.layout.Layout.{Layout}
 use Rattle.lst_layout.specs.declared.limits.Limits.{Limits}
+use Rattle.lst_core_state.specs.declared.known.Hold.{Hold}
 use Rattle.lst_rule.specs.Rule.{knows}
 use Rattle.lst_write.proofs.Drawing.{range_low, draw_enabled, draw_stands, draw_won, draw_full}
 use Rattle.lst_write.proofs.tails.draw.Goals as goal
 
 pub look_at_counter-requires-clause-range : goal.look_at_counter-requires-clause-range
 look_at_counter-requires-clause-range c = range_low c.args.seat.now.view.limits (knows c.args.seat.now.view c.args.s) c.args.s c.args.rec.number c.args.head c.requires.judged
+
+pub look_at_counter-requires-clause-latch : goal.look_at_counter-requires-clause-latch
+look_at_counter-requires-clause-latch c = let e = ap (λ (h : Hold). h.latch) c.requires.latch in omega arith
 
 pub step_draw_tail-found-requires-clause-enabled : goal.step_draw_tail-found-requires-clause-enabled
 step_draw_tail-found-requires-clause-enabled c = let counts = c.in_ok-look_at_counter.ensures.ok in draw_enabled _ _ _ _ _ counts.0 c.requires.latch counts.1 c.in_ok-look_at_counter.ensures.serves

@@ -6,7 +6,7 @@ use Rattle.lst_write.proofs.tails.look_at_counter.Goals as goal
 
 pub returns-then-load_tail_counter-layout-clause-err : goal.returns-then-load_tail_counter-layout-clause-err
 returns-then-load_tail_counter-layout-clause-err c = let same = ap (λ (l : Layout). l.limits.tails) c.layout.ensures in let e = ap (λ (l : Limits). l.tails) c.requires.seat.limits in
-    counter_full _ _ _ _ _ c.load_tail_counter.ensures.looked (let h = c.if-load_tail_counter-layout.true in omega arith)
+    counter_full _ _ _ _ _ c.load_tail_counter.ensures.looked c.requires.latch (let h = c.if-load_tail_counter-layout.true in omega arith)
 
 pub returns-clause-ok : goal.returns-clause-ok
 returns-clause-ok c = let same = ap (λ (l : Layout). l.limits.tails) c.layout.ensures in let e = ap (λ (l : Limits). l.tails) c.requires.seat.limits in

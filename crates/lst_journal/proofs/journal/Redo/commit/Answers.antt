@@ -20,6 +20,7 @@ use Rattle.lst_journal.specs.Owns.{commit_of}
 use Rattle.lst_journal.specs.Answers.{commits_after, IsWritten}
 use Rattle.lst_journal.proofs.Answering.{own_put, size_stays, commits_writes}
 use Rattle.lst_journal.proofs.Committing.{may, commit_is, append_leaves, line_has_room, committed, with_log}
+use Rattle.lst_journal.proofs.Crewing.{crew_for, journal_of}
 use Rattle.lst_journal.proofs.journal.Redo.commit.Goals as goal
 
 pub returns-in-Ok-Committed-clause-journal : goal.returns-in-Ok-Committed-clause-journal
@@ -28,8 +29,8 @@ returns-in-Ok-Committed-clause-journal g c = λ commits journal sound.
     let images = g.D.Disk.images in
     let before = c.args.self.now in
     let s : ℕ = c.args.session in
-    let same = commit_is content images before c.consider.ensures s c.requires.session c.requires.is_open c.requires.writes commits journal c.number.result c.begin.result c.take.result c.number.ensures.is c.begin.ensures c.take.ensures.taken in
-    let follows = subst (MayFollow commits) (sym same) (may content images before c.consider.ensures s c.requires.session c.requires.is_open c.requires.writes commits journal c.same_writes_may_be_followed.ensures) in
+    let same = commit_is before c.consider.ensures s c.requires.session c.requires.is_open c.requires.writes commits (crew_for content images before commits journal) c.number.result c.begin.result c.take.result c.number.ensures.is c.begin.ensures c.take.ensures.taken in
+    let follows = subst (MayFollow commits) (sym same) (may before c.consider.ensures s c.requires.session c.requires.is_open c.requires.writes commits (crew_for content images before commits journal) c.same_writes_may_be_followed.ensures) in
     let v = view_of before in
     let w = c.commit.new.self.seat.view in
     let keeps = subst (λ (d : Commit). Keeps content images (commits ++ d ∷ []) c.append-appended.new.self) same (c.in-Ok.ensures.kept commits journal.keeps follows) in
@@ -38,8 +39,9 @@ returns-in-Ok-Committed-clause-journal g c = λ commits journal sound.
     let own_is = own_put before.own c.take.new.self c.put.new.self s c.take.result c.take.ensures.left c.take.ensures.taken c.put.ensures in
     let commits_so = c.commit.ensures.committed c.in-Ok-Committed.time (c.in-Ok-Committed.is ∙ ap Ok c.in-Ok-Committed.field-0-is) in
     subst (λ (l : Line). IsJournalOf content images (commits_after v commits l (Replied (Committed c.in-Ok-Committed.time))) (record before { log = c.append-appended.new.self; crew = c.commit.new.self; own = c.put.new.self })) (sym c.requires.line)
-    (committed content images before c.consider.ensures s c.requires.session c.requires.is_open c.requires.writes commits journal c.append-appended.new.self c.commit.new.self c.put.new.self c.append-appended.ensures.columns
-    c.in-Ok-Committed.time keeps c.commit.ensures.crew told.0 answers commits_so own_is)
+    (journal_of content images (record before { log = c.append-appended.new.self; crew = c.commit.new.self; own = c.put.new.self }) (commits ++ commit_of v s ∷ []) keeps
+    (committed before c.consider.ensures s c.requires.session c.requires.is_open c.requires.writes commits (crew_for content images before commits journal) c.append-appended.new.self c.commit.new.self c.put.new.self c.append-appended.ensures.columns
+    c.in-Ok-Committed.time c.commit.ensures.crew told.0 answers commits_so own_is))
 
 pub returns-in-Ok-Committed-clause-size : goal.returns-in-Ok-Committed-clause-size
 returns-in-Ok-Committed-clause-size g c = λ sound.
@@ -71,43 +73,43 @@ returns-in-OutOfMemory-clause-memory_journal g c = λ commits journal.
 
 pub returns-in-Ok-Committed-clause-any_moment : goal.returns-in-Ok-Committed-clause-any_moment
 returns-in-Ok-Committed-clause-any_moment g c = λ commits journal.
-    append_leaves g.D.Disk.content g.D.Disk.images c.args.self.now c.consider.ensures c.args.session c.requires.session c.requires.is_open c.requires.writes commits journal c.same_writes_may_be_followed.ensures
+    append_leaves c.args.self.now c.consider.ensures c.args.session c.requires.session c.requires.is_open c.requires.writes commits (crew_for g.D.Disk.content g.D.Disk.images c.args.self.now commits journal) c.same_writes_may_be_followed.ensures
     c.args.line.now c.requires.line c.number.result c.begin.result c.take.result c.number.ensures.is c.begin.ensures c.take.ensures.taken g.D.Disk.clock g.D.Disk.images_since c.args.self.now.log.disk c.append-appended.new.self.disk
     (c.append-appended.ensures.any_moment commits journal.keeps)
 
 pub returns-in-Ok-Committed-clause-room : goal.returns-in-Ok-Committed-clause-room
 returns-in-Ok-Committed-clause-room g c = λ commits journal commits_writes.
-    line_has_room g.D.Disk.content g.D.Disk.images c.args.self.now c.consider.ensures c.args.session c.requires.session c.requires.is_open c.requires.writes commits journal c.args.line.now c.requires.line
+    line_has_room c.args.self.now c.consider.ensures c.args.session c.requires.session c.requires.is_open c.requires.writes commits (crew_for g.D.Disk.content g.D.Disk.images c.args.self.now commits journal) c.args.line.now c.requires.line
 
 pub returns-in-JournalFull-clause-any_moment : goal.returns-in-JournalFull-clause-any_moment
 returns-in-JournalFull-clause-any_moment g c = λ commits journal.
-    append_leaves g.D.Disk.content g.D.Disk.images c.args.self.now c.consider.ensures c.args.session c.requires.session c.requires.is_open c.requires.writes commits journal c.same_writes_may_be_followed.ensures
+    append_leaves c.args.self.now c.consider.ensures c.args.session c.requires.session c.requires.is_open c.requires.writes commits (crew_for g.D.Disk.content g.D.Disk.images c.args.self.now commits journal) c.same_writes_may_be_followed.ensures
     c.args.line.now c.requires.line c.number.result c.begin.result c.take.result c.number.ensures.is c.begin.ensures c.take.ensures.taken g.D.Disk.clock g.D.Disk.images_since c.args.self.now.log.disk c.append-appended.new.self.disk
     (c.append-appended.ensures.any_moment commits journal.keeps)
 
 pub returns-in-JournalFull-clause-room : goal.returns-in-JournalFull-clause-room
 returns-in-JournalFull-clause-room g c = λ commits journal commits_writes.
-    line_has_room g.D.Disk.content g.D.Disk.images c.args.self.now c.consider.ensures c.args.session c.requires.session c.requires.is_open c.requires.writes commits journal c.args.line.now c.requires.line
+    line_has_room c.args.self.now c.consider.ensures c.args.session c.requires.session c.requires.is_open c.requires.writes commits (crew_for g.D.Disk.content g.D.Disk.images c.args.self.now commits journal) c.args.line.now c.requires.line
 
 pub returns-in-Disk-clause-any_moment : goal.returns-in-Disk-clause-any_moment
 returns-in-Disk-clause-any_moment g c = λ commits journal.
-    append_leaves g.D.Disk.content g.D.Disk.images c.args.self.now c.consider.ensures c.args.session c.requires.session c.requires.is_open c.requires.writes commits journal c.same_writes_may_be_followed.ensures
+    append_leaves c.args.self.now c.consider.ensures c.args.session c.requires.session c.requires.is_open c.requires.writes commits (crew_for g.D.Disk.content g.D.Disk.images c.args.self.now commits journal) c.same_writes_may_be_followed.ensures
     c.args.line.now c.requires.line c.number.result c.begin.result c.take.result c.number.ensures.is c.begin.ensures c.take.ensures.taken g.D.Disk.clock g.D.Disk.images_since c.args.self.now.log.disk c.append-appended.new.self.disk
     (c.append-appended.ensures.any_moment commits journal.keeps)
 
 pub returns-in-Disk-clause-room : goal.returns-in-Disk-clause-room
 returns-in-Disk-clause-room g c = λ commits journal commits_writes.
-    line_has_room g.D.Disk.content g.D.Disk.images c.args.self.now c.consider.ensures c.args.session c.requires.session c.requires.is_open c.requires.writes commits journal c.args.line.now c.requires.line
+    line_has_room c.args.self.now c.consider.ensures c.args.session c.requires.session c.requires.is_open c.requires.writes commits (crew_for g.D.Disk.content g.D.Disk.images c.args.self.now commits journal) c.args.line.now c.requires.line
 
 pub returns-in-OutOfMemory-clause-any_moment : goal.returns-in-OutOfMemory-clause-any_moment
 returns-in-OutOfMemory-clause-any_moment g c = λ commits journal.
-    append_leaves g.D.Disk.content g.D.Disk.images c.args.self.now c.consider.ensures c.args.session c.requires.session c.requires.is_open c.requires.writes commits journal c.same_writes_may_be_followed.ensures
+    append_leaves c.args.self.now c.consider.ensures c.args.session c.requires.session c.requires.is_open c.requires.writes commits (crew_for g.D.Disk.content g.D.Disk.images c.args.self.now commits journal) c.same_writes_may_be_followed.ensures
     c.args.line.now c.requires.line c.number.result c.begin.result c.take.result c.number.ensures.is c.begin.ensures c.take.ensures.taken g.D.Disk.clock g.D.Disk.images_since c.args.self.now.log.disk c.append-appended.new.self.disk
     (c.append-appended.ensures.any_moment commits journal.keeps)
 
 pub returns-in-OutOfMemory-clause-room : goal.returns-in-OutOfMemory-clause-room
 returns-in-OutOfMemory-clause-room g c = λ commits journal commits_writes.
-    line_has_room g.D.Disk.content g.D.Disk.images c.args.self.now c.consider.ensures c.args.session c.requires.session c.requires.is_open c.requires.writes commits journal c.args.line.now c.requires.line
+    line_has_room c.args.self.now c.consider.ensures c.args.session c.requires.session c.requires.is_open c.requires.writes commits (crew_for g.D.Disk.content g.D.Disk.images c.args.self.now commits journal) c.args.line.now c.requires.line
 
 pub returns-in-Ok-Committed-clause-written : goal.returns-in-Ok-Committed-clause-written
 returns-in-Ok-Committed-clause-written g c =
@@ -115,7 +117,7 @@ returns-in-Ok-Committed-clause-written g c =
     let images = g.D.Disk.images in
     let before = c.args.self.now in
     let s : ℕ = c.args.session in
-    let same = commit_is content images before c.consider.ensures s c.requires.session c.requires.is_open c.requires.writes c.requires.journal.0 c.requires.journal.1 c.number.result c.begin.result c.take.result c.number.ensures.is c.begin.ensures c.take.ensures.taken in
+    let same = commit_is before c.consider.ensures s c.requires.session c.requires.is_open c.requires.writes c.requires.journal.0 (crew_for content images before c.requires.journal.0 c.requires.journal.1) c.number.result c.begin.result c.take.result c.number.ensures.is c.begin.ensures c.take.ensures.taken in
     subst (λ (l : Line). IsWritten (view_of before) l before.log.columns before.log.end (content before.log.disk) (content c.append-appended.new.self.disk) (Replied (Committed c.in-Ok-Committed.time))) (sym c.requires.line)
     (c.in-Ok.ensures.written ∙ ap (λ (d : Commit). opened (content before.log.disk) before.log.end (body before.log.columns d ++ 0 ∷ [])) same)
 

@@ -1,4 +1,5 @@
 use Rattle.lst_journal.proofs.ByCrew.{rests, answered, stands, stands_still, never_faults, full_is, failed_is, counts_none, unspent, faults_stay, size_stays, written}
+use Rattle.lst_journal.proofs.Crewing.{has_crew}
 use Rattle.lst_journal.proofs.journal.Redo.line.Goals as goal
 
 pub returns-in-None : goal.returns-in-None
@@ -31,3 +32,9 @@ returns-in-None g c =
       store = x.store;
       crew = x.crew_of;
     }
+
+pub commits_writes-requires-clause-crew : goal.commits_writes-requires-clause-crew
+commits_writes-requires-clause-crew g c = has_crew g.D.Disk.content g.D.Disk.images c.args.self.now c.requires.journal
+
+pub by_crew-requires-clause-crew : goal.by_crew-requires-clause-crew
+by_crew-requires-clause-crew g c = has_crew g.D.Disk.content g.D.Disk.images c.args.self.now c.requires.journal

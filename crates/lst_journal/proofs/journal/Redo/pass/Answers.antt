@@ -3,11 +3,9 @@ use Rattle.lst_journal.proofs.journal.Redo.pass.Goals as goal
 
 pub returns : goal.returns
 returns g c =
-    let content = g.D.Disk.content in
-    let images = g.D.Disk.images in
     let before = c.args.self.now in
     let crew = c.crew_line.new.crew in
     let line = c.args.line.now in
     let r = c.in_ok-reply.reply in
-    crew_answers content images before crew line c.crew_line.ensures.crew c.requires.journal r c.follow.new.own c.requires.fits c.requires.none c.in_ok-reply.ensures.machine c.in_ok-reply.ensures.session
-    (passes content images before crew line c.crew_line.ensures.crew c.requires.journal r c.follow.new.own c.requires.fits c.requires.makes c.in_ok-reply.ensures.session c.follow.ensures)
+    crew_answers before crew line c.crew_line.ensures.crew c.requires.crew r c.follow.new.own c.requires.fits c.requires.none c.in_ok-reply.ensures.machine c.in_ok-reply.ensures.session
+    (passes before crew line c.crew_line.ensures.crew c.requires.crew r c.follow.new.own c.requires.fits c.requires.makes c.in_ok-reply.ensures.session c.follow.ensures)
