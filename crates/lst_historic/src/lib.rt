@@ -9,8 +9,6 @@ mod changing;
 mod checking;
 mod decoding;
 mod digits;
-#[cfg(test)]
-mod digits_tests;
 mod gathering;
 mod historic;
 mod laws;
@@ -24,9 +22,11 @@ mod tables;
 mod writing;
 
 pub use building::build;
+pub use digits::by_digits;
 pub use historic::{Historic, Late, TableRefused};
 pub use laws::{
     block_has_one_meaning, history_has_its_block, number_has_one_spelling,
     table_is_that_of_versions, worked_blocks_are_read_aloud,
 };
 pub use opening::{BlockFault, open_block};
+pub use steps::Step;

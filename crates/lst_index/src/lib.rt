@@ -7,10 +7,10 @@
 mod finding;
 mod placing;
 mod positions;
-#[cfg(test)]
-mod tests;
 mod visits;
 
 pub use finding::find;
 pub use lst_rule::RecordId;
-pub use placing::{TableFull, place};
+pub use placing::{TableFull, draw, look_at_counter, place, settle, take_record, visit};
+pub use positions::position;
+pub use visits::look;

@@ -30,7 +30,7 @@ struct Lost {
 }
 
 /// Looks whether a record is left to be drawn.
-pub(crate) fn look_at_counter(store: &Store, seat: &mut Seat, s: u32) -> Result<(), TableFull>
+pub fn look_at_counter(store: &Store, seat: &mut Seat, s: u32) -> Result<(), TableFull>
     requires seat { IsSeatOf store.now seat.old }
     requires host { hosts seat.old.view s ≡ true }
     ensures seat { IsSeatOf store.now seat.new }
@@ -49,7 +49,7 @@ pub(crate) fn look_at_counter(store: &Store, seat: &mut Seat, s: u32) -> Result<
 }
 
 /// Draws a record, and stores its key.
-pub(crate) fn draw(store: &Store, seat: &mut Seat, s: u32, key: Key) -> Result<(), TableFull>
+pub fn draw(store: &Store, seat: &mut Seat, s: u32, key: Key) -> Result<(), TableFull>
     requires seat { IsSeatOf store.now seat.old }
     requires host { hosts seat.old.view s ≡ true }
     requires own { s < seat.old.view.limits.sessions }
@@ -72,7 +72,7 @@ pub(crate) fn draw(store: &Store, seat: &mut Seat, s: u32, key: Key) -> Result<(
 }
 
 /// Has a record in hand for the key, which it draws if there is none.
-pub(crate) fn take_record(store: &Store, seat: &mut Seat, s: u32, key: Key) -> Result<(), TableFull>
+pub fn take_record(store: &Store, seat: &mut Seat, s: u32, key: Key) -> Result<(), TableFull>
     requires seat { IsSeatOf store.now seat.old }
     requires host { hosts seat.old.view s ≡ true }
     requires own { s < seat.old.view.limits.sessions }
@@ -130,7 +130,7 @@ fn claim(
 
 /// Brings the record in hand to the position, or finds that another session's record stands there: then it is the key's, and the one
 /// in hand is given up, or it has another key.
-pub(crate) fn settle(
+pub fn settle(
     store: &Store,
     seat: &mut Seat,
     s: u32,
@@ -161,7 +161,7 @@ pub(crate) fn settle(
 }
 
 /// Looks at one position for the key, and claims it if it is free.
-pub(crate) fn visit(
+pub fn visit(
     store: &Store,
     seat: &mut Seat,
     s: u32,

@@ -7,7 +7,7 @@ use lst_layout::Layout;
 use lst_probe::start;
 
 /// A position of a key's run, from 0.
-pub(crate) fn position(layout: &Layout, key: u64, offset: u32) -> u32
+pub fn position(layout: &Layout, key: u64, offset: u32) -> u32
     requires { offset < size layout.now.limits }
     ensures position { result ≡ position_of layout.now.limits key offset }
     ensures below { result < size layout.now.limits }

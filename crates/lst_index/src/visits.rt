@@ -16,7 +16,7 @@ use lst_model::Key;
 use lst_rule::{RecordId, Seat, Store, load_index, load_key};
 
 /// The record at a position of the index, if there is one.
-pub(crate) fn look(store: &Store, seat: &mut Seat, s: u32, position: u32) -> Option<u32>
+pub fn look(store: &Store, seat: &mut Seat, s: u32, position: u32) -> Option<u32>
     requires seat { IsSeatOf store.now seat.old }
     requires host { hosts seat.old.view s ≡ true }
     requires position { position < size store.now.layout.limits }

@@ -43,8 +43,8 @@ pub fn count_where(times: &[u64; 256], begin: u64) -> u32
     count_seen(times, begin)
 }
 
-/// The sum for any number of entries up to a page's.
-fn sum_seen(values: &[u64], times: &[u64], begin: u64) -> u128
+/// The sum as `sum_where` answers it, for any number of entries up to a page's 256.
+pub fn sum_seen(values: &[u64], times: &[u64], begin: u64) -> u128
     requires long { length values.now ≡ length times.now }
     requires few { length values.now ≤ 256 }
     ensures { result ≡ sum (seen_values begin values.now times.now) }
@@ -54,8 +54,8 @@ fn sum_seen(values: &[u64], times: &[u64], begin: u64) -> u128
         + sum_one_by_one(&values[whole..], &times[whole..], begin)
 }
 
-/// The count for any number of entries up to a page's.
-fn count_seen(times: &[u64], begin: u64) -> u32
+/// The count as `count_where` answers it, for any number of entries up to a page's 256.
+pub fn count_seen(times: &[u64], begin: u64) -> u32
     requires { length times.now ≤ 256 }
     ensures { result ≡ count_by (is_seen begin) times.now }
 {
@@ -196,6 +196,3 @@ fn is_word_seen(word: u64, begin: u64) -> bool
 {
     word % 2 == 1 && word / 2 <= begin
 }
-
-#[cfg(test)]
-mod tests;

@@ -20,7 +20,7 @@ const TIMES: usize = FRAME_TIMES as usize;
 const NULLS: usize = FRAME_NULLS as usize;
 
 /// Writes the values of a page that stands in the words of a frame. That of an absent entry is 0, whatever the words say.
-pub(crate) fn read_values(words: &[u64; WORDS], values: &mut [u64; 256])
+pub fn read_values(words: &[u64; WORDS], values: &mut [u64; 256])
     requires { IsPacked (packed_in (slice_index words.now)) }
     ensures { AreValuesIn (slice_index words.now) values.new }
 {
@@ -47,12 +47,7 @@ fn present_value(stamp: u64, value: u64) -> u64
 
 /// Writes an entry into a page in hand. The value of one that is absent or null is 0.
 #[inline(always)]
-pub(crate) fn put_entry(
-    words: &mut [u64; WORDS],
-    values: &mut [u64; 256],
-    slot: usize,
-    entry: Entry,
-)
+pub fn put_entry(words: &mut [u64; WORDS], values: &mut [u64; 256], slot: usize, entry: Entry)
     requires slot { slot < 256 }
     requires time { entry.time < 2 ^ 63 }
     requires numbers { AreNumbers (slice_index words.old) values.old }

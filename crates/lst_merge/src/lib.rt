@@ -18,8 +18,7 @@ mod tails;
 mod words;
 
 pub use builds::build;
+pub use entries::{put_entry, read_values};
 pub use runs::{Run, run_end};
 pub use swaps::swap;
-
-#[cfg(test)]
-mod tests;
+pub use words::write_page;

@@ -14,7 +14,7 @@ const VALUES: usize = FRAME_VALUES as usize;
 const TIMES: usize = FRAME_TIMES as usize;
 
 /// Makes a page in hand the words of a page with this TPS.
-pub(crate) fn write_page(tps: u32, values: &[u64; 256], words: &mut [u64; WORDS])
+pub fn write_page(tps: u32, values: &[u64; 256], words: &mut [u64; WORDS])
     requires { AreNumbers (slice_index words.old) values.now }
     ensures tps { tps_in (slice_index words.new) ≡ tps }
     ensures entries { HasEntries (slice_index words.new) (entry_of (slice_index words.old) values.now) }

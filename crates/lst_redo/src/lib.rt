@@ -5,8 +5,6 @@
 //! `log.rt` and `open` in `opening.rt`.
 #![tactic(auto)]
 
-#[cfg(test)]
-mod field_tests;
 mod laws;
 mod log;
 mod opening;
@@ -17,4 +15,4 @@ mod write;
 pub use laws::image_has_one_history;
 pub use log::{AppendFault, Log, StageFault};
 pub use opening::{OpenCause, OpenRefusal, open};
-pub use read::{has_place, is_record};
+pub use read::{has_place, is_record, read_record};

@@ -16,7 +16,7 @@ pub struct Held {
 }
 
 /// Looks at the pins of all sessions in order, up to the first that holds a frame that was retired at this epoch, and answers its session.
-pub(crate) fn first_holder(store: &Store, seat: &mut Seat, epoch: u64) -> Option<u32>
+pub fn first_holder(store: &Store, seat: &mut Seat, epoch: u64) -> Option<u32>
     requires seat { IsSeatOf store.now seat.old }
     requires host { hosts seat.old.view seat.old.view.limits.sessions ≡ true }
     requires idle { (stock_of seat.old.view).waiting ≡ None }

@@ -10,9 +10,6 @@ mod frees;
 mod pins;
 mod spares;
 
-pub use frees::{Held, free_frame};
+pub use frees::{Held, first_holder, free_frame};
 pub use pins::{pin, unpin};
 pub use spares::opening_spares;
-
-#[cfg(test)]
-mod tests;

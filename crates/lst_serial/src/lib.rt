@@ -5,19 +5,11 @@
 #![tactic(auto)]
 
 mod checks;
-#[cfg(test)]
-mod drawn_tests;
 mod keys;
 mod kinds;
 mod locks;
-#[cfg(test)]
-mod opened;
 mod reads;
-#[cfg(test)]
-mod refusal_tests;
 mod serial;
-#[cfg(test)]
-mod skew_tests;
 
 pub use keys::KeySet;
 pub use kinds::{SerialCommit, SerialEnd, SerialRead, SerialWrite};

@@ -213,6 +213,28 @@ impl Serial {
         self.session.abort(store)
     }
 
+    /// Whether the read set names this key. It doesn't name the keys that were read with all others.
+    pub fn has_read(&self, key: Key) -> bool
+        ensures { result ≡ has self.now.keys key }
+    {
+        self.keys.contains(key)
+    }
+
+    /// Whether the open transaction has read all keys at once.
+    pub fn has_read_all(&self) -> bool
+        ensures { result ≡ self.now.all }
+    {
+        self.all
+    }
+
+    /// How many commits the session has seen, which is also the time of the last one.
+    pub fn seen(&self) -> Time
+        requires { hosts self.now.session.seat.view self.now.session.number ≡ true }
+        ensures { result ≡ length (knows self.now.session.seat.view self.now.session.number).seen }
+    {
+        self.session.seen()
+    }
+
     /// Empties the read set.
     fn forget(&mut self)
         ensures session { self.new.session ≡ self.old.session }

@@ -1,5 +1,0 @@
-use Rattle.lst_index.specs.Pairs.{IsPair, IsIdle}
-use Rattle.lst_index.proofs.tests.play.Given as goal
-
-abbrev pub invariant-loop-at : goal.invariant-loop-at
-invariant-loop-at g l = IsPair l.store l.seat × IsIdle l.seat 0
