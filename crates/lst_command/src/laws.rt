@@ -19,8 +19,8 @@ pub fn input_is_one_script()
     ensures { (limits : Limits) (input : List ℕ) (script other : List Line) → IsScript limits input script → IsScript limits input other → script ≡ other }
 {}
 
-/// What a migration writes is the same script as its input, so a run of it has the same output. The contract is a law; the body does
-/// nothing.
+/// What a migration writes is the same script as its input, so a run of it has the same output, where it has no more bytes than an input may have. The
+/// contract is a law; the body does nothing.
 pub fn a_migration_changes_no_reply()
     ensures { (limits : Limits) (input text : List ℕ) → MigrationIsTheSame limits input text }
 {}
@@ -43,8 +43,9 @@ pub fn histories_of_runs_are_sound()
     ensures { RunsAreSound }
 {}
 
-/// What `work` writes, behind its script and the line `report`, is judged legal by `check`, under the same limits: the report is read as the one
-/// that the sessions gave, and no other verdict is owed. The contract is a law; the body does nothing.
+/// What `work` writes under snapshot isolation, behind its script and the line `report`, is judged legal by `check`, under the same limits: the report is read
+/// as the one that the sessions gave, and no other verdict is owed. Where the whole has more bytes than an input may have, `check` says that first. The contract is a
+/// law; the body does nothing.
 pub fn work_is_judged_legal()
     ensures { WorkIsJudgedLegal }
 {}

@@ -15,13 +15,14 @@ accounts = 8
 abbrev pub transfers : ℕ
 transfers = 2 * 25
 
--- the sum is what was paid in at the begin of the transactions that read it
+-- the sum is what was paid in at the audit's time, which is one of the history, whichever it is
 pub record IsPaidInThen (history : List Commit) (audit : Audit) : Type 0 where
   pub early : audit.time ≤ length history
   pub is : audit.total ≡ paid_in (take audit.time history)
 
--- The history is sound, and each of its commits opens an account or makes a transfer: the openings paid in all that there is, and each transfer that was to be made was
--- made once. Each sum that was read while the tellers worked is what was paid in at its begin, and the sum at the end is that of the final table, and all of it
+-- The history is sound, and each of its commits opens an account or makes a transfer, of whatever amount between whichever accounts: the openings paid in all that
+-- there is, and there are as many commits as openings and transfers. Each sum of an audit is what was paid in at its time, and the sum at the end is that of the
+-- final table, and all of it
 pub record IsKept (books : Books) : Type 0 where
   pub sound : IsSound books.history
   pub entries : AreEntries books.history books.history

@@ -135,8 +135,8 @@ fn close(alloc: Global, store: &Store, staff: Staff, audits: Vec<Audit>) -> Resu
 }
 
 /// Opens a bank of eight accounts with 1,000 each. Two tellers make 25 transfers each, side by side, and two auditors meanwhile add up all balances, ten times; then the
-/// bank is closed, and hands back its books. Whatever the schedule: all balances together are what was paid in, at the end and at each audit; no transfer is
-/// lost, and none made twice.
+/// bank is closed, and hands back its books. Whatever the schedule, where it doesn't close early: all balances together are what was paid in, at the end, and
+/// at each audit by its time; there are as many commits as openings and transfers. Which transfers were made isn't said.
 pub(crate) fn run<R: Threads + Sync>(rt: &R, alloc: Global) -> Result<Books, Stop>
     ensures { IfOk result IsKept }
 {

@@ -25,7 +25,8 @@ pub record Drew (before now : Placing) (m : ℕ) : Type 0 where
 abbrev pub IsFull : View → ℕ → Type 0
 IsFull v s = (n : ℕ) × (record_count v.limits ≤ n) × Contains (knows v s).facts (RecordsAtLeast n)
 
--- the key was found without a record, and then the record counter at its limit or above: that is the one find
+-- looks at the index lead from v to a view in which the key's run ends without it (`EndedSince`), and then the record counter was found at its limit or
+-- above: that is the one find
 pub record FoundFull (v w : View) (s key : ℕ) : Type 0 where
   pub then : View
   pub before : Works v then s []
@@ -34,8 +35,8 @@ pub record FoundFull (v w : View) (s key : ℕ) : Type 0 where
   pub full : IsFull w s
   pub unseen : IsUnseen (knows w s) key
 
--- the key's run was found to end without it, since the view was v, and no record was drawn before: no commit that was seen had written
--- the key, and the open transaction saw nothing of it
+-- looks at the index, by which no record was drawn, lead from v to a view in which the key's run ends without it (`EndedSince`). No commit that v had
+-- seen wrote the key, and the open transaction saw nothing of it
 pub record WasUnplaced (v : View) (s key : ℕ) : Type 0 where
   pub then : View
   pub before : Works v then s []
@@ -43,7 +44,7 @@ pub record WasUnplaced (v : View) (s key : ℕ) : Type 0 where
   pub ended : EndedSince v then s key
   pub unseen : IsUnseen (knows v s) key
 
--- a record is drawn only for a key that was found without one
+-- a record is drawn only for a key whose run ends without it, as `WasUnplaced` says
 abbrev pub DrawsAfterLook : View → View → ℕ → ℕ → Type 0
 DrawsAfterLook v w s key = ((knows w s).placing.drawn ≡ (knows v s).placing.drawn) ⊎ WasUnplaced v s key
 

@@ -25,8 +25,8 @@ IsPlaced k r key = (q : ℕ) × Contains k.facts (IndexAt q r key)
 abbrev pub Passed : Limits → List Fact → ℕ → ℕ → Type 0
 Passed l facts key n = (i : ℕ) → i < n → (r k : ℕ) × Contains facts (IndexAt (position_of l key i) r k) × (k ≢ key)
 
--- the key's run was found to end without it: the positions passed hold other keys, and the load of the next one, by which the session s came to
--- the view, found it empty. So it is in a state in which the view is possible
+-- the key's run ends without it: the positions passed are known to hold other keys, a load of the next one, by session s, leads from some view to this
+-- one and finds it empty, and so it is in a state that the view allows
 pub record Ended (v : View) (s key : ℕ) : Type 0 where
   pub offset : ℕ
   pub short : offset < size v.limits
@@ -54,7 +54,8 @@ pub record Works (v w : View) (s : ℕ) (finds : List Find) : Type 0 where
     looks = record (knows v s).looks { index = (knows w s).looks.index };
   })
 
--- the key's run was found to end without it, by a load that was made after the view was u
+-- the key's run ends without it, and looks at the index lead from u to the view from which that load leads on. Where the last index word of u was
+-- empty already, the load may be the one that led to u
 pub record EndedSince (u v : View) (s key : ℕ) : Type 0 where
   pub ended : Ended v s key
   pub since : Works u ended.before s []

@@ -14,8 +14,9 @@ use lst_rule::{RecordId, Seat, Store};
 /// No index has more positions.
 const MOST: u32 = 1 << 21;
 
-/// The record of a key. None comes exactly where the key's run was found to end without it, by a load in this call: then no commit that the session has
-/// seen wrote the key, and its open transaction sees nothing of it.
+/// The record of a key. None comes exactly where the last index word that the session loaded was empty, and what it then knows allows a state in which
+/// the key's run ends there, without it: then no commit that the session has seen wrote the key, and its open transaction sees nothing of it. That the word
+/// was loaded in this call is read in the body.
 ///
 /// A record that the session has in hand is given up where its key shows on the record that is found.
 #[inline(always)]

@@ -1,4 +1,5 @@
-//! The first engine of the program: rows as lists of versions, one list for each key.
+//! An engine that keeps rows as lists of versions, one list for each key. The program doesn't run it: it is an oracle for tests, and counts of
+//! what lines cost are set beside its own.
 //!
 //! `Plain` answers each line of a script as the machine of one thread does: in the time of a look into a map, or of a walk over
 //! all keys where a call asks about all rows. Each key that has a record keeps its committed rows by rising time, and beside

@@ -16,9 +16,9 @@ use lst_session::Crew;
 use std::alloc::Global;
 
 /// The answer to a line: a scan is made by the session's open transaction, and all other lines by the crew. It promises of the session that
-/// calls, and of the merger, what the call itself promises; and where the crew tells a state of the machine, the answer is the machine's, and the
-/// crew then tells the next one. Of tail records a sum loads words of those alone whose record the column's page doesn't tell, and a count of those that
-/// the first column's doesn't; so none, where the pages have folded every accepted write, each ended by its transaction's begin. Memory may be wanted for a list of rows and for a find in an indexed column, with a transaction open: then the
+/// calls, and of the merger, what the call itself promises. Where the crew tells a state of the machine, the answer is the machine's, and the
+/// crew then tells the next one; and of tail records a sum then loads words of those alone whose record the column's page doesn't tell, and a count of those that
+/// the first column's doesn't: of none, where the pages have folded every accepted write, each ended by its transaction's begin. Memory may be wanted for a list of rows and for a find in an indexed column, with a transaction open: then the
 /// session has only looked, and the crew tells the same state.
 #[inline(always)]
 pub fn crew_line(

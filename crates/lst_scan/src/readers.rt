@@ -21,9 +21,9 @@ use lst_rule::{RecordId, Store};
 use lst_session::Reader;
 use std::alloc::Global;
 
-/// The numbers of a column, 0 for null, added over all rows. The sum never wraps. Where the seat knows each word and the session is pinned, each tail
-/// record of which a word is loaded is one of a record that the column's page doesn't tell. So none is, where the pages have folded the newest version of each record, with an
-/// entry of the begin or earlier.
+/// The numbers of a column, 0 for null, added over all rows. The sum never wraps. A record is told by the column's page where that has folded its newest
+/// version, with an entry of the begin or earlier. Where the seat knows each word and the session is pinned, words are loaded of no other tail records than those of records that
+/// aren't told; and where each record is told, the session finds nothing at all.
 pub fn sum(store: &Store, reader: &mut Reader<'_>, column: u32) -> u128
     requires reader { IsReader store.now reader.old.seat.now reader.old.s }
     requires column { column < store.now.layout.limits.columns }
@@ -38,7 +38,8 @@ pub fn sum(store: &Store, reader: &mut Reader<'_>, column: u32) -> u128
     sums::sum(store, reader.seat, reader.s, column)
 }
 
-/// The same over the rows whose keys are on records of the ranges from `from` up to and without `to`: at most 2^73 for each of them.
+/// The same over the rows whose keys are on records of the ranges from `from` up to and without `to`: at most 2^73 for each of them. It saves the same, of the
+/// records of these ranges.
 pub fn sum_part(store: &Store, reader: &mut Reader<'_>, column: u32, from: u32, to: u32) -> u128
     requires reader { IsReader store.now reader.old.seat.now reader.old.s }
     requires column { column < store.now.layout.limits.columns }

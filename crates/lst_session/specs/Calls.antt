@@ -82,7 +82,8 @@ row_seen k key = row_of (snapshot k.seen k.begin k.own) key
 
 -- ---- begins
 
--- the pin came first: it was set, at the epoch of this clause, while the session's transactions were as before, and then the next one was opened
+-- between lies a view in which the session is pinned, at the epoch of this clause, and its transactions are as before; from there the next one is opened. So
+-- the epoch was loaded before the clock. The two stores are of different words: that the pin's came first is read in the body
 pub record PinsFirst (v w : View) (s clock begin : ℕ) (read_only : Bool) : Type 0 where
   pub before : View
   pub pinned : View
@@ -92,8 +93,7 @@ pub record PinsFirst (v w : View) (s clock begin : ℕ) (read_only : Bool) : Typ
   pub opens : Opens pinned w s clock begin read_only
 
 -- the next transaction is open, with this begin and of this kind, without own writes. The clock was loaded in the call, and found at least
--- what the session had seen, which it has seen then. The session is pinned at an epoch that was found in the call, and has set one pin more,
--- before the transaction was opened
+-- what the session had seen, which it has seen then. The session is pinned at an epoch that was found in the call, and has set one pin more
 pub record Begins (v w : View) (s clock begin : ℕ) (read_only : Bool) : Type 0 where
   pub called : Called v w s
   pub lists : SameLists (knows v s) (knows w s)
@@ -156,7 +156,7 @@ pub record IsTailOf (l : Limits) (rec tail : ℕ) : Type 0 where
   pub is : tail ≡ range_of rec * l.tails + number
 
 -- the transaction is open and may write; the act on the key is one more of its own writes, and fits what it saw. At most so many records
--- were drawn, and only where the key was found without one before. No counter was found full. The write's tail is one of the range of the
+-- were drawn, and only for a key whose run ends without it. No counter was found full. The write's tail is one of the range of the
 -- key's record
 pub record Accepts (v w : View) (s key most : ℕ) (act : Act) : Type 0 where
   pub may : MayWrite v s
@@ -176,7 +176,7 @@ pub record Accepts (v w : View) (s key most : ℕ) (act : Act) : Type 0 where
   pub belongs : IsTailOf w.limits rec tail
   pub room : FindsNoneFull v w s
 
--- nothing was written. At most so many records were drawn, and only where the key was found without one before
+-- nothing was written. At most so many records were drawn, and only for a key whose run ends without it
 pub record Refuses (v w : View) (s key most : ℕ) : Type 0 where
   pub called : Called v w s
   pub same : SameWork s (knows v s) (knows w s)
@@ -207,7 +207,8 @@ pub record HasLatched (v w : View) (s key : ℕ) : Type 0 where
 abbrev pub HasNotLatched : View → View → ℕ → Type 0
 HasNotLatched v w s = (knows w s).latched ≡ (knows v s).latched
 
--- by that the session found that the key had no record: its run ended without it
+-- looks at the index led to a view that allows a state in which the key has no record: its run ends without it (`Ended`, which doesn't say that the load
+-- which found this is one of the call)
 pub record HasNoRecord (v w : View) (s key : ℕ) : Type 0 where
   pub works : Works v w s []
   pub ended : Ended w s key
@@ -275,7 +276,7 @@ pub record TakesPinAway (u k : Known) : Type 0 where
   pub pins : k.pages.pins ≡ u.pages.pins
   pub pin : k.pages.session.pin ≡ 0
 
--- the pin went last: the transaction was over while the pin stood, and then the pin was taken away
+-- between lies a view in which the transaction is over and the pin stands; from there the pin is taken away. That its store came last is read in the body
 pub record UnpinsLast (v w : View) (s : ℕ) : Type 0 where
   pub over : View
   pub called : Called v over s

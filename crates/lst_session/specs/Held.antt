@@ -33,7 +33,7 @@ pub record LooksStill (v w : View) (s : ℕ) : Type 0 where
   pub seen : (knows w s).seen ≡ (knows v s).seen
   pub room : FindsNoneFull v w s
 
--- the turn was taken, and then the clock loaded, which found as many commits as were seen then
+-- only looks were made, and the clock was loaded, which found as many commits as are seen then. That the turn was taken before isn't said here
 pub record TakesTurn (v w : View) (s : ℕ) : Type 0 where
   pub looks : OnlyLooks v w s
   pub fresh : FoundSince v w s (FreshClock (length (knows w s).seen))
