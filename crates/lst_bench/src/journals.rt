@@ -3,14 +3,14 @@
 ghost use Rattle.std.specs.Prelude.{◌≡◌, ◌<◌, IfSome, IsTrue, false};
 ghost use Rattle.lst_model.specs.Lines.{CallFits};
 ghost use Rattle.lst_disk.specs.Memory.{disk_content, disk_images};
-ghost use Rattle.lst_journal.specs.Journals.{IsOpenJournal};
+ghost use Rattle.lst_redo.specs.Journals.{IsOpenJournal};
 
 use crate::engines::{drawn, row};
 use arrayvec::ArrayVec;
 use lst_disk::{Disk, MemDisk};
-use lst_journal::{Kept, Redo, open_redo};
 use lst_layout::{Layout, Limits};
 use lst_model::{Call, Key, Line, OutOfMemory, Patch, Reply};
+use lst_redo::{Kept, Redo, open_redo};
 use lst_rule::Store;
 use lst_scan::crew_line;
 use lst_session::{Crew, open_crew};
@@ -125,7 +125,7 @@ struct Journaled {
 impl Answers for Journaled {
     ghost use Rattle.std.specs.Prelude.{◌≡◌, false};
     ghost use Rattle.lst_disk.specs.Memory.{disk_content, disk_images};
-    ghost use Rattle.lst_journal.specs.Journals.{IsOpenJournal};
+    ghost use Rattle.lst_redo.specs.Journals.{IsOpenJournal};
 
     ghost ready = { λ j. j.redo.failed ≡ false → IsOpenJournal disk_content disk_images j.redo };
 

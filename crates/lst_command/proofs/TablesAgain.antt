@@ -28,8 +28,8 @@ use Rattle.lst_csv.specs.Tables.{table_fault, names_of, rows_of}
 use Rattle.lst_csv.specs.Writing.{history_text, table_text}
 use Rattle.lst_csv.proofs.ScriptAgain.{any_script_read}
 use Rattle.lst_csv.proofs.TableAgain.{made_whole, table_again}
-use Rattle.lst_replay.specs.Again.{after_writes}
-use Rattle.lst_replay.specs.Puts.{ArePutsFrom, HasRoomForRows, after_one, one_commit, PutsAreCommitted}
+use Rattle.lst_replay_laws.specs.Again.{after_writes}
+use Rattle.lst_replay_laws.specs.Puts.{ArePutsFrom, HasRoomForRows, after_one, one_commit, PutsAreCommitted}
 use Rattle.lst_script.specs.declared.scripts.Named.{Named}
 use Rattle.lst_script.specs.Scripts.{IsNamed, AnswersUnlessMemory}
 use Rattle.lst_script.proofs.Versions.{answers_named}

@@ -9,7 +9,7 @@ use Rattle.lst_csv.specs.Importing.{import_of}
 use Rattle.lst_csv.specs.Laws.{IsRow}
 use Rattle.lst_csv.specs.Records.{records_of}
 use Rattle.lst_csv.specs.Writing.{table_text}
-use Rattle.lst_replay.specs.Puts.{HasRoomForRows}
+use Rattle.lst_replay_laws.specs.Puts.{HasRoomForRows}
 use Rattle.lst_command.specs.Owed.{IsAnyScript, OwesDump, OwesTable}
 use Rattle.lst_command.specs.Runs.{Left}
 

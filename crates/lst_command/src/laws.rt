@@ -12,7 +12,7 @@ ghost use Rattle.lst_command.specs.Reported.{WorkIsJudgedLegal};
 ghost use Rattle.lst_command.specs.TablesAgain.{DumpsComeBack, ImportIsScript, TablesComeBack};
 
 use lst_dumps::dumps_are_tables;
-use lst_replay::puts_are_committed;
+use lst_replay_laws::puts_are_committed;
 
 /// An input is one script at most, so a run has one output alone. The contract is a law; the body does nothing.
 pub fn input_is_one_script()

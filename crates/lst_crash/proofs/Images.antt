@@ -6,9 +6,9 @@ use Rattle.lst_disk.specs.declared.memory.MemDisk.{MemDisk}
 use Rattle.lst_disk.specs.Disk.{LeavesOnly}
 use Rattle.lst_disk.specs.Memory.{disk_content, disk_clock, disk_images, disk_images_since}
 use Rattle.lst_disk.specs.MemoryLaws.{content_stays, is_now}
-use Rattle.lst_redo.specs.Journals.{Ends, StandsFor}
-use Rattle.lst_redo.specs.Stores.{LastsSince}
-use Rattle.lst_replay.specs.Rests.{HasRoomFor}
+use Rattle.lst_log.specs.Journals.{Ends, StandsFor}
+use Rattle.lst_log.specs.Stores.{LastsSince}
+use Rattle.lst_replay_laws.specs.Rests.{HasRoomFor}
 
 module _ (old new : MemDisk) where
   -- what a crash leaves now is what it leaves since an earlier moment

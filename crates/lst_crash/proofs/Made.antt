@@ -27,10 +27,10 @@ use Rattle.lst_rule.specs.Rule.{knows}
 use Rattle.lst_rule.specs.Learned.{Possible}
 use Rattle.lst_session.specs.Crews.{store_told}
 use Rattle.lst_session.proofs.Crewed.{IsCrewView, core_of, known_is, is_crew, told_is, begins_is, opened_by, opened_some, opened_none}
-use Rattle.lst_journal.specs.declared.journal.Kept.TheVariants.{Reply as Replied}
-use Rattle.lst_journal.specs.Answers.{CommitsWrites, commits_after}
-use Rattle.lst_journal.specs.Owns.{commit_of}
-use Rattle.lst_journal.proofs.Telling.{line_history, committed_history}
+use Rattle.lst_redo.specs.declared.journal.Kept.TheVariants.{Reply as Replied}
+use Rattle.lst_redo.specs.Answers.{CommitsWrites, commits_after}
+use Rattle.lst_redo.specs.Owns.{commit_of}
+use Rattle.lst_redo.proofs.Telling.{line_history, committed_history}
 use Rattle.lst_crash.specs.Crashes.{commit_made, commit_in, commit_by}
 
 -- ---- in the machine: a line that makes none is not answered that it committed

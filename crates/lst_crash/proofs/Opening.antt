@@ -7,10 +7,10 @@ use Rattle.lst_model.specs.declared.lines.Line.{Line}
 use Rattle.lst_disk.specs.declared.memory.MemDisk.{MemDisk}
 use Rattle.lst_disk.specs.Disk.{Only, LeavesOnly}
 use Rattle.lst_disk.specs.Memory.{disk_content, disk_clock, disk_images, disk_images_since, disk_left}
-use Rattle.lst_redo.specs.Journals.{StandsFor, HasOneList}
-use Rattle.lst_redo.specs.Stores.{LastsSince}
-use Rattle.lst_journal.specs.declared.journal.Redo.{Redo}
-use Rattle.lst_journal.specs.Openings.{HasOpened}
+use Rattle.lst_log.specs.Journals.{StandsFor, HasOneList}
+use Rattle.lst_log.specs.Stores.{LastsSince}
+use Rattle.lst_redo.specs.declared.journal.Redo.{Redo}
+use Rattle.lst_redo.specs.Openings.{HasOpened}
 use Rattle.lst_crash.specs.Crashes.{most_bytes, start_of, Ending, ending_from, ending_of, limits_again}
 use Rattle.lst_crash.specs.Recovering.{IsAt, IsRunning, HasEnded}
 use Rattle.lst_crash.proofs.Images.{left_now, content_kept, zeros_stand, none_need_room}

@@ -12,19 +12,19 @@ use Rattle.lst_disk.specs.Memory.{disk_content, disk_images}
 use Rattle.lst_historic.specs.Blocks.{AreWide}
 use Rattle.lst_past.specs.Past.{number_line, rows_line}
 use Rattle.std.specs.Prelude.{codes}
-use Rattle.lst_redo.specs.Journals.{StandsFor, IsDamagedAt, HasOneList, DamageIsNone}
-use Rattle.lst_replay.specs.Counts.{SameCommits}
-use Rattle.lst_replay.specs.Rests.{HasRoomFor}
-use Rattle.lst_replay.proofs.Runs.{same_tables, same_have_writes}
+use Rattle.lst_log.specs.Journals.{StandsFor, IsDamagedAt, HasOneList, DamageIsNone}
+use Rattle.lst_replay_laws.specs.Counts.{SameCommits}
+use Rattle.lst_replay_laws.specs.Rests.{HasRoomFor}
+use Rattle.lst_replay_laws.proofs.Runs.{same_tables, same_have_writes}
 use Rattle.lst_rule.specs.declared.store.Store.{Store}
 use Rattle.lst_scan.specs.Lines.{KeepsState}
 use Rattle.lst_session.specs.declared.crew.Crew.{Crew}
 use Rattle.lst_rule.specs.declared.view.View.{View}
 use Rattle.lst_rule.specs.Learned.{Possible}
 use Rattle.lst_session.specs.Crews.{IsCrewOf, TellsState, state_told, store_told}
-use Rattle.lst_journal.specs.declared.journal.Redo.{Redo}
-use Rattle.lst_journal.specs.Journals.{view_of}
-use Rattle.lst_journal.specs.Openings.{HasOpened}
+use Rattle.lst_redo.specs.declared.journal.Redo.{Redo}
+use Rattle.lst_redo.specs.Journals.{view_of}
+use Rattle.lst_redo.specs.Openings.{HasOpened}
 use Rattle.lst_crash.specs.Crashes.{ending_of, recovered_text, limits_again}
 use Rattle.lst_crash.specs.Recovering.{IsCrashed, IsRecoverable, HasEnded, HasRecovered}
 use Rattle.lst_crash.proofs.Histories.{sound_told, wide_told}

@@ -8,10 +8,10 @@ use Rattle.lst_model.specs.declared.acts.Act.TheVariants.{Put, Set, Del}
 use Rattle.lst_model.specs.declared.acts.Write.{Write}
 use Rattle.lst_model.specs.declared.commits.Commit.{Commit}
 use Rattle.lst_model.specs.Cells.{number_of, changed_number}
-use Rattle.lst_redo.specs.Format.{word, head_of, numbers_of, write_bytes, body, record_of, journal, FitsTable, IsWrite, HasRecord}
-use Rattle.lst_replay.specs.Again.{writes_in}
-use Rattle.lst_replay.specs.Rests.{HasRoomFor, with_tails}
-use Rattle.lst_replay.proofs.Runs.{room_grows}
+use Rattle.lst_log.specs.Format.{word, head_of, numbers_of, write_bytes, body, record_of, journal, FitsTable, IsWrite, HasRecord}
+use Rattle.lst_replay_laws.specs.Again.{writes_in}
+use Rattle.lst_replay_laws.specs.Rests.{HasRoomFor, with_tails}
+use Rattle.lst_replay_laws.proofs.Runs.{room_grows}
 use Rattle.lst_crash.specs.Crashes.{most_bytes, limits_again}
 
 -- ---- a write

@@ -19,22 +19,22 @@ use Rattle.lst_machine.specs.Machine as machine
 use Rattle.lst_disk.specs.declared.memory.MemDisk.{MemDisk}
 use Rattle.lst_disk.specs.Disk.{LeavesOnly}
 use Rattle.lst_disk.specs.Memory.{disk_content, disk_clock, disk_images, disk_images_since, disk_left}
-use Rattle.lst_redo.specs.Format.{record_of, journal, HasRecord}
-use Rattle.lst_redo.specs.Journals.{StandsFor}
-use Rattle.lst_redo.specs.declared.log.Log.{Log}
-use Rattle.lst_replay.specs.Again.{writes_in}
-use Rattle.lst_replay.specs.Rests.{HasRoomFor, with_tails}
-use Rattle.lst_replay.proofs.Counted.{counted_has_room}
+use Rattle.lst_log.specs.Format.{record_of, journal, HasRecord}
+use Rattle.lst_log.specs.Journals.{StandsFor}
+use Rattle.lst_log.specs.declared.log.Log.{Log}
+use Rattle.lst_replay_laws.specs.Again.{writes_in}
+use Rattle.lst_replay_laws.specs.Rests.{HasRoomFor, with_tails}
+use Rattle.lst_replay_laws.proofs.Counted.{counted_has_room}
 use Rattle.lst_rule.specs.declared.view.View.{View}
 use Rattle.lst_rule.specs.Learned.{Possible}
 use Rattle.lst_session.specs.Crews.{store_told, state_told}
 use Rattle.lst_session.proofs.Crewed.{IsCrewView, crew_view}
-use Rattle.lst_journal.specs.declared.journal.Kept.{Kept}
-use Rattle.lst_journal.specs.declared.journal.Kept.TheVariants.{Reply as Replied, JournalFull, DiskFault}
-use Rattle.lst_journal.specs.declared.journal.Redo.{Redo}
-use Rattle.lst_journal.specs.Journals.{view_of, IsJournalOf}
-use Rattle.lst_journal.specs.Owns.{commit_of}
-use Rattle.lst_journal.specs.Answers.{CommitsWrites, MayLeave, StandsForOneMore, IsAnswered, commits_after, HasRoomAfter, LacksRoom, CountsLine}
+use Rattle.lst_redo.specs.declared.journal.Kept.{Kept}
+use Rattle.lst_redo.specs.declared.journal.Kept.TheVariants.{Reply as Replied, JournalFull, DiskFault}
+use Rattle.lst_redo.specs.declared.journal.Redo.{Redo}
+use Rattle.lst_redo.specs.Journals.{view_of, IsJournalOf}
+use Rattle.lst_redo.specs.Owns.{commit_of}
+use Rattle.lst_redo.specs.Answers.{CommitsWrites, MayLeave, StandsForOneMore, IsAnswered, commits_after, HasRoomAfter, LacksRoom, CountsLine}
 use Rattle.lst_crash.specs.Crashes.{most_bytes, commit_by, Run, record_size, answer_of, run_after, answer, later, kept_text, is_fault, Ending, ended, ending_from, AreTheseOrOneMore, AreRecovered}
 use Rattle.lst_crash.specs.Recovering.{IsAt, IsRunning, IsRecoverable, HasEnded, GoesOn}
 use Rattle.lst_crash.proofs.Images.{left_now}

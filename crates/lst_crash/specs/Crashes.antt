@@ -12,11 +12,11 @@ use Rattle.lst_model.specs.Histories.{table_at}
 use Rattle.lst_machine.specs.State.{Opened, Store, State, opening}
 use Rattle.lst_machine.specs.Writes.{own_writes}
 use Rattle.lst_machine.specs.Machine.{reply, next}
-use Rattle.lst_redo.specs.Format.{record_of}
+use Rattle.lst_log.specs.Format.{record_of}
 use Rattle.lst_replies.specs.Texts.{speaker_text, line_text}
 use Rattle.lst_past.specs.Past.{number_line, rows_line}
-use Rattle.lst_journal.specs.declared.journal.Kept.{Kept}
-use Rattle.lst_journal.specs.declared.journal.Kept.TheVariants.{Reply, JournalFull, DiskFault}
+use Rattle.lst_redo.specs.declared.journal.Kept.{Kept}
+use Rattle.lst_redo.specs.declared.journal.Kept.TheVariants.{Reply, JournalFull, DiskFault}
 
 -- how many bytes a disk has at most
 abbrev pub most_bytes : ℕ

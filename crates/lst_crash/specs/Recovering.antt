@@ -7,14 +7,14 @@ use Rattle.lst_machine.specs.State.{opening}
 use Rattle.lst_machine.specs.Machine.{state_after}
 use Rattle.lst_disk.specs.declared.memory.MemDisk.{MemDisk}
 use Rattle.lst_disk.specs.Memory.{disk_content, disk_images, disk_left}
-use Rattle.lst_redo.specs.Journals.{StandsFor}
-use Rattle.lst_recovery.specs.Scripts.{lines_again}
-use Rattle.lst_replay.specs.Rests.{HasRoomFor}
+use Rattle.lst_log.specs.Journals.{StandsFor}
+use Rattle.lst_redo.specs.Scripts.{lines_again}
+use Rattle.lst_replay_laws.specs.Rests.{HasRoomFor}
 use Rattle.lst_rule.specs.declared.store.Store.{Store}
 use Rattle.lst_session.specs.declared.crew.Crew.{Crew}
 use Rattle.lst_session.specs.Crews.{IsCrewOf, TellsState, state_told}
-use Rattle.lst_journal.specs.declared.journal.Redo.{Redo}
-use Rattle.lst_journal.specs.Journals.{view_of, IsJournalOf}
+use Rattle.lst_redo.specs.declared.journal.Redo.{Redo}
+use Rattle.lst_redo.specs.Journals.{view_of, IsJournalOf}
 use Rattle.lst_crash.specs.Crashes.{most_bytes, Run, Ending, ending_from, ending_of, AreRecovered, crash_text, recovered_text, limits_again}
 
 -- ---- a run

@@ -9,10 +9,10 @@ ghost use Rattle.lst_crash.specs.Recovering.{IsCrashed, IsRecoverable, HasRecove
 use crate::recovered::push_recovered;
 use crate::running::{Stopped, run_to_stop};
 use lst_disk::MemDisk;
-use lst_journal::{OpenCause, open_redo};
 use lst_layout::{Layout, Limits};
+use lst_log::image_has_one_history;
 use lst_model::{OutOfMemory, Text};
-use lst_redo::image_has_one_history;
+use lst_redo::{OpenCause, open_redo};
 use lst_rule::Store;
 use lst_script::Script;
 use lst_session::Crew;

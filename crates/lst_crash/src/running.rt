@@ -6,16 +6,16 @@ ghost use Rattle.lst_layout.specs.Limits.{IsValid};
 ghost use Rattle.lst_layout.specs.declared.limits.Limits.{Limits as LimitsOf};
 ghost use Rattle.lst_disk.specs.Disk.{Only};
 ghost use Rattle.lst_disk.specs.Memory.{disk_content, disk_images, disk_left};
-ghost use Rattle.lst_journal.specs.Journals.{view_of, IsOpenJournal};
+ghost use Rattle.lst_redo.specs.Journals.{view_of, IsOpenJournal};
 ghost use Rattle.lst_crash.specs.Crashes.{Ending, IsTaken, most_bytes};
 ghost use Rattle.lst_crash.specs.Recovering.{IsStopped, IsRunning, HasEnded, GoesOn};
 
 use crate::words::push_kept;
 use lst_disk::MemDisk;
-use lst_journal::{OpenCause, Redo, open_redo};
 use lst_layout::Layout;
+use lst_log::image_has_one_history;
 use lst_model::{Line, OutOfMemory, Text};
-use lst_redo::image_has_one_history;
+use lst_redo::{OpenCause, Redo, open_redo};
 use lst_script::Script;
 use std::alloc::Global;
 

@@ -3,8 +3,8 @@ ghost use Rattle.std.specs.Prelude.{◌≡◌, ◌++◌, OnOk, decimal};
 ghost use Rattle.lst_crash.specs.Crashes.{kept_text, speech};
 
 use itoa::Buffer;
-use lst_journal::Kept;
 use lst_model::{Line, OutOfMemory, Text};
+use lst_redo::Kept;
 use lst_replies::push_line;
 
 /// Appends what a line was answered. The only error is want of memory.

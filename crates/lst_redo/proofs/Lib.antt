@@ -1,12 +1,18 @@
-mod Again
-mod Crashes
-mod Loops
-mod Logging
-pub mod Moments
-mod Ones
-mod Pushes
-mod Found
-mod Rows
-mod Scans
-mod Sizes
-mod Opens
+pub mod Owning
+pub mod Lists
+pub mod Telling
+pub mod Committing
+pub mod Passing
+pub mod ByCrew
+pub mod Answering
+pub mod Looking
+pub mod Opened
+pub mod Staying
+pub mod Crewing
+pub mod Ahead
+pub mod Ran
+pub mod Joins
+pub mod Places
+pub mod Making
+pub mod Running
+pub mod Scripts

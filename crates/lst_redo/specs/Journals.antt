@@ -1,55 +1,42 @@
--- What an image stands for.
-use Rattle.std.specs.Prelude.{◌≡◌, ◌≢◌, ◌⊎◌, ℕ, List, [], ◌∷◌, ◌++◌, length}
-use Rattle.std.specs.List.{AllByRecursion}
+-- An open journal: the list of commits that it stands for, and what its crew tells.
+use Rattle.std.specs.Prelude.{◌≡◌, ℕ, ◌≤◌, List}
 use Rattle.lst_model.specs.declared.commits.Commit.{Commit}
-use Rattle.lst_snapshots.specs.Replays.{IsRecovered, MayFollow}
-use Rattle.lst_redo.specs.Format.{body, journal, HasRecord}
+use Rattle.lst_log.specs.Logs.{Keeps}
+use Rattle.lst_replay_laws.specs.Counts.{IsCounted, SameCommits}
+use Rattle.lst_rule.specs.declared.view.View.{View}
+use Rattle.lst_session.specs.Crews.{IsCrewOf, TellsState, store_told}
+use Rattle.lst_redo.specs.declared.journal.Redo.{Redo}
+use Rattle.lst_redo.specs.Owns.{AreOwn}
 
--- records end at a gate that isn't open, or with the image
-abbrev pub Ends : List ℕ → Type 0
-Ends [] = Unit {0}
-Ends (gate ∷ rest) = gate ≢ 1
+abbrev pub view_of : {D : Type 0} → Redo D → View
+view_of redo = redo.crew.seat.view
 
--- an image is the records of these commits, and then no open gate
-pub record Lists (columns : ℕ) (image : List ℕ) (commits : List Commit) : Type 0 where
-  pub rest : List ℕ
-  pub whole : image ≡ journal columns commits ++ rest
-  pub ended : Ends rest
-  pub each : AllByRecursion (HasRecord columns) commits
+-- the disk's content stands for these commits, and a crash leaves just the content; the crew is the store's, and the state that it tells has as many
+-- commits, of the same sessions and with the same writes, which its limits have had room for; and the own writes of the open transactions are kept
+pub record IsJournalOf {D : Type 0} (content : D → List ℕ) (images : D → List ℕ → Type 0) (commits : List Commit) (redo : Redo D) : Type 0 where
+  pub keeps : Keeps content images commits redo.log
+  pub columns : redo.log.columns ≡ redo.store.layout.limits.columns
+  pub few : redo.log.columns ≤ 8
+  pub crew_of : IsCrewOf redo.store redo.crew
+  pub tells : TellsState (view_of redo)
+  pub same : SameCommits (store_told (view_of redo)).history commits
+  pub counted : IsCounted (view_of redo).limits (store_told (view_of redo))
+  pub own : AreOwn (view_of redo) redo.own
 
--- what it stands for is a recovered history
-pub record StandsFor (columns : ℕ) (image : List ℕ) (commits : List Commit) : Type 0 where
-  pub lists : Lists columns image commits
-  pub recovered : IsRecovered commits
+-- it stands for some commits
+abbrev pub IsOpenJournal : {D : Type 0} → (D → List ℕ) → (D → List ℕ → Type 0) → Redo D → Type 0
+IsOpenJournal content images redo = (commits : List Commit) × IsJournalOf content images commits redo
 
--- with one commit more, or without it
-abbrev pub StandsForOrOneMore : ℕ → List Commit → Commit → List ℕ → Type 0
-StandsForOrOneMore columns commits commit image = StandsFor columns image commits ⊎ StandsFor columns image (commits ++ commit ∷ [])
+-- what a journal's crew tells has these commits, whatever its disk has of them: the same but for the disk
+pub record IsCrewFor {D : Type 0} (commits : List Commit) (redo : Redo D) : Type 0 where
+  pub columns : redo.log.columns ≡ redo.store.layout.limits.columns
+  pub few : redo.log.columns ≤ 8
+  pub crew_of : IsCrewOf redo.store redo.crew
+  pub tells : TellsState (view_of redo)
+  pub same : SameCommits (store_told (view_of redo)).history commits
+  pub counted : IsCounted (view_of redo).limits (store_told (view_of redo))
+  pub own : AreOwn (view_of redo) redo.own
 
--- commits may stand behind these, one after another, their numbers aside
-abbrev pub AllMayFollow : List Commit → List Commit → Type 0
-AllMayFollow commits [] = Unit {0}
-AllMayFollow commits (c ∷ more) = MayFollow commits c × AllMayFollow (commits ++ c ∷ []) more
-
--- with all of these more, or with none of them
-abbrev pub StandsForOrAll : ℕ → List Commit → List Commit → List ℕ → Type 0
-StandsForOrAll columns commits more image = StandsFor columns image commits ⊎ StandsFor columns image (commits ++ more)
-
--- an image isn't in the format: behind the records of these commits stands an open gate, and no record of one more that may follow. The place is
--- that of its gate
-pub record IsDamagedAt (columns : ℕ) (image : List ℕ) (at : ℕ) : Type 0 where
-  pub commits : List Commit
-  pub rest : List ℕ
-  pub whole : image ≡ journal columns commits ++ 1 ∷ rest
-  pub place : at ≡ length (journal columns commits)
-  pub each : AllByRecursion (HasRecord columns) commits
-  pub recovered : IsRecovered commits
-  pub none : (c : Commit) (after : List ℕ) → HasRecord columns c → MayFollow commits c → ¬ (rest ≡ body columns c ++ after)
-
--- an image stands for one list at most
-abbrev pub HasOneList : Type 0
-HasOneList = (columns : ℕ) (image : List ℕ) (commits others : List Commit) → StandsFor columns image commits → StandsFor columns image others → commits ≡ others
-
--- and a damaged one for none
-abbrev pub DamageIsNone : Type 0
-DamageIsNone = (columns : ℕ) (image : List ℕ) (at : ℕ) (commits : List Commit) → IsDamagedAt columns image at → ¬ StandsFor columns image commits
+-- it has some commits
+abbrev pub HasCrew : {D : Type 0} → Redo D → Type 0
+HasCrew redo = (commits : List Commit) × IsCrewFor commits redo

@@ -1,18 +1,21 @@
-//! A journal of commits on a disk. Each is on the disk before it is acknowledged, and a crash at any moment leaves the commits so
-//! far, or these and the one under way.
+//! A crew with a journal: a store that is recovered from a disk that a crash may have left, and the log of its commits.
 //!
-//! It touches the disk that it is given, by the calls of `lst_disk`. Begin with `specs/Format` and `Journals`, then `Log` in
-//! `log.rt` and `open` in `opening.rt`.
+//! It makes the calls of a log of `lst_log` and of a crew. Begin with `open_redo` in `opening.rt` and `Redo::line` in `lines.rt`, and with what an
+//! open journal stands for in `specs/Journals`. `recover` in `recovery.rt` runs commits again on a new crew, and `OwnWrites` in `own.rt` keeps the writes of
+//! each session's open transaction, as its commit will hold them.
 #![tactic(auto)]
 
-mod laws;
-mod log;
+mod again;
+mod fits;
+mod journal;
+mod lines;
 mod opening;
-mod read;
-mod store;
-mod write;
+mod own;
+mod recovery;
+mod together;
 
-pub use laws::image_has_one_history;
-pub use log::{AppendFault, Log, StageFault};
-pub use opening::{OpenCause, OpenRefusal, open};
-pub use read::{has_place, is_record, read_record};
+pub use journal::{Kept, Redo};
+pub use opening::{OpenCause, OpenRefusal, open_redo};
+pub use own::OwnWrites;
+pub use recovery::{RecoveryFault, recover};
+pub use together::RunFault;

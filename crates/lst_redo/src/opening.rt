@@ -1,167 +1,146 @@
-//! A log, opened over a disk that a crash may have left.
-ghost use Rattle.std.specs.Prelude.{◌≡◌, ◌≢◌, ◌≤◌, ◌<◌, ◌+◌, ◌^◌, ◌↔◌, ℕ, List, length, drop, IfOk, IfErr, OnOk, Err, Some, IfSome, ◌-◌, ◌⊎◌};
+//! A journal, opened over a disk that a crash may have left.
+ghost use Rattle.std.specs.Prelude.{◌≡◌, ◌≢◌, ◌≤◌, ◌⊎◌, ◌↔◌, ◌-◌, ℕ, List, [], replicate, IfOk, IfErr, IfSome, Some, Err, false};
+ghost use Rattle.std.specs.List.{AllByRecursion};
 ghost use Rattle.lst_model.specs.declared.commits.Commit.{Commit as CommitValue};
-ghost use Rattle.lst_model.specs.Faults.{Rose, HasCause};
-ghost use Rattle.lst_disk.specs.Disk.{Only, LeavesOnly};
-ghost use Rattle.lst_redo.specs.Format.{journal};
-ghost use Rattle.lst_snapshots.specs.Replays.{numbered_from};
-ghost use Rattle.lst_redo.specs.Journals.{StandsFor, IsDamagedAt};
-ghost use Rattle.lst_redo.specs.Stores.{LastsSince, MakesNoCall, MakesOneSync};
-ghost use Rattle.lst_redo.specs.Logs.{Keeps};
+ghost use Rattle.lst_model.specs.Faults.{Rose};
+ghost use Rattle.lst_disk.specs.Disk.{LeavesOnly};
+ghost use Rattle.lst_log.specs.Journals.{StandsFor, IsDamagedAt};
+ghost use Rattle.lst_log.specs.Stores.{LastsSince, MakesNoCall, MakesOneSync};
+ghost use Rattle.lst_replay_laws.specs.Rests.{HasRoomFor};
+ghost use Rattle.lst_replay_laws.specs.Runs.{HasWrites, IsFullAt};
+ghost use Rattle.lst_redo.specs.Recoveries.{HasRunAgain};
+ghost use Rattle.lst_snapshots.specs.Replays.{IsRecovered};
+ghost use Rattle.lst_redo.specs.Openings.{HasOpened, IsTooFull};
 
-use crate::log::Log;
-use crate::read::read_record;
+use crate::journal::Redo;
+use crate::own::OwnWrites;
+use crate::recovery::{RecoveryFault, recover};
 use lst_disk::Disk;
-use lst_model::{Commit, OutOfMemory};
-use lst_snapshots::Snapshots;
+use lst_layout::Layout;
+use lst_log::{LogCause, LogRefusal, image_has_one_history, open};
+use lst_model::{Commit, OutOfMemory, Time};
+use lst_rule::Store;
+use lst_session::Crew;
 use std::alloc::Global;
 
-/// Why a log was not opened.
+/// Why a journal was not opened.
 #[derive(Clone, Copy, Debug, PartialEq, Eq)]
 pub enum OpenCause {
+    /// The disk failed.
     Disk,
+    /// The image isn't in the format: this is the place of the first record that isn't, in bytes from the disk's front.
     Damaged { at: u64 },
+    /// The commit at this time meets a limit of the layout.
+    Full { time: Time },
     OutOfMemory,
 }
 
-/// A log that was not opened, with its disk.
+/// A journal that was not opened, with its disk.
 #[derive(Drop)]
 pub struct OpenRefusal<D: Disk> {
     pub disk: D,
     pub cause: OpenCause,
 }
 
-/// Why an image was not read.
-#[derive(Clone, Copy, Debug, PartialEq, Eq)]
-enum ScanFault {
-    Damaged { at: usize },
-    OutOfMemory,
-}
-
-impl From<OutOfMemory> for ScanFault {
-    ghost use Rattle.std.specs.Prelude.{◌≡◌};
-    ghost use Rattle.lst_redo.specs.declared.opening.ScanFault.TheVariants.{OutOfMemory as Wanting};
-
-    ghost from_gives = { λ _ e. e ≡ Wanting };
-
-    fn from(_error: OutOfMemory) -> ScanFault {
-        ScanFault::OutOfMemory
-    }
-}
-
-/// Syncs the disk, and reads all of it.
-fn all_of<D: Disk>(alloc: Global, disk: &mut D) -> Result<Vec<u8>, OpenCause>
-    ensures image { IfOk result (λ image. image.items ≡ D.content disk.old) }
-    ensures content { D.content disk.new ≡ D.content disk.old }
-    ensures lasts { OnOk result (Only (D.content disk.old) (D.images disk.new)) }
-    ensures before { LeavesOnly D.clock D.images_since disk.old disk.new (D.images disk.old) }
-    ensures after { OnOk result (LastsSince D.content D.clock D.images_since disk.old disk.new) }
-    ensures fault { result ≡ Err OpenCause.Disk → Rose (D.faults disk.old) (D.faults disk.new) }
-    ensures told { IfSome (D.calls_left disk.old) (λ left. (result ≡ Err OpenCause.Disk → left ≡ 0) × (OnOk result (left ≢ 0))) }
-    ensures one { ¬ (result ≡ Err OpenCause.OutOfMemory) → IfSome (D.calls_left disk.old) (λ left. D.calls_left disk.new ≡ Some (left - 1)) }
-    ensures wanting { result ≡ Err OpenCause.OutOfMemory → MakesNoCall D.images D.calls_left D.faults disk.old disk.new }
-    ensures faults { D.faults disk.old ≤ D.faults disk.new }
-    ensures never { (at : ℕ) → ¬ (result ≡ Err (OpenCause.Damaged at)) }
-{
-    let mut image = Vec::new(alloc);
-    let Ok(()) = image.resize(disk.size() as usize, 0) else {
-        return Err(OpenCause::OutOfMemory);
-    };
-    let Ok(()) = disk.room(0) else {
-        return Err(OpenCause::OutOfMemory);
-    };
-    let Ok(()) = disk.sync() else {
-        return Err(OpenCause::Disk);
-    };
-    let Ok(()) = disk.read(0, image.as_mut_slice()) else {
-        return Err(OpenCause::Disk);
-    };
-    Ok(image)
-}
-
-/// The bytes behind a gate.
-fn behind_gate(image: &[u8], at: usize) -> &[u8]
-    requires { at < length image.now }
-    ensures { result.now ≡ drop (at + 1) image.now }
-{
-    &image[at + 1..]
-}
-
-/// The commits that an image stands for, each with its time as its number, and where their records end.
-fn scan(alloc: Global, columns: u32, image: &[u8]) -> Result<(Snapshots, usize), ScanFault>
-    requires { columns ≤ 8 }
-    ensures found { IfOk result (λ x. (commits : List CommitValue) × StandsFor columns image.now commits × (x.0 ≡ numbered_from 1 commits) × (x.1 ≡ length (journal columns commits))) }
-    ensures damaged { (at : ℕ) → result ≡ Err (ScanFault.Damaged at) → IsDamagedAt columns image.now at }
-{
-    let mut snapshots = Snapshots::new(alloc);
-    let mut own = Vec::new(alloc);
-    let mut at = 0;
-    while at < image.len() && image[at] == 1 {
-        let rest = behind_gate(image, at);
-        let Some((commit, size)) = read_record(alloc, columns, &mut own, rest)? else {
-            return Err(ScanFault::Damaged { at });
-        };
-        if snapshots.len() >= u32::MAX as usize {
-            return Err(ScanFault::OutOfMemory);
-        }
-        let numbered = Commit {
-            session: commit.session,
-            number: snapshots.len() as u32 + 1,
-            begin: commit.begin,
-            writes: commit.writes,
-        };
-        if !snapshots.follows(&numbered) {
-            return Err(ScanFault::Damaged { at });
-        }
-        snapshots.push(numbered)?;
-        at += 1 + size;
-    }
-    Ok((snapshots, at))
-}
-
-/// Opens a log over a disk, for a table of so many columns: syncs it, reads it, and answers the commits that its content stands for,
-/// each with its time as its number. `Damaged` names the place of the first record that isn't in the format, in bytes from the disk's
-/// front; `Disk` comes only where the disk's count of faults rose. Memory is wanting before the sync, and then the disk has made no call, or behind it. A
-/// refusal hands the disk back.
-pub fn open<D: Disk>(
+/// Opens a journal over a disk: syncs it, reads it, and runs the commits that its content stands for again on a new crew, each by its own
+/// session, with the same writes at the same time. Until the sync has succeeded a crash leaves what it could have left before, and from then on the
+/// content alone. `Damaged` comes exactly where the content isn't in the format, and is asked before `Full`, which comes exactly where a commit meets a
+/// limit of the layout: a session's number, the number of a session's transactions, a full table or a full range. `Disk` comes only where the disk's count
+/// of faults rose. Memory is wanting before the sync, and then the disk has made no call, or behind it. A refusal hands the disk back.
+///
+/// The crew tells the machine's state behind the lines that run the commits again: that of an opening, where there are none.
+pub fn open_redo<D: Disk>(
     alloc: Global,
+    layout: &Layout,
     disk: D,
-    columns: u32,
-) -> Result<(Log<D>, Snapshots), OpenRefusal<D>>
-    requires { columns ≤ 8 }
-    ensures ok { IfOk result (λ x. (commits : List CommitValue) × StandsFor columns (D.content disk) commits × Keeps D.content D.images commits x.0 × (x.1 ≡ numbered_from 1 commits)) }
-    ensures columns { IfOk result (λ x. x.0.columns ≡ columns) }
-    ensures before { IfOk result (λ x. LeavesOnly D.clock D.images_since disk x.0.disk (D.images disk)) }
+) -> Result<Redo<D>, OpenRefusal<D>>
+    ensures opened { IfOk result (λ redo. (commits : List CommitValue) × HasOpened D.content D.images layout.now.limits disk commits redo) }
+    ensures layout { IfOk result (λ redo. redo.store.layout ≡ layout.now) }
+    ensures failed { IfOk result (λ redo. redo.failed ≡ false) }
+    ensures before { IfOk result (λ redo. LeavesOnly D.clock D.images_since disk redo.log.disk (D.images disk)) }
     ensures before_err { IfErr result (λ e. LeavesOnly D.clock D.images_since disk e.disk (D.images disk)) }
-    ensures after { IfOk result (λ x. LastsSince D.content D.clock D.images_since disk x.0.disk) }
-    ensures after_err { IfErr result (λ e. (at : ℕ) → e.cause ≡ OpenCause.Damaged at → LastsSince D.content D.clock D.images_since disk e.disk) }
+    ensures after { IfOk result (λ redo. LastsSince D.content D.clock D.images_since disk redo.log.disk) }
+    ensures after_err { IfErr result (λ e. (at : ℕ) → (e.cause ≡ OpenCause.Damaged at) ⊎ (e.cause ≡ OpenCause.Full at) → LastsSince D.content D.clock D.images_since disk e.disk) }
     ensures wanting { IfErr result (λ e. e.cause ≡ OpenCause.OutOfMemory → MakesNoCall D.images D.calls_left D.faults disk e.disk ⊎ MakesOneSync D.content D.clock D.images_since D.calls_left disk e.disk) }
     ensures content { IfErr result (λ e. D.content e.disk ≡ D.content disk) }
-    ensures damaged { IfErr result (λ e. (at : ℕ) → e.cause ≡ OpenCause.Damaged at → IsDamagedAt columns (D.content disk) at) }
+    ensures damaged { IfErr result (λ e. (at : ℕ) → e.cause ≡ OpenCause.Damaged at → IsDamagedAt layout.now.limits.columns (D.content disk) at) }
+    ensures full { IfErr result (λ e. (time : ℕ) → e.cause ≡ OpenCause.Full time → IsTooFull layout.now.limits (D.content disk) time) }
+    ensures never { (commits : List CommitValue) → StandsFor layout.now.limits.columns (D.content disk) commits → HasRoomFor layout.now.limits commits → IfErr result (λ e. (time : ℕ) → ¬ (e.cause ≡ OpenCause.Full time)) }
     ensures fault { IfErr result (λ e. e.cause ≡ OpenCause.Disk → Rose (D.faults disk) (D.faults e.disk)) }
-    ensures told { IfSome (D.calls_left disk) (λ left. IfOk result (λ x. (left ≢ 0) × (D.calls_left x.0.disk ≡ Some (left - 1)))) }
+    ensures told { IfSome (D.calls_left disk) (λ left. IfOk result (λ redo. (left ≢ 0) × (D.calls_left redo.log.disk ≡ Some (left - 1)))) }
     ensures told_err { IfSome (D.calls_left disk) (λ left. IfErr result (λ e. ¬ (e.cause ≡ OpenCause.OutOfMemory) → ((e.cause ≡ OpenCause.Disk) ↔ (left ≡ 0)) × (D.calls_left e.disk ≡ Some (left - 1)))) }
     ensures told_memory { IfSome (D.calls_left disk) (λ left. IfErr result (λ e. e.cause ≡ OpenCause.OutOfMemory → (D.calls_left e.disk ≡ Some left) ⊎ (D.calls_left e.disk ≡ Some (left - 1)))) }
-    ensures faults { IfOk result (λ x. D.faults disk ≤ D.faults x.0.disk) }
+    ensures faults { IfOk result (λ redo. D.faults disk ≤ D.faults redo.log.disk) }
     ensures faults_err { IfErr result (λ e. D.faults disk ≤ D.faults e.disk) }
 {
-    let mut disk = disk;
-    let image = match all_of(alloc, &mut disk) {
-        Ok(image) => image,
-        Err(cause) => return Err(OpenRefusal { disk, cause }),
+    image_has_one_history();
+    match open(alloc, disk, layout.limits.columns) {
+        Ok((log, snapshots)) => match recovered(alloc, layout, snapshots.commits()) {
+            Ok((store, crew, own)) => Ok(Redo {
+                log,
+                store,
+                crew,
+                own,
+                failed: false,
+            }),
+            Err(fault) => Err(OpenRefusal {
+                disk: log.disk,
+                cause: cause_of(fault),
+            }),
+        },
+        Err(refusal) => Err(refused(refusal)),
+    }
+}
+
+/// A store with its crew, recovered from commits, and no writes for each of its sessions.
+fn recovered(
+    alloc: Global,
+    layout: &Layout,
+    commits: &[Commit],
+) -> Result<(Store, Crew, OwnWrites), RecoveryFault>
+    requires recovered { IsRecovered commits.now }
+    requires writes { AllByRecursion (HasWrites layout.now.limits.columns) commits.now }
+    ensures store { IfOk result (λ x. x.0.layout ≡ layout.now) }
+    ensures crew { IfOk result (λ x. HasRunAgain x.0 layout.now.limits commits.now x.1) }
+    ensures own { IfOk result (λ x. x.2 ≡ replicate layout.now.limits.sessions []) }
+    ensures full { (time : ℕ) → result ≡ Err (RecoveryFault.Full time) → IsFullAt layout.now.limits commits.now time }
+    ensures never { HasRoomFor layout.now.limits commits.now → (time : ℕ) → ¬ (result ≡ Err (RecoveryFault.Full time)) }
+{
+    let (store, crew) = recover(alloc, layout, commits)?;
+    match OwnWrites::new(alloc, layout.limits.sessions) {
+        Ok(own) => Ok((store, crew, own)),
+        Err(OutOfMemory) => Err(RecoveryFault::OutOfMemory),
+    }
+}
+
+/// The same cause, of the journal.
+fn cause_of(fault: RecoveryFault) -> OpenCause
+    ensures full { (time : ℕ) → (result ≡ OpenCause.Full time) ↔ (fault ≡ RecoveryFault.Full time) }
+    ensures memory { (result ≡ OpenCause.OutOfMemory) ↔ (fault ≡ RecoveryFault.OutOfMemory) }
+    ensures disk { ¬ (result ≡ OpenCause.Disk) }
+    ensures damaged { (at : ℕ) → ¬ (result ≡ OpenCause.Damaged at) }
+{
+    match fault {
+        RecoveryFault::Full { time } => OpenCause::Full { time },
+        RecoveryFault::OutOfMemory => OpenCause::OutOfMemory,
+    }
+}
+
+/// The same refusal, of the journal.
+fn refused<D: Disk>(refusal: LogRefusal<D>) -> OpenRefusal<D>
+    ensures disk { result.disk ≡ refusal.disk }
+    ensures same { (result.cause ≡ OpenCause.Disk) ↔ (refusal.cause ≡ LogCause.Disk) }
+    ensures damaged { (at : ℕ) → (result.cause ≡ OpenCause.Damaged at) ↔ (refusal.cause ≡ LogCause.Damaged at) }
+    ensures memory { (result.cause ≡ OpenCause.OutOfMemory) ↔ (refusal.cause ≡ LogCause.OutOfMemory) }
+    ensures never { (time : ℕ) → ¬ (result.cause ≡ OpenCause.Full time) }
+{
+    let cause = match refusal.cause {
+        LogCause::Disk => OpenCause::Disk,
+        LogCause::Damaged { at } => OpenCause::Damaged { at },
+        LogCause::OutOfMemory => OpenCause::OutOfMemory,
     };
-    match scan(alloc, columns, image.as_slice()) {
-        Ok((snapshots, end)) => {
-            let end = end as u64;
-            Ok((Log { disk, columns, end }, snapshots))
-        }
-        Err(ScanFault::Damaged { at }) => {
-            let cause = OpenCause::Damaged { at: at as u64 };
-            Err(OpenRefusal { disk, cause })
-        }
-        Err(ScanFault::OutOfMemory) => {
-            let cause = OpenCause::OutOfMemory;
-            Err(OpenRefusal { disk, cause })
-        }
+    OpenRefusal {
+        disk: refusal.disk,
+        cause,
     }
 }

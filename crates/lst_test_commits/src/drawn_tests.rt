@@ -3,7 +3,7 @@
 use crate::checks::is_so;
 use crate::deeds::{DEEDS, Deed, Drawer, RECORD, are_same, drawn_deeds};
 use lst_disk::{Disk, MemDisk};
-use lst_redo::{AppendFault, is_record, open};
+use lst_log::{AppendFault, is_record, open};
 use std::alloc::Global;
 use std::process::Abort;
 use std::test::Fail;

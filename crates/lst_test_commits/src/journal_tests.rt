@@ -3,8 +3,8 @@
 use crate::checks::{is_so, same};
 use arrayvec::ArrayVec;
 use lst_disk::{Disk, MemDisk};
+use lst_log::{AppendFault, LogCause, is_record, open};
 use lst_model::{Act, Commit, Row, Write, Writes};
-use lst_redo::{AppendFault, OpenCause, is_record, open};
 use std::alloc::Global;
 use std::process::Abort;
 use std::test::Fail;
@@ -100,20 +100,20 @@ fn a_record_has_these_bytes(rt: HostRuntime) -> Result<(), Fail> {
 }
 
 /// Some bytes of the front of an image on a disk of some size, where one at a place is another; why it isn't opened, or None where it is.
-type Image = (usize, u32, u64, u8, Option<OpenCause>);
+type Image = (usize, u32, u64, u8, Option<LogCause>);
 
 /// Of one record: an unknown kind; a record that ends with the disk; one that would end behind it.
 const OF_ONE: [Image; 3] = [
-    (49, 64, 29, 9, Some(OpenCause::Damaged { at: 0 })),
+    (49, 64, 29, 9, Some(LogCause::Damaged { at: 0 })),
     (48, 48, 0, 1, None),
-    (47, 47, 0, 1, Some(OpenCause::Damaged { at: 0 })),
+    (47, 47, 0, 1, Some(LogCause::Damaged { at: 0 })),
 ];
 
 /// Of two records: a second one that puts the key again; that of another key; one of an unknown kind; one behind a closed gate.
 const OF_TWO: [Image; 4] = [
-    (97, 98, 0, 1, Some(OpenCause::Damaged { at: 48 })),
+    (97, 98, 0, 1, Some(LogCause::Damaged { at: 48 })),
     (97, 98, 76, 8, None),
-    (97, 98, 77, 9, Some(OpenCause::Damaged { at: 48 })),
+    (97, 98, 77, 9, Some(LogCause::Damaged { at: 48 })),
     (97, 98, 48, 0, None),
 ];
 
@@ -134,7 +134,7 @@ fn refusal(
     bytes: &[u8],
     place: u64,
     byte: u8,
-) -> Result<Option<OpenCause>, Fail> {
+) -> Result<Option<LogCause>, Fail> {
     let mut disk = MemDisk::new(alloc, size, 100, false)?;
     write(&mut disk, 0, bytes)?;
     write(&mut disk, place, &[byte])?;

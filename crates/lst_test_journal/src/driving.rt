@@ -2,12 +2,12 @@
 ghost use Rattle.std.specs.Prelude.{◌≡◌, false, IfOk, OnOk};
 ghost use Rattle.lst_layout.specs.Limits.{IsValid};
 ghost use Rattle.lst_model.specs.Lines.{LineFits};
-ghost use Rattle.lst_journal.specs.Journals.{IsOpenJournal};
+ghost use Rattle.lst_redo.specs.Journals.{IsOpenJournal};
 
 use lst_disk::Disk;
-use lst_journal::{Kept, OpenRefusal, Redo, open_redo};
 use lst_layout::{Layout, Limits};
 use lst_model::{History, Line, OutOfMemory, Text};
+use lst_redo::{Kept, OpenRefusal, Redo, open_redo};
 use lst_replies::push_line;
 use lst_script::parse;
 use std::alloc::Global;

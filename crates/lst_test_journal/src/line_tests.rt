@@ -3,8 +3,8 @@
 use crate::disks::{Cramped, blank, byte_at};
 use crate::driving::{Step, opened, same};
 use lst_disk::MemDisk;
-use lst_journal::Kept;
 use lst_model::{OutOfMemory, Reply};
+use lst_redo::Kept;
 use std::process::Abort;
 use std::test::Fail;
 

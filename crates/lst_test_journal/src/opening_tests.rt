@@ -3,8 +3,8 @@
 use crate::disks::{Cramped, blank, put};
 use crate::driving::{Driven, Step, layout_of, opened, same, tried};
 use lst_disk::MemDisk;
-use lst_journal::OpenCause;
 use lst_layout::Limits;
+use lst_redo::OpenCause;
 use std::alloc::Global;
 use std::process::Abort;
 use std::test::Fail;

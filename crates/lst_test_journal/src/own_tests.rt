@@ -4,7 +4,7 @@ ghost use Rattle.lst_model.specs.Histories.{StandByKey};
 
 use crate::driving::same;
 use lst_model::{Act, Key, Write, joined_write_is_last};
-use lst_own::OwnWrites;
+use lst_redo::OwnWrites;
 use std::alloc::Global;
 use std::test::Fail;
 

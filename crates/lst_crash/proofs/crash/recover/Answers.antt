@@ -3,7 +3,7 @@ use Rattle.lst_layout.specs.declared.layout.Layout.{Layout}
 use Rattle.lst_layout.specs.declared.limits.Limits.{Limits}
 use Rattle.lst_rule.specs.declared.store.Store.{Store}
 use Rattle.lst_disk.specs.Memory.{disk_content, disk_left}
-use Rattle.lst_journal.specs.Journals.{view_of}
+use Rattle.lst_redo.specs.Journals.{view_of}
 use Rattle.lst_crash.proofs.Reopened.{recovered, stands_again, has_room_for, never_damaged, calls_left, is_sound, is_wide}
 use Rattle.lst_crash.proofs.crash.recover.Goals as goal
 

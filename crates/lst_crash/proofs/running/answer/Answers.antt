@@ -1,5 +1,5 @@
 use Rattle.std.proofs.Common.{refl, ap, Ok}
-use Rattle.lst_journal.specs.declared.journal.Kept.TheVariants.{JournalFull, DiskFault}
+use Rattle.lst_redo.specs.declared.journal.Kept.TheVariants.{JournalFull, DiskFault}
 use Rattle.lst_crash.proofs.Steps.{IsKept, of_kept, stepped}
 use Rattle.lst_crash.proofs.running.answer.Goals as goal
 

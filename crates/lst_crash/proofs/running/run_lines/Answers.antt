@@ -3,7 +3,7 @@ use Rattle.std.proofs.lemmas.Option.{get_or_from_slice_get}
 use Rattle.lst_layout.specs.declared.limits.Limits.{Limits}
 use Rattle.lst_layout.specs.Limits.{IsValid}
 use Rattle.lst_crash.specs.Crashes.{IsTaken}
-use Rattle.lst_journal.specs.Journals.{view_of}
+use Rattle.lst_redo.specs.Journals.{view_of}
 use Rattle.lst_crash.proofs.Steps.{at_line, behind_all}
 use Rattle.lst_crash.proofs.running.run_lines.Goals as goal
 

@@ -3,7 +3,7 @@ use Rattle.lst_disk.specs.Memory.{disk_content, disk_images}
 use Rattle.lst_layout.specs.declared.limits.Limits.{Limits}
 use Rattle.lst_model.specs.Lines.{CallFits}
 use Rattle.lst_model.specs.declared.lines.Line.TheVariants.{Call as CallLine}
-use Rattle.lst_journal.proofs.Staying.{stays_open}
+use Rattle.lst_redo.proofs.Staying.{stays_open}
 use Rattle.lst_bench.proofs.journals.JournaledAnswers.ask.Goals as goal
 
 pub line-requires-clause-fits : goal.line-requires-clause-fits

@@ -1,7 +1,7 @@
 use Rattle.std.proofs.Common.{sym, ◌∙◌, subst}
 use Rattle.lst_layout.specs.declared.limits.Limits.{Limits}
 use Rattle.lst_model.specs.Lines.{LineFits}
-use Rattle.lst_journal.proofs.Staying.{stays_open}
+use Rattle.lst_redo.proofs.Staying.{stays_open}
 use Rattle.lst_test_journal.proofs.driving.Driven.line.Goals as goal
 
 pub line-requires-clause-fits : goal.line-requires-clause-fits

@@ -1,5 +1,5 @@
 use Rattle.std.proofs.Common.{◌≡◌, false}
-use Rattle.lst_journal.specs.Journals.{IsOpenJournal}
+use Rattle.lst_redo.specs.Journals.{IsOpenJournal}
 use Rattle.lst_test_journal.proofs.driving.Driven.play.Given as goal
 
 abbrev pub invariant-loop-line : goal.invariant-loop-line

@@ -1,7 +1,0 @@
-use Rattle.lst_replay.proofs.Counted.{counted_has_room}
-use Rattle.lst_session.specs.Crews.{store_told}
-use Rattle.lst_journal.specs.Journals.{view_of}
-use Rattle.lst_journal.proofs.journal.Redo.close.Goals as goal
-
-pub returns-clause-room : goal.returns-clause-room
-returns-clause-room g c = λ commits journal. counted_has_room (view_of c.args.self).limits (store_told (view_of c.args.self)) commits journal.counted journal.same

@@ -1,5 +1,0 @@
-use Rattle.std.proofs.Common.{rules}
-use Rattle.lst_journal.proofs.opening.refused.Goals as goal
-
-pub returns-clause-damaged : goal.returns-clause-damaged
-returns-clause-damaged g c = search rules

@@ -1,5 +1,0 @@
-use Rattle.std.proofs.Common.{rules}
-use Rattle.lst_recovery.proofs.again.make.Goals as goal
-
-pub returns-in-Del-clause-machine : goal.returns-in-Del-clause-machine
-returns-in-Del-clause-machine c = search rules

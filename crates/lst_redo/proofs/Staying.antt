@@ -1,0 +1,18 @@
+-- A journal stays open until its disk fails.
+use Rattle.std.proofs.Common.{◌≡◌, ◌↔◌, ℕ, true, false, List, Result, Ok, Err, IfOk, OnErr, sym, ap, ◌∙◌, true≢false}
+use Rattle.lst_model.specs.declared.commits.Commit.{Commit}
+use Rattle.lst_model.specs.declared.lines.Line.{Line}
+use Rattle.lst_model.specs.declared.memory.OutOfMemory.{OutOfMemory}
+use Rattle.lst_redo.specs.declared.journal.Kept.{Kept}
+use Rattle.lst_redo.specs.declared.journal.Kept.TheVariants.{DiskFault}
+use Rattle.lst_redo.specs.declared.journal.Redo.{Redo}
+use Rattle.lst_redo.specs.Answers.{commits_after}
+use Rattle.lst_redo.specs.Journals.{view_of, IsJournalOf, IsOpenJournal}
+
+pub stays_open : {D : Type 0} (content : D → List ℕ) (images : D → List ℕ → Type 0) (old new : Redo D) (line : Line) (result : Result Kept OutOfMemory) → IsOpenJournal content images old
+    → ((commits : List Commit) → IsJournalOf content images commits old → IfOk result (λ kept. ¬ (kept ≡ DiskFault) → IsJournalOf content images (commits_after (view_of old) commits line kept) new))
+    → OnErr result ((commits : List Commit) → IsJournalOf content images commits old → IsJournalOf content images commits new)
+    → ((new.failed ≡ true) ↔ (result ≡ Ok DiskFault)) → new.failed ≡ false → IsOpenJournal content images new
+stays_open content images old new line (Ok kept) is_open journal memory failed sound =
+    (commits_after (view_of old) is_open.0 line kept, journal is_open.0 is_open.1 (λ fault. true≢false (sym (failed.1 (ap (λ (k : Kept). Ok k) fault)) ∙ sound)))
+stays_open content images old new line (Err fault) is_open journal memory failed sound = (is_open.0, memory is_open.0 is_open.1)

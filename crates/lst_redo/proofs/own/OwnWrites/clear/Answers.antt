@@ -1,0 +1,11 @@
+use Rattle.std.proofs.Common.{◌∙◌, ℕ, List, [], set, ap}
+use Rattle.lst_model.specs.declared.acts.Write.{Write}
+use Rattle.lst_redo.proofs.Places.{set_set}
+use Rattle.lst_redo.proofs.own.OwnWrites.clear.Goals as goal
+
+pub returns : goal.returns
+returns c =
+    let own : List (List Write) = c.args.self.now in
+    let s : ℕ = c.args.session in
+    c.put.ensures ∙ ap (λ (o : List (List Write)). set o s c.from_items.result) c.take.ensures.left ∙ set_set own s [] c.from_items.result
+    ∙ ap (λ (ws : List Write). set own s ws) (c.from_items.ensures ∙ c.clear.ensures.items)

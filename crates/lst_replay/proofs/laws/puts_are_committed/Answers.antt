@@ -1,5 +1,0 @@
-use Rattle.lst_replay.proofs.Puts.{puts_are_committed}
-use Rattle.lst_replay.proofs.laws.puts_are_committed.Goals as goal
-
-pub returns : goal.returns
-returns c = puts_are_committed c.replayed_commit_may_follow.ensures
