@@ -1,5 +1,6 @@
 -- What a start word says, and that a session which asks for its status only looks.
 use Rattle.std.proofs.Common.{◌≡◌, ◌≢◌, ◌⊎◌, ⊎_elim, inl, inr, ℕ, ◌/◌, ◌%◌, ◌<◌, ◌++◌, List, Bool, true, false, cond, eqb, sym, subst, ap, ◌∙◌, arith, eq-eqb, ne_eqb, slice_index_or}
+use Rattle.std.proofs.lemmas.List.Elements.{All-weaker}
 use mathlib.Core.Logic.{dite}
 use native.Mathlib.Decide.{ℕ_discrete}
 use Rattle.lst_bits.specs.declared.starts.Start.{Start}
@@ -7,6 +8,8 @@ use Rattle.lst_bits.specs.declared.starts.Start.TheVariants.{Empty, At, By}
 use Rattle.lst_bits.specs.Starts.{start_of}
 use Rattle.lst_layout.specs.declared.limits.Limits.{Limits}
 use Rattle.lst_core_state.specs.declared.known.Known.{Known}
+use Rattle.lst_core_state.specs.declared.facts.Find.{Find}
+use Rattle.lst_core_state.specs.declared.facts.Find.TheVariants.{LatchedRecord, FreshClock, FreshEpoch, UnfinishedVersion, HeldTurn, FullRecords, FullTails, CountedTails, EmptyStart, TailLoad}
 use Rattle.lst_core_state.specs.Step.{refreshed}
 use Rattle.lst_core_state.specs.State.{rank}
 use Rattle.lst_rule.specs.declared.store.Store.{Store}
@@ -18,10 +21,10 @@ use Rattle.lst_rule.specs.Rule.{knows, hosts}
 use Rattle.lst_rule.specs.Learned.{Kept}
 use Rattle.lst_rule.specs.Stores.{IsSeatOf}
 use Rattle.lst_rule.specs.Statuses.{IsNamed, Answers, StatusOf}
-use Rattle.lst_rule.specs.Watching.{Watches, Watched}
+use Rattle.lst_rule.specs.Watching.{IsNotFull, Watches, Watched}
 use Rattle.lst_rule.proofs.Watching.{watched_same}
 use Rattle.lst_rule.proofs.AskingWatched.{status_watched}
-use Rattle.lst_history.specs.Peeks.{Peeked, IsReader, Reads}
+use Rattle.lst_history.specs.Peeks.{IsNotFullTable, Peeked, IsReader, Reads}
 use Rattle.lst_history.proofs.Looks.{still}
 
 -- ---- a start word
@@ -51,6 +54,18 @@ start_watched v w s x answer hosted named told = ⊎_elim
     rest)) (watched_same v s))
     (start_cases (λ (a : Start). StatusOf a v w s answer) x told)
 
+not_full : (f : Find) → IsNotFull f → IsNotFullTable f
+not_full FullRecords is = is
+not_full (FullTails range) is = tt
+not_full (LatchedRecord rec) is = tt
+not_full (FreshClock clock) is = tt
+not_full (FreshEpoch epoch) is = tt
+not_full (UnfinishedVersion about tail session number begin) is = tt
+not_full HeldTurn is = tt
+not_full (CountedTails range count) is = tt
+not_full (EmptyStart tail) is = tt
+not_full (TailLoad tail) is = tt
+
 watched_peeked : (u k : Known) → rank u.turn ≡ 0 → Watches u k → Peeked u k
 watched_peeked u k away w = record {
   facts = w.facts;
@@ -60,7 +75,7 @@ watched_peeked u k away w = record {
   counters = w.counters;
   frames = w.frames;
   is = w.is ∙ (λ i. record u { seen = u.seen ++ w.later; turn = same i; counters = w.counters; facts = u.facts ++ w.facts; finds = u.finds ++ w.finds; looks = w.looks; pages = record u.pages { session = w.frames } });
-  room = w.room;
+  room = All-weaker IsNotFull IsNotFullTable not_full w.finds w.room;
   pin = w.pin;
 }
   where

@@ -1,5 +1,6 @@
 -- What a session knows after looks, and that they find the words that the view knows.
-use Rattle.std.proofs.Common.{◌≡◌, ℕ, ◌+◌, ◌<◌, List, [], ◌∷◌, ◌++◌, Bool, true, false, cond, eqb, ◌&&◌, length, refl, sym, subst, ap, ◌∙◌, arith, append_assoc, append-nil, length-append, slice_index_or}
+use Rattle.std.proofs.Common.{◌≡◌, ℕ, ◌+◌, ◌<◌, List, [], ◌∷◌, ◌++◌, Bool, true, false, cond, eqb, nat_lt, ◌&&◌, length, refl, sym, subst, ap, ◌∙◌, arith, append_assoc, append-nil, length-append, slice_index_or}
+use Rattle.std.specs.Prelude.{slice_set}
 use Rattle.std.specs.List.{All}
 use Rattle.std.proofs.lemmas.List.Elements.{All-nil, All-cons, All-append}
 use Rattle.lst_layout.specs.declared.limits.Limits.{Limits}
@@ -18,10 +19,12 @@ use Rattle.lst_model.specs.Histories.{Extends}
 use Rattle.lst_core_state.specs.declared.known.Known.{Known}
 use Rattle.lst_core_state.specs.declared.known.Stage.{Stage}
 use Rattle.lst_core_state.specs.declared.known.Stage.TheVariants.{Away, Taken, Fresh, Logged, Stated, Done}
-use Rattle.lst_core_state.specs.declared.facts.Find.TheVariants.{FreshClock, TailLoad, EmptyStart}
-use Rattle.lst_core_state.specs.Facts.{index_facts, stored_fact, commit_fact, early_find}
-use Rattle.lst_core_state.specs.State.{record_in, history_of, commits_of, mine, rank}
-use Rattle.lst_core_state.specs.Step.{look_at, refreshed, gives_up, given_up}
+use Rattle.lst_core_state.specs.declared.facts.Fact.TheVariants.{TailsAtLeast}
+use Rattle.lst_core_state.specs.declared.facts.Find.{Find}
+use Rattle.lst_core_state.specs.declared.facts.Find.TheVariants.{FreshClock, CountedTails, FullTails, TailLoad, EmptyStart}
+use Rattle.lst_core_state.specs.Facts.{index_facts, range_facts, stored_fact, commit_fact, early_find, unfinished}
+use Rattle.lst_core_state.specs.State.{record_in, history_of, commits_of, mine, rank, counter_of}
+use Rattle.lst_core_state.specs.Step.{look_at, refreshed, served, if_full, is_reading, gives_up, given_up}
 use Rattle.lst_rule.specs.declared.view.View.{View}
 use Rattle.lst_rule.specs.Rule.{knows, Allowed}
 use Rattle.lst_rule.specs.Learned.{Possible}
@@ -30,9 +33,7 @@ use Rattle.lst_rule.proofs.Learning.{learns_on, learns_same, kept_same, kept_on}
 use Rattle.lst_rule.specs.declared.store.Store.{Store}
 use Rattle.lst_rule.specs.Seats.{Sitting}
 use Rattle.lst_rule.specs.Stores.{IsSeatOf, Looked}
-use Rattle.lst_rule.specs.Watching.{IsNotFull}
-use Rattle.lst_rule.proofs.Watching.{clock_not_full}
-use Rattle.lst_history.specs.Peeks.{Peeked, Peeks, words_in, IsReader, Reads}
+use Rattle.lst_history.specs.Peeks.{IsNotFullTable, Peeked, Peeks, words_in, IsReader, Reads}
 
 -- ---- several looks
 
@@ -45,7 +46,7 @@ peeked_same u = record {
   counters = u.counters;
   frames = u.pages.session;
   is = λ i. record u { seen = sym (append-nil u.seen) i; facts = sym (append-nil u.facts) i; finds = sym (append-nil u.finds) i; looks = u.looks };
-  room = All-nil IsNotFull;
+  room = All-nil IsNotFullTable;
   pin = refl;
 }
 
@@ -66,7 +67,7 @@ peeked_on u v w a b = record {
         looks = b.looks;
         pages = record u.pages { session = b.frames };
       }));
-  room = All-append IsNotFull a.finds b.finds a.room b.room;
+  room = All-append IsNotFullTable a.finds b.finds a.room b.room;
   pin = b.pin ∙ (ap (λ (k : Known). k.pages.session.pin) a.is ∙ a.pin);
 }
 
@@ -93,12 +94,13 @@ same_words store a b s x = λ i. shown (x.limits i) (x.words i)
 
 -- ---- one look
 
--- a word that says something of the history
+-- a word that says something of the history, or of which tail records it may have
 abbrev pub IsTelling : Place → Type 0
 IsTelling ClockWord = Unit {0}
 IsTelling (LogWord t) = Unit {0}
 IsTelling (BeginWord s n) = Unit {0}
 IsTelling (KeyWord r) = Unit {0}
+IsTelling (TailCounter r) = Unit {0}
 IsTelling (CellWord t p) = Unit {0}
 IsTelling p = ⊥
 
@@ -118,9 +120,15 @@ no_give false false c d e = refl
 keeps_hand : (u : Known) (r key : ℕ) → u.placing.has_key ≡ false → cond (gives_up u r key) (given_up u) u ≡ u
 keeps_hand u r key none = ap (λ (b : Bool). cond b (given_up u) u) (no_give (eqb u.placing.hand (r + 1)) u.placing.has_key (eqb key u.placing.key) (eqb u.looks.index (r + 1)) none)
 
-empty_not_full : (b : Bool) (t : ℕ) → All IsNotFull (cond b (EmptyStart t ∷ []) [])
-empty_not_full true t = All-cons IsNotFull (EmptyStart t) [] tt (All-nil IsNotFull)
-empty_not_full false t = All-nil IsNotFull
+maybe_not_full : (b : Bool) (f : Find) → IsNotFullTable f → All IsNotFullTable (cond b (f ∷ []) [])
+maybe_not_full true f is = All-cons IsNotFullTable f [] is (All-nil IsNotFullTable)
+maybe_not_full false f is = All-nil IsNotFullTable
+
+-- a range may be found full
+range_not_full : (reading low : Bool) (r : ℕ) → All IsNotFullTable (cond reading [] (cond low [] (FullTails r ∷ [])))
+range_not_full true low r = All-nil IsNotFullTable
+range_not_full false true r = All-nil IsNotFullTable
+range_not_full false false r = All-cons IsNotFullTable (FullTails r) [] tt (All-nil IsNotFullTable)
 
 module _ (l : Limits) (w : Words) (u : Known) (away : rank u.turn ≡ 0) (none : u.placing.has_key ≡ false) where
   look_peeked : (p : Place) → Extends (history_of l w) u.seen → IsTelling p → Peeked u (look_at l w u p)
@@ -132,7 +140,7 @@ module _ (l : Limits) (w : Words) (u : Known) (away : rank u.turn ≡ 0) (none :
     counters = u.counters;
     frames = u.pages.session;
     is = λ i. record u { seen = all.1 i; turn = still u.turn away i; facts = u.facts ++ index_facts l w; finds = u.finds ++ FreshClock w.clock ∷ early_find u w.clock; looks = u.looks };
-    room = clock_not_full u w.clock;
+    room = All-cons IsNotFullTable (FreshClock w.clock) (early_find u w.clock) tt (maybe_not_full (nat_lt (w.clock + 1) u.looks.state) (unfinished u u.looks.session u.looks.number) tt);
     pin = refl;
   }
   look_peeked (LogWord t) all is = peeked_same u
@@ -151,7 +159,23 @@ module _ (l : Limits) (w : Words) (u : Known) (away : rank u.turn ≡ 0) (none :
       finds = u.finds ++ TailLoad t ∷ cond (eqb p 0 && eqb (w.cells t 0) 0) (EmptyStart t ∷ []) [];
       looks = cond (eqb p 0) (record u.looks { start = w.cells t 0; about = record_in l w.cells t + 1; tail = t }) u.looks;
     };
-    room = All-cons IsNotFull (TailLoad t) (cond (eqb p 0 && eqb (w.cells t 0) 0) (EmptyStart t ∷ []) []) tt (empty_not_full (eqb p 0 && eqb (w.cells t 0) 0) t);
+    room = All-cons IsNotFullTable (TailLoad t) (cond (eqb p 0 && eqb (w.cells t 0) 0) (EmptyStart t ∷ []) []) tt (maybe_not_full (eqb p 0 && eqb (w.cells t 0) 0) (EmptyStart t) tt);
+    pin = refl;
+  }
+  look_peeked (TailCounter r) all is = record {
+    facts = TailsAtLeast r (w.counts r) ∷ cond (is_reading u) (range_facts l w r) [];
+    finds = CountedTails r (w.counts r) ∷ cond (is_reading u) [] (if_full l.tails (w.counts r) (FullTails r));
+    later = [];
+    looks = u.looks;
+    counters = slice_set u.counters r (served l.tails (w.counts r) (counter_of u r));
+    frames = u.pages.session;
+    is = λ i. record u {
+      seen = sym (append-nil u.seen) i;
+      counters = slice_set u.counters r (served l.tails (w.counts r) (counter_of u r));
+      facts = u.facts ++ TailsAtLeast r (w.counts r) ∷ cond (is_reading u) (range_facts l w r) [];
+      finds = u.finds ++ CountedTails r (w.counts r) ∷ cond (is_reading u) [] (if_full l.tails (w.counts r) (FullTails r));
+    };
+    room = All-cons IsNotFullTable (CountedTails r (w.counts r)) (cond (is_reading u) [] (if_full l.tails (w.counts r) (FullTails r))) tt (range_not_full (is_reading u) (nat_lt (w.counts r) l.tails) r);
     pin = refl;
   }
   look_peeked CommitWord all is = absurd is
@@ -160,7 +184,6 @@ module _ (l : Limits) (w : Words) (u : Known) (away : rank u.turn ≡ 0) (none :
   look_peeked RecordCounter all is = absurd is
   look_peeked (IndexWord q) all is = absurd is
   look_peeked (HeadWord r) all is = absurd is
-  look_peeked (TailCounter r) all is = absurd is
   look_peeked (DirectoryWord r c) all is = absurd is
   look_peeked (FrameWord f c) all is = absurd is
   look_peeked (PinWord s) all is = absurd is
@@ -178,7 +201,7 @@ module _ (l : Limits) (w : Words) (u : Known) (away : rank u.turn ≡ 0) (none :
   look_owns s RecordCounter own is = absurd is
   look_owns s (IndexWord q) own is = absurd is
   look_owns s (HeadWord r) own is = absurd is
-  look_owns s (TailCounter r) own is = absurd is
+  look_owns s (TailCounter r) own is = refl
   look_owns s (DirectoryWord r c) own is = absurd is
   look_owns s (FrameWord f c) own is = absurd is
   look_owns s (PinWord j) own is = absurd is

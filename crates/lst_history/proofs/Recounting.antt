@@ -1,8 +1,10 @@
 -- A seat that hosts everybody takes stock of all words before it reads the history.
-use Rattle.std.proofs.Common.{◌≡◌, ℕ, zero, suc, ◌<◌, List, [], ◌∷◌, ◌++◌, map, true, sym, refl, subst, ap, ◌∙◌, arith}
+use Rattle.std.proofs.Common.{◌≡◌, ℕ, zero, suc, ◌<◌, ◌≤◌, List, [], ◌∷◌, ◌++◌, map, true, Contains, sym, refl, subst, ap, ◌∙◌, arith}
 use Rattle.std.proofs.lemmas.List.{map-append}
 use Rattle.lst_model.specs.declared.commits.Commit.{Commit}
 use Rattle.lst_model.specs.declared.acts.Write.{Write}
+use Rattle.lst_core_state.specs.declared.known.Known.{Known}
+use Rattle.lst_core_state.specs.declared.facts.Find.TheVariants.{FullTails}
 use Rattle.lst_core_state.specs.State.{rank, history, history_of, commit_at}
 use Rattle.lst_rule.specs.declared.view.View.{View}
 use Rattle.lst_rule.specs.declared.store.Store.{Store}
@@ -10,6 +12,8 @@ use Rattle.lst_rule.specs.Rule.{knows, hosts}
 use Rattle.lst_rule.specs.Seats.{Sitting}
 use Rattle.lst_rule.specs.Stores.{IsSeatOf}
 use Rattle.lst_rule.specs.Surveys.{HostsAll, Surveyed}
+use Rattle.lst_rule.specs.Learned.{Possible}
+use Rattle.lst_rule.proofs.Knowing.{knows_own, whole_words}
 use Rattle.lst_rule.proofs.Surveying.{survey_kept}
 use Rattle.lst_history.specs.Commits.{without_writes}
 use Rattle.lst_history.specs.Peeks.{words_in, IsReader, Reads, Recounts}
@@ -29,12 +33,18 @@ stock_reader store a b s seat t all own hand turn = record { seat_of = seat; hos
     m : MayRead b.view s
     m = subst (λ (v : View). MayRead v s) (sym t.now) record { host = all s (omega arith); own = own; whole = refl; hand = hand; turn = turn }
 
-pub recounts : (store : Store) (a b c : Sitting) (s : ℕ) → Surveyed a.view b.view → Reads store b c s → Recounts a.view c.view s
-recounts store a b c s t reads = record {
+-- a range that was found full is full
+full_is : (store : Store) (c : Sitting) (s : ℕ) → IsReader store c s → Possible c.view → (range : ℕ) → Contains (knows c.view s).finds (FullTails range) → c.view.limits.tails ≤ (words_in c.view).counts range
+full_is store c s reader p range has = let a = whole_words c.view p.words p.known p.merger p.allowed reader.whole in let low = reader.own in
+    (a.sound.found s reader.own).each (FullTails range) (subst (λ (k : Known). Contains k.finds (FullTails range)) (knows_own c.view c.view.words p.known p.merger a s reader.host (λ e. omega arith)) has)
+
+pub recounts : (store : Store) (a b c : Sitting) (s : ℕ) → Surveyed a.view b.view → Reads store b c s → Possible c.view → Recounts a.view c.view s
+recounts store a b c s t reads p = record {
   between = b.view;
   surveyed = t;
   peeks = reads.peeks;
   whole = reads.reader.whole;
+  full = full_is store c s reads.reader p;
   kept = record { words = λ whole. reads.words ∙ (survey_kept a.view b.view t).words whole };
 }
 

@@ -1,5 +1,5 @@
 -- The commits with the writes of the first tails, which commit the write of a tail is of, and the order that a commit has its writes in.
-use Rattle.std.specs.Prelude.{◌≡◌, ℕ, zero, suc, ◌<◌, ◌≤◌, List, [], ◌∷◌, ◌++◌, cond, false, eqb}
+use Rattle.std.specs.Prelude.{◌≡◌, ◌⊎◌, ℕ, zero, suc, ◌<◌, ◌≤◌, List, [], ◌∷◌, ◌++◌, cond, false, eqb}
 use Rattle.lst_layout.specs.declared.limits.Limits.{Limits}
 use Rattle.lst_model.specs.declared.acts.Write.{Write}
 use Rattle.lst_model.specs.declared.commits.Commit.{Commit}
@@ -57,3 +57,7 @@ abbrev pub entered : List Commit → ℕ → Write → List Commit
 entered [] i x = []
 entered (c ∷ cs) zero x = with_write c x ∷ cs
 entered (c ∷ cs) (suc i) x = c ∷ entered cs i x
+
+-- so many tails of the range are drawn: as many as its counter has, which may have passed the limit, or all
+abbrev pub IsDrawn : Limits → Words → ℕ → ℕ → Type 0
+IsDrawn l w range n = (n ≤ l.tails) × (n ≤ w.counts range) × ((n ≡ l.tails) ⊎ (n ≡ w.counts range))

@@ -32,7 +32,9 @@ pub fn history_without_writes(
     ensures seen { IfOk result (λ all. (knows seat.new.view s).seen ≡ history_of seat.new.view.limits (words_in seat.new.view)) }
 {
     survey(store, seat);
-    recount_bare(alloc, store, seat, s)
+    let all = recount_bare(alloc, store, seat, s);
+    seat.consider();
+    all
 }
 
 /// The commits of the words that the seat knows, without their writes.

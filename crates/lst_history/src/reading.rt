@@ -1,5 +1,5 @@
 //! The history.
-ghost use Rattle.std.specs.Prelude.{◌≡◌, ◌+◌, ◌<◌, IfOk, OnOk};
+ghost use Rattle.std.specs.Prelude.{◌≡◌, ◌+◌, ◌*◌, ◌<◌, IfOk, OnOk};
 ghost use Rattle.lst_core_state.specs.Cells.{tail_count};
 ghost use Rattle.lst_core_state.specs.State.{history_of, rank};
 ghost use Rattle.lst_rule.specs.Rule.{knows};
@@ -12,9 +12,9 @@ use crate::commits::commits_until;
 use crate::joins::enter;
 use crate::sorting::sort_all;
 use crate::tails::{commit_time, tail_write};
-use crate::words::clock;
+use crate::words::{clock, drawn_tails};
 use lst_model::{Commit, History, OutOfMemory};
-use lst_rule::{Seat, Store, survey};
+use lst_rule::{Seat, Store, survey, tail_of};
 use std::alloc::Global;
 
 /// The history of the store, as its log and its tail records have it: each commit at its time, with its writes by key. The seat hosts every
@@ -38,7 +38,9 @@ pub fn history(
     ensures seen { IfOk result (λ all. (knows seat.new.view s).seen ≡ history_of seat.new.view.limits (words_in seat.new.view)) }
 {
     survey(store, seat);
-    recount(alloc, store, seat, s)
+    let all = recount(alloc, store, seat, s);
+    seat.consider();
+    all
 }
 
 /// The history of the words that the seat knows.
@@ -50,14 +52,37 @@ fn recount(alloc: Global, store: &Store, seat: &mut Seat, s: u32) -> Result<Hist
 {
     seat.consider();
     let clock = clock(store, seat, s);
-    let tails = seat.limits().tail_count();
+    let ranges = store.layout().limits.ranges;
     let mut commits = commits_until(alloc, store, seat, s, clock)?;
-    for done in 0..tails {
-        enter_tail(store, seat, s, done as u32, &mut commits)?;
+    for range in 0..ranges {
+        enter_range(store, seat, s, range, &mut commits)?;
     }
     sort_all(alloc, commits.as_mut_slice())?;
     seat.consider();
     Ok(History::from_items(commits))
+}
+
+/// Puts the writes of a range's tail records behind those of their commits. One that isn't drawn has no write, so the range's tail counter bounds the loop.
+fn enter_range(
+    store: &Store,
+    seat: &mut Seat,
+    s: u32,
+    range: u32,
+    commits: &mut Vec<Commit>,
+) -> Result<(), OutOfMemory>
+    requires reader { IsReader store.now seat.old s }
+    requires range { range < seat.old.view.limits.ranges }
+    requires commits { commits.old.items ≡ gathered_until seat.old.view.limits (words_in seat.old.view) (range * seat.old.view.limits.tails) }
+    ensures reads { Reads store.now seat.old seat.new s }
+    ensures ok { OnOk result (commits.new.items ≡ gathered_until seat.old.view.limits (words_in seat.old.view) ((range + 1) * seat.old.view.limits.tails)) }
+{
+    seat.consider();
+    let drawn = drawn_tails(store, seat, s, range);
+    for done in 0..drawn {
+        let before = tail_of(store, range, done);
+        enter_tail(store, seat, s, before, commits)?;
+    }
+    Ok(())
 }
 
 /// Puts the write of the next tail record behind those of its commit, where it has one. `done` counts the tail records before it.

@@ -2,11 +2,12 @@
 ghost use Rattle.std.specs.Prelude.{◌≡◌, ◌<◌, ◌≤◌};
 ghost use Rattle.lst_layout.specs.Addresses as layout;
 ghost use Rattle.lst_layout.specs.declared.place.Place.TheVariants.{BeginWord, KeyWord, CellWord};
+ghost use Rattle.lst_history.specs.Commits.{IsDrawn};
 ghost use Rattle.lst_core_state.specs.State.{history_of};
 ghost use Rattle.lst_rule.specs.Rule.{knows};
 ghost use Rattle.lst_history.specs.Peeks.{words_in, IsReader, Reads};
 
-use lst_rule::{Seat, Store, load, load_cell, load_clock, load_key};
+use lst_rule::{Seat, Store, load, load_cell, load_clock, load_key, load_tail_counter};
 
 /// The number of commits. The session has then seen each of them.
 pub(crate) fn clock(store: &Store, seat: &mut Seat, s: u32) -> u64
@@ -59,4 +60,20 @@ pub(crate) fn cell_word(store: &Store, seat: &mut Seat, s: u32, tail: u32, place
     ensures word { result ≡ (words_in seat.old.view).cells tail place }
 {
     load_cell(store, seat, s, tail, place)
+}
+
+/// How many tail records of a range are drawn. The range's tail counter may have passed the limit.
+pub(crate) fn drawn_tails(store: &Store, seat: &mut Seat, s: u32, range: u32) -> u32
+    requires reader { IsReader store.now seat.old s }
+    requires range { range < seat.old.view.limits.ranges }
+    ensures reads { Reads store.now seat.old seat.new s }
+    ensures drawn { IsDrawn seat.old.view.limits (words_in seat.old.view) range result }
+{
+    let tails = store.layout().limits.tails;
+    let counter = load_tail_counter(store, seat, s, range);
+    if counter < tails as u64 {
+        counter as u32
+    } else {
+        tails
+    }
 }

@@ -1,6 +1,10 @@
 -- What the parts of a call tell, handed on.
-use Rattle.std.proofs.Common.{◌≡◌, ℕ, zero, suc, ◌↔◌, ◌<◌, Bool, true, false, Result, Err, refl, sym, ap, ◌∙◌, arith, nat_lt, lt-ltb, true≢false}
+use Rattle.std.proofs.Common.{◌≡◌, ◌≢◌, ℕ, zero, suc, ◌<◌, Bool, true, false, Result, Err, length, refl, sym, ap, ◌∙◌, arith, nat_lt, lt-ltb, true≢false}
+use Rattle.lst_layout.specs.declared.limits.Limits.{Limits}
 use Rattle.lst_core_state.specs.declared.known.Known.{Known}
+use Rattle.lst_rule.specs.declared.view.View.{View}
+use Rattle.lst_rule.specs.Rule.{knows}
+use Rattle.lst_retire.specs.Pins.{Pins}
 use Rattle.lst_refinement.specs.Crews.{IsIdle, IsPinnedWhereOpen}
 use Rattle.lst_txn.specs.Transactions.{IsFree}
 use Rattle.lst_txn.proofs.Refusing.{not_false}
@@ -8,22 +12,8 @@ use Rattle.lst_txn.specs.declared.ends.TurnFault.{TurnFault}
 use Rattle.lst_txn.specs.declared.ends.TurnFault.TheVariants as turns
 use Rattle.lst_session.specs.declared.kinds.CommitRefusal.{CommitRefusal}
 use Rattle.lst_session.specs.declared.kinds.CommitRefusal.TheVariants as refusals
-use Rattle.lst_txn.specs.declared.begins.BeginFault.{BeginFault}
 
 -- ---- an answer is one thing and no other
-
--- what may_begin refuses, its caller refuses
-fault_is : (A : Type 0) (r : Result A BeginFault) (f g : BeginFault) → r ≡ Err f → r ≡ Err g → f ≡ g
-fault_is A r f g is same = cc
-
-pub refused_there : (f g : BeginFault) → ◌≡◌ {A = Result ℕ BeginFault} (Err f) (Err g) → ◌≡◌ {A = Result (Unit {0}) BeginFault} (Err f) (Err g)
-refused_there f g same = ap (λ (x : BeginFault). Err x) (fault_is ℕ (Err f) f g refl same)
-
-pub refused_here : (f g : BeginFault) → ◌≡◌ {A = Result (Unit {0}) BeginFault} (Err f) (Err g) → ◌≡◌ {A = Result ℕ BeginFault} (Err f) (Err g)
-refused_here f g same = ap (λ (x : BeginFault). Err x) (fault_is (Unit {0}) (Err f) f g refl same)
-
-pub refused_as : (f g : BeginFault) (P : Type 0) → (◌≡◌ {A = Result (Unit {0}) BeginFault} (Err f) (Err g)) ↔ P → (◌≡◌ {A = Result ℕ BeginFault} (Err f) (Err g)) ↔ P
-refused_as f g P h = (λ e. h.0 (refused_there f g e), λ p. refused_here f g (h.1 p))
 
 pub busy_idle : (A : Type 0) (r : Result A CommitRefusal) → r ≡ Err refusals.Busy → ¬ (r ≡ Err refusals.Idle)
 busy_idle A r is same = cc
@@ -46,6 +36,16 @@ unpinned k pinned closed = no_pin k.pages.session.pin (λ h. not_false k.is_open
   where
     no_pin : (n : ℕ) → ¬ (0 < n) → n ≡ 0
     no_pin n none = omega (arith, none)
+
+-- once it is pinned, it has seen no more, and no transaction of it has begun
+pub pinned_closed : (v w : View) (s : ℕ) → Pins v w s → (knows v s).is_open ≡ false → (knows w s).is_open ≡ false
+pinned_closed v w s pins closed = ap (λ (k : Known). k.is_open) pins.view.now ∙ closed
+
+pub pinned_more : (v w : View) (s : ℕ) → Pins v w s → (knows v s).number ≢ v.limits.txns → (knows w s).number ≢ w.limits.txns
+pinned_more v w s pins more same = more (sym (ap (λ (k : Known). k.number) pins.view.now) ∙ (same ∙ ap (λ (l : Limits). l.txns) pins.view.limits))
+
+pub pinned_seen : (v w : View) (s : ℕ) → Pins v w s → length (knows w s).seen ≡ length (knows v s).seen
+pinned_seen v w s pins = ap (λ (k : Known). length k.seen) pins.view.now
 
 pub some_writes : (b : Bool) (n : ℕ) → b ≡ nat_lt 0 n → b ≡ true → 0 < n
 some_writes b zero is same = absurd cc

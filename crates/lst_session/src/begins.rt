@@ -1,5 +1,5 @@
 //! A transaction begins, with its session pinned.
-ghost use Rattle.std.specs.Prelude.{◌≡◌, ◌≢◌, ◌⊎◌, ℕ, ◌↔◌, ◌<◌, ◌≤◌, true, false, IfOk, OnOk, OnErr, Err, length};
+ghost use Rattle.std.specs.Prelude.{◌≡◌, ◌⊎◌, ℕ, ◌↔◌, ◌<◌, ◌≤◌, true, false, IfOk, OnErr, Err, length};
 ghost use Rattle.lst_rule.specs.Rule.{knows, hosts};
 ghost use Rattle.lst_rule.specs.Stores.{IsSeatOf};
 ghost use Rattle.lst_txn.specs.Transactions.{Sees};
@@ -9,24 +9,7 @@ ghost use Rattle.lst_session.specs.Traces.{Begins, BeginsAsOf};
 use lst_model::Time;
 use lst_retire::pin;
 use lst_rule::{Seat, Store, load_clock};
-use lst_txn::BeginFault;
-
-/// Whether the session may begin another transaction: none is open, and it has begun fewer than it may.
-fn may_begin(seat: &Seat, s: u32) -> Result<(), BeginFault>
-    requires { hosts seat.now.view s ≡ true }
-    ensures ok { OnOk result (((knows seat.now.view s).is_open ≡ false) × ((knows seat.now.view s).number ≢ seat.now.view.limits.txns)) }
-    ensures active { (result ≡ Err BeginFault.Active) ↔ ((knows seat.now.view s).is_open ≡ true) }
-    ensures spent { (result ≡ Err BeginFault.Spent) ↔ (((knows seat.now.view s).is_open ≡ false) × ((knows seat.now.view s).number ≡ seat.now.view.limits.txns)) }
-    ensures future { (clock : ℕ) → ¬ (result ≡ Err (BeginFault.Future clock)) }
-{
-    if seat.is_open(s) {
-        return Err(BeginFault::Active);
-    }
-    if seat.number(s) == seat.limits().txns {
-        return Err(BeginFault::Spent);
-    }
-    Ok(())
-}
+use lst_txn::{BeginFault, may_begin, open};
 
 /// Pins the session at an epoch that is loaded in this call, begins its next transaction, and answers its begin: a clock that is loaded after
 /// that. Active comes exactly where a transaction of the session is open; Spent, where none is and the session has begun as many as it may;
@@ -48,10 +31,9 @@ pub(crate) fn begin(store: &Store, seat: &mut Seat, s: u32) -> Result<Time, Begi
         return Err(fault);
     }
     pin(store, seat, s);
-    match lst_txn::begin(store, seat, s) {
-        Ok(time) => Ok(time),
-        Err(_) => unreachable!(),
-    }
+    let begin = load_clock(store, seat, s);
+    open(store, seat, s, begin, false);
+    Ok(begin)
 }
 
 /// Opens a read-only transaction as of a time, which is its begin, with its session pinned. Active and Spent come as of `begin`, before any
@@ -80,8 +62,7 @@ pub(crate) fn as_of(store: &Store, seat: &mut Seat, s: u32, time: Time) -> Resul
         return Err(BeginFault::Future { clock });
     }
     pin(store, seat, s);
-    match lst_txn::as_of(store, seat, s, time) {
-        Ok(time) => Ok(time),
-        Err(_) => unreachable!(),
-    }
+    let _ = load_clock(store, seat, s);
+    open(store, seat, s, time, true);
+    Ok(time)
 }

@@ -4,10 +4,11 @@ ghost use Rattle.std.specs.Prelude.{◌≡◌, ◌⊎◌, ◌↔◌, ◌<◌, tr
 ghost use Rattle.lst_rule.specs.Rule.{knows, hosts};
 ghost use Rattle.lst_rule.specs.Stores.{IsSeatOf};
 ghost use Rattle.lst_rule.specs.Seen.{HasKey};
+ghost use Rattle.lst_rule.specs.Loads.{ChainFound};
 ghost use Rattle.lst_refinement.specs.Crews.{IsIdle};
 ghost use Rattle.lst_write.specs.Cells.{IsActFor};
 ghost use Rattle.lst_write.specs.Holding.{HasLatch};
-ghost use Rattle.lst_write.specs.Judgements.{HasChain, HasJudged};
+ghost use Rattle.lst_walk.specs.Newest.{IsNewest};
 ghost use Rattle.lst_session.specs.Traces as traces;
 ghost use Rattle.lst_session.specs.Traces.{misfit_of, Agrees, Prepares, Tries, Inserts, Changes};
 
@@ -17,14 +18,16 @@ use lst_model::{Act, Key};
 use lst_rule::{RecordId, Seat, Store};
 use lst_second::post_all;
 use lst_walk::has_row;
-use lst_write::{JudgeFault, append, install, judge, latch, release};
+use lst_write::{JudgeFault, append, install, judged_version, latch, release};
 
-/// Whether an act fits the row of a record that the transaction sees: a put where there is none, any other where there is one.
+/// Whether an act fits the row of a record that the transaction sees: a put where there is none, any other where there is one. The newest version that it
+/// sees is named by its tail record.
 fn agree(
     store: &Store,
     seat: &mut Seat,
     s: u32,
     rec: RecordId,
+    newest: Option<u32>,
     key: Key,
     act: &Act,
 ) -> Result<(), WriteRefusal>
@@ -32,13 +35,13 @@ fn agree(
     requires host { hosts seat.old.view s ≡ true }
     requires own { s < seat.old.view.limits.sessions }
     requires opened { (knows seat.old.view s).is_open ≡ true }
+    requires newest { IsNewest seat.old.view s rec.number newest }
     requires placed { HasKey (knows seat.old.view s).facts rec.number key }
     ensures seat { IsSeatOf store.now seat.new }
     ensures agrees { Agrees seat.old.view seat.new.view s key act.now result }
 {
-    seat.consider();
     let _ = key;
-    let is_there = has_row(store, seat, s, rec);
+    let is_there = has_row(store, seat, s, rec, newest);
     if is_there == is_put(act) {
         return Err(misfit(act));
     }
@@ -77,20 +80,22 @@ fn prepare(
     requires own { s < seat.old.view.limits.sessions }
     requires opened { (knows seat.old.view s).is_open ≡ true }
     requires latch { HasLatch (knows seat.old.view s) rec.number head }
-    requires chain { HasChain seat.old.view.limits (knows seat.old.view s) rec.number head }
+    requires chain { ChainFound seat.old.view.limits (knows seat.old.view s) s rec.number head }
     requires placed { HasKey (knows seat.old.view s).facts rec.number key }
     requires act { IsActFor seat.old.view.limits.columns act.now }
     ensures seat { IsSeatOf store.now seat.new }
     ensures prepares { Prepares seat.old.view seat.new.view s rec.number head key act.now result }
 {
-    match judge(store, seat, s, rec, head) {
-        Ok(()) => seat.consider(),
+    seat.consider();
+    let newest = match judged_version(store, seat, s, rec, head) {
+        Ok(newest) => newest,
         Err(JudgeFault::Newer { time }) => return Err(WriteRefusal::Newer { time }),
         Err(JudgeFault::Unfinished { session, number }) => {
             return Err(WriteRefusal::Unfinished { session, number });
         }
-    }
-    if let Err(refusal) = agree(store, seat, s, rec, key, act) {
+    };
+    seat.consider();
+    if let Err(refusal) = agree(store, seat, s, rec, newest, key, act) {
         return Err(refusal);
     }
     seat.consider();

@@ -3,11 +3,11 @@ use Rattle.std.proofs.Common.{◌≡◌, ◌≢◌, ℕ, ◌↔◌, ◌<◌, ◌
 use Rattle.std.specs.Prelude.{Result, Ok, Err}
 use Rattle.lst_layout.specs.declared.limits.Limits.{Limits}
 use Rattle.lst_core_state.specs.declared.known.Known.{Known}
-use Rattle.lst_core_state.specs.declared.events.Event.TheVariants.{Begin}
-use Rattle.lst_core_state.specs.Step.{Enabled, took, held_off}
+use Rattle.lst_core_state.specs.Step.{took, held_off}
 use Rattle.lst_rule.specs.declared.view.View.{View}
 use Rattle.lst_rule.specs.Rule.{knows, hosts}
-use Rattle.lst_rule.specs.Learned.{Learns, Kept}
+use Rattle.lst_rule.specs.Learned.{Possible, Learns, Kept}
+use Rattle.lst_rule.proofs.Knowing.{knows_own}
 use Rattle.lst_rule.specs.Stores.{Clocked, Tried}
 use Rattle.lst_txn.specs.declared.begins.BeginFault.{BeginFault}
 use Rattle.lst_txn.specs.declared.begins.BeginFault.TheVariants.{Active, Spent, Future}
@@ -26,14 +26,8 @@ not_true o is same = cc
 pub ok_err : (A E : Type 0) (a : A) (e : E) → ¬ (Ok a ≡ Err e)
 ok_err A E a e same = cc
 
-pub active_spent : (r : Result ℕ BeginFault) → r ≡ Err Active → ¬ (r ≡ Err Spent)
-active_spent r is same = cc
-
 pub active_future : (r : Result ℕ BeginFault) (clock : ℕ) → r ≡ Err Active → ¬ (r ≡ Err (Future clock))
 active_future r clock is same = cc
-
-pub spent_active : (r : Result ℕ BeginFault) → r ≡ Err Spent → ¬ (r ≡ Err Active)
-spent_active r is same = cc
 
 pub spent_future : (r : Result ℕ BeginFault) (clock : ℕ) → r ≡ Err Spent → ¬ (r ≡ Err (Future clock))
 spent_future r clock is same = cc
@@ -50,16 +44,34 @@ hosts_on v w s t k l h = ap (λ (bs : List Bool). slice_index_or bs t false) l.h
 pub own_on : (v w : View) (s t : ℕ) (k : Known) → Learns v w s k → t < v.limits.sessions → t < w.limits.sessions
 own_on v w s t k l h = subst (λ (m : Limits). t < m.sessions) (sym l.limits) h
 
--- after a load of the clock the next transaction may begin
-pub may_open : (v u : View) (s x b n : ℕ) (r o : Bool) (l : Limits) → Clocked v u s x → o ≡ (knows v s).is_open → o ≡ false → n ≡ (knows v s).number → n ≤ v.limits.txns → l ≡ v.limits → n ≢ l.txns → b ≤ x
-    → Enabled u.limits (knows u s) (Begin s b r)
-may_open v u s x b n r o l c opened closed number few limits more early = (
-  ap (λ (k : Known). k.is_open) c.view.now ∙ (sym opened ∙ closed),
-  let e : (knows u s).number ≡ (knows v s).number = ap (λ (k : Known). k.number) c.view.now in
-      let f : u.limits.txns ≡ v.limits.txns = ap (λ (m : Limits). m.txns) c.view.limits in
-      let g : l.txns ≡ v.limits.txns = ap (λ (m : Limits). m.txns) limits in omega arith,
-  let e : length (knows u s).seen ≡ x = ap (λ (k : Known). length k.seen) c.view.now ∙ c.clock in omega arith,
-)
+pub few_begun : (v : View) (s : ℕ) → Possible v → hosts v s ≡ true → s < v.limits.sessions → (knows v s).number ≤ v.limits.txns
+few_begun v s p host low = subst (λ (k : Known). k.number ≤ v.limits.txns) (sym (knows_own v p.words p.known p.merger p.allowed s host (λ e. omega arith))) (p.allowed.sound.each s low).few
+
+-- after a load of the clock nothing else has changed than what the session has seen, which is as long as the clock says
+pub seen_until : (v u : View) (s x : ℕ) → Clocked v u s x → length (knows u s).seen ≡ x
+seen_until v u s x c = ap (λ (k : Known). length k.seen) c.view.now ∙ c.clock
+
+pub closed_on : (v u : View) (s x : ℕ) → Clocked v u s x → (knows v s).is_open ≡ false → (knows u s).is_open ≡ false
+closed_on v u s x c closed = ap (λ (k : Known). k.is_open) c.view.now ∙ closed
+
+pub more_on : (v u : View) (s x : ℕ) → Clocked v u s x → (knows v s).number ≢ v.limits.txns → (knows u s).number ≢ u.limits.txns
+more_on v u s x c more same = more (sym (ap (λ (k : Known). k.number) c.view.now) ∙ (same ∙ ap (λ (m : Limits). m.txns) c.view.limits))
+
+-- ---- what may_begin refuses, its caller refuses
+
+fault_is : (A : Type 0) (r : Result A BeginFault) (f g : BeginFault) → r ≡ Err f → r ≡ Err g → f ≡ g
+fault_is A r f g is same = cc
+
+pub refused_there : (f g : BeginFault) → ◌≡◌ {A = Result ℕ BeginFault} (Err f) (Err g) → ◌≡◌ {A = Result (Unit {0}) BeginFault} (Err f) (Err g)
+refused_there f g same = ap (λ (x : BeginFault). Err x) (fault_is ℕ (Err f) f g refl same)
+
+pub refused_here : (f g : BeginFault) → ◌≡◌ {A = Result (Unit {0}) BeginFault} (Err f) (Err g) → ◌≡◌ {A = Result ℕ BeginFault} (Err f) (Err g)
+refused_here f g same = ap (λ (x : BeginFault). Err x) (fault_is (Unit {0}) (Err f) f g refl same)
+
+pub refused_as : (f g : BeginFault) (P : Type 0) → (◌≡◌ {A = Result (Unit {0}) BeginFault} (Err f) (Err g)) ↔ P → (◌≡◌ {A = Result ℕ BeginFault} (Err f) (Err g)) ↔ P
+refused_as f g P h = (λ e. h.0 (refused_there f g e), λ p. refused_here f g (h.1 p))
+
+-- ---- a try to take the turn
 
 pub tried_busy : (v w : View) (s x : ℕ) → Tried v w s x → x ≢ 0 → Learns v w s (held_off (knows v s)) × Kept v w
 tried_busy v w s x t more = (subst (λ (b : Bool). Learns v w s (cond b (took (knows v s)) (held_off (knows v s)))) (ne_eqb x 0 more) t.view, t.kept (omega (arith, more)))

@@ -1,7 +1,8 @@
 //! A transaction begins.
-ghost use Rattle.std.specs.Prelude.{◌≡◌, ◌⊎◌, ℕ, ◌↔◌, ◌<◌, ◌≤◌, true, false, IfOk, OnErr, Err, length};
+ghost use Rattle.std.specs.Prelude.{◌≡◌, ◌≢◌, ◌⊎◌, ℕ, ◌↔◌, ◌<◌, ◌≤◌, true, false, IfOk, OnOk, OnErr, Err, length};
+ghost use Rattle.lst_rule.specs.declared.view.View.{View};
 ghost use Rattle.lst_rule.specs.Rule.{knows, hosts};
-ghost use Rattle.lst_rule.specs.Stores.{IsSeatOf};
+ghost use Rattle.lst_rule.specs.Stores.{IsSeatOf, Clocked};
 ghost use Rattle.lst_txn.specs.Transactions.{Sees, Opens};
 
 use lst_model::Time;
@@ -18,6 +19,40 @@ pub enum BeginFault {
     Future { clock: Time },
 }
 
+/// Whether the session may begin another transaction: none is open, and it has begun fewer than it may.
+pub fn may_begin(seat: &Seat, s: u32) -> Result<(), BeginFault>
+    requires { hosts seat.now.view s ≡ true }
+    ensures ok { OnOk result (((knows seat.now.view s).is_open ≡ false) × ((knows seat.now.view s).number ≢ seat.now.view.limits.txns)) }
+    ensures active { (result ≡ Err BeginFault.Active) ↔ ((knows seat.now.view s).is_open ≡ true) }
+    ensures spent { (result ≡ Err BeginFault.Spent) ↔ (((knows seat.now.view s).is_open ≡ false) × ((knows seat.now.view s).number ≡ seat.now.view.limits.txns)) }
+    ensures future { (clock : ℕ) → ¬ (result ≡ Err (BeginFault.Future clock)) }
+{
+    if seat.is_open(s) {
+        return Err(BeginFault::Active);
+    }
+    if seat.number(s) == seat.limits().txns {
+        return Err(BeginFault::Spent);
+    }
+    Ok(())
+}
+
+/// Opens the session's next transaction with this begin, behind a load of the clock that found no less. Nothing is asked: the caller knows that the session
+/// may begin another one (`may_begin`).
+pub fn open(store: &Store, seat: &mut Seat, s: u32, begin: Time, read_only: bool)
+    requires seat { IsSeatOf store.now seat.old }
+    requires host { hosts seat.old.view s ≡ true }
+    requires own { s < seat.old.view.limits.sessions }
+    requires closed { (knows seat.old.view s).is_open ≡ false }
+    requires more { (knows seat.old.view s).number ≢ seat.old.view.limits.txns }
+    requires early { begin ≤ length (knows seat.old.view s).seen }
+    ensures seat { IsSeatOf store.now seat.new }
+    ensures hosted { seat.new.view.hosts ≡ seat.old.view.hosts }
+    ensures opens { (v : View) (clock : ℕ) → Clocked v seat.old.view s clock → begin ≤ clock → Opens v seat.new.view s clock begin read_only }
+{
+    seat.consider();
+    step_begin(store, seat, s, begin, read_only);
+}
+
 /// Begins the session's next transaction, and answers its begin: a clock that is loaded in this call. Active comes exactly where a
 /// transaction of the session is open; Spent, where none is and the session has begun as many as it may; Future never.
 pub fn begin(store: &Store, seat: &mut Seat, s: u32) -> Result<Time, BeginFault>
@@ -32,14 +67,11 @@ pub fn begin(store: &Store, seat: &mut Seat, s: u32) -> Result<Time, BeginFault>
     ensures future { (clock : ℕ) → ¬ (result ≡ Err (BeginFault.Future clock)) }
     ensures err { OnErr result (seat.new ≡ seat.old) }
 {
-    if seat.is_open(s) {
-        return Err(BeginFault::Active);
-    }
-    if seat.number(s) == seat.limits().txns {
-        return Err(BeginFault::Spent);
+    if let Err(fault) = may_begin(seat, s) {
+        return Err(fault);
     }
     let begin = load_clock(store, seat, s);
-    step_begin(store, seat, s, begin, false);
+    open(store, seat, s, begin, false);
     Ok(begin)
 }
 
@@ -58,16 +90,13 @@ pub fn as_of(store: &Store, seat: &mut Seat, s: u32, time: Time) -> Result<Time,
     ensures never { time ≤ length (knows seat.old.view s).seen → (clock : ℕ) → ¬ (result ≡ Err (BeginFault.Future clock)) }
     ensures still { (result ≡ Err BeginFault.Active) ⊎ (result ≡ Err BeginFault.Spent) → seat.new ≡ seat.old }
 {
-    if seat.is_open(s) {
-        return Err(BeginFault::Active);
-    }
-    if seat.number(s) == seat.limits().txns {
-        return Err(BeginFault::Spent);
+    if let Err(fault) = may_begin(seat, s) {
+        return Err(fault);
     }
     let clock = load_clock(store, seat, s);
     if clock < time {
         return Err(BeginFault::Future { clock });
     }
-    step_begin(store, seat, s, time, true);
+    open(store, seat, s, time, true);
     Ok(time)
 }

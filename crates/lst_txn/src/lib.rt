@@ -7,5 +7,5 @@
 mod begins;
 mod ends;
 
-pub use begins::{BeginFault, as_of, begin};
+pub use begins::{BeginFault, as_of, begin, may_begin, open};
 pub use ends::{Idle, Turn, TurnFault, close, take_turn};

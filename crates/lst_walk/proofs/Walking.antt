@@ -205,11 +205,6 @@ module _ (store : Store) (v : View) (seat : Sitting) (s rec head : ℕ) (p : Pos
     left = tt;
   }
 
-  -- at the head none was passed
-  pub start_passed : (column : ℕ) → (cell_start column).passed ≡ []
-  unfolding cell_start
-  start_passed column = refl
-
 -- one more that isn't seen, or leaves the column
 none_told_next : (k : Known) (s column : ℕ) (above : List Version) (c : Version) → NoneTold k s column above → is_told k s column c ≡ false → NoneTold k s column (above ++ c ∷ [])
 none_told_next k s column [] c none e = (e, tt)
@@ -380,12 +375,6 @@ module _ (store : Store) (v : View) (a b d : Sitting) (s rec n range t m : ℕ) 
     whole = walk.whole ∙ (ap (λ (cs : List Version). seen_acts (knows v s) s (walk.passed ++ cs)) q.2 ∙ ap (seen_acts (knows v s) s) (sym (append_assoc walk.passed (q.0 ∷ []) q.1)));
     left = none_told_next (knows v s) s column walk.passed q.0 walk.left (told_same column walk.possible walk.watched q.0 ∙ leaves q.0 q.3);
   }
-
-  -- it is the last one that was passed
-  pub next_passed : (column : ℕ) (walk : CellWalk store v a s rec column n) (ab : Watched a.view b.view s) (tells : (c : Version) → IsAt a.view s t c → Tells (knows a.view s) s c store.layout.limits.columns column None) (resolves : Resolves a.view b.view s range n) (reader : IsReader store d s) (bd : Watched b.view d.view s)
-      (back : (c : Version) → IsAt a.view s t c → m ≡ c.back) (leaves : (c : Version) → IsAt a.view s t c → is_told (knows a.view s) s column c ≡ false) → (cell_next column walk ab tells resolves reader bd back leaves).passed ≡ walk.passed ++ (at_number store a s rec n walk.reader walk.versions walk.chain some range t range_is tail_is).0 ∷ []
-  unfolding cell_next
-  next_passed column walk ab tells resolves reader bd back leaves = refl
 
   -- the copy is the same
   pub copy_same : (column : ℕ) (walk : CellWalk store v a s rec column n) (ab : Watched a.view b.view s) (tells : (c : Version) → IsAt a.view s t c → Tells (knows a.view s) s c store.layout.limits.columns column None) (resolves : Resolves a.view b.view s range n) (reader : IsReader store d s) (bd : Watched b.view d.view s)

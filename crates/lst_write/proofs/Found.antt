@@ -80,6 +80,9 @@ module _ (v w : View) (s tail x : ℕ) (hosted : hosts v s ≡ true) (is_on : (k
     name_in : (rec : ℕ) (c : Version) → StartFound (knows w s) rec c x → c.writer ≡ name_of j n
     name_in rec c f = let g = f.named (omega arith) in omega arith
 
+    pub name_is : version.1.writer ≡ name_of j n
+    name_is = name_in version.0 version.1 found
+
     -- the own one
     pub own_stands : j ≡ s → n ≡ (knows w s).number → Stands v w s tail Seen
     own_stands a b rec c is known at = or_right (is_early (knows w s) c.writer) (eqb c.writer (name_of s (knows w s).number))

@@ -16,6 +16,7 @@ use Rattle.lst_rule.specs.Statuses.{Answers}
 use Rattle.lst_rule.specs.Copies.{Version}
 use Rattle.lst_rule.specs.Watching.{Watched}
 use Rattle.lst_rule.proofs.AskingWatched.{status_watched}
+use Rattle.lst_rule.proofs.Watching.{watches_join}
 use Rattle.lst_write.specs.declared.standing.Standing.{Standing}
 use Rattle.lst_write.specs.declared.standing.Standing.TheVariants.{Seen, Closed, Newer, Unfinished}
 use Rattle.lst_write.specs.Standings.{IsOther, IsStanding, StandsBy, standing_at}
@@ -67,6 +68,8 @@ module _ (v w : View) (s j n : ℕ) (hosted : hosts v s ≡ true) (is_on : (know
       live = h.stored;
     }
 
-    pub committed_stands : (time : ℕ) → Possible w → Answers v w s j n (status.Committed time) → StandsBy v w s (name_of j n) (standing_at (knows w s).begin time)
-    committed_stands time p h rec c start name = let W = asked_watched (status.Committed time) h in let q = parts c.writer name in logged_stands v w s rec time c p (still_hosts v w s W hosted) (still_on v w s W is_on)
-        (subst (λ (l : Limits). c.writer % 16 < l.sessions) (sym W.learns.limits) (let e = q.0 in let a = place.0 in omega arith)) h.known.some h.known.seen (fact_by (time + 1) c.writer name h.known.fact)
+    -- the view d is a later one
+    pub committed_stands : (time : ℕ) (d : View) → Possible d → Watched w d s → Answers v w s j n (status.Committed time) → StandsBy v d s (name_of j n) (standing_at (knows d s).begin time)
+    committed_stands time d p later h rec c start name = let W = watches_join v w d s (asked_watched (status.Committed time) h) later in let q = parts c.writer name in let K = kept w d s later in
+        logged_stands v d s rec time c p (still_hosts v d s W hosted) (still_on v d s W is_on) (subst (λ (l : Limits). c.writer % 16 < l.sessions) (sym W.learns.limits) (let e = q.0 in let a = place.0 in omega arith))
+        h.known.some (let a = h.known.seen in let b = K.longer in omega arith) (K.facts (StateAt (c.writer % 16) (c.writer / 16) (time + 1)) (fact_by (time + 1) c.writer name h.known.fact))

@@ -1,5 +1,6 @@
 -- The judge's walk down a chain.
-use Rattle.std.proofs.Common.{◌≡◌, ℕ, ◌+◌, ◌*◌, ◌/◌, ◌%◌, ◌<◌, ◌≤◌, List, [], ◌∷◌, ◌++◌, true, Contains, sym, subst, ap, ◌∙◌, arith, inl, append_assoc}
+use Rattle.std.proofs.Common.{◌≡◌, ℕ, ◌+◌, ◌*◌, ◌/◌, ◌%◌, ◌<◌, ◌≤◌, List, [], ◌∷◌, ◌++◌, true, Contains, sym, subst, ap, ◌∙◌, arith, inl, inr, append_assoc, append-nil}
+use Rattle.std.specs.Prelude.{Option, None, Some}
 use Rattle.lst_layout.specs.declared.limits.Limits.{Limits}
 use Rattle.lst_core_state.specs.declared.known.Known.{Known}
 use Rattle.lst_core_state.specs.declared.known.Hold.{Hold}
@@ -26,7 +27,7 @@ use Rattle.lst_rule.proofs.Watching.{watched_same, watches_join}
 use Rattle.lst_write.specs.Holding.{HasLatch}
 use Rattle.lst_write.specs.Standings.{IsVersion, Stands}
 use Rattle.lst_write.specs.declared.standing.Standing.TheVariants.{Seen, Closed, Newer, Unfinished}
-use Rattle.lst_write.specs.Judgements.{HasChain, HasJudged, Stops, FoundNewer, FoundUnfinished, Judges}
+use Rattle.lst_write.specs.Judgements.{HasChain, HasJudged, Stops, StopsAt, FoundNewer, FoundUnfinished, Judges}
 use Rattle.lst_write.proofs.Keeping.{kept, still_hosts, still_on, found_before, turn_stays}
 
 -- a latch is in hand in an open transaction
@@ -51,6 +52,15 @@ closed_more facts more (c ∷ cs) all closed = (all (StateAt (c.writer % 16) (c.
 closed_last : (facts : List Fact) (cs : List Version) (c : Version) → AreClosed facts cs → IsClosed facts c → AreClosed facts (cs ++ c ∷ [])
 closed_last facts [] c closed last = (last, tt)
 closed_last facts (d ∷ cs) c closed last = (closed.0, closed_last facts cs c closed.1 last)
+
+all_closed : (k : Known) (s : ℕ) (cs : List Version) → AreClosed k.facts cs → IsJudged k s cs
+all_closed k s [] closed = tt
+all_closed k s (c ∷ cs) closed = inr (closed.0, all_closed k s cs closed.1)
+
+-- where a judge stopped, the chain is judged
+pub judged_at : (l : Limits) (k : Known) (s rec head : ℕ) (newest : Option ℕ) → StopsAt l k s rec head newest → HasJudged l k s rec head
+judged_at l k s rec head None q = (q.0, q.1, all_closed k s q.0 q.2)
+judged_at l k s rec head (Some tail) q = (q.0 ++ q.1 ∷ q.2, q.3.copy, closed_are_passed k s q.0 (q.1 ∷ q.2) q.3.closed (inl q.5))
 
 -- ---- the walk
 
@@ -89,17 +99,10 @@ module _ (store : Store) (v : View) (seat : Sitting) (s rec head n : ℕ) (J : J
   abbrev k : Known
   k = knows seat.view s
 
-  -- the copy, judged, with more facts
-  judged_later : (w : View) → Watched seat.view w s → IsJudged (knows w s) s J.rest → HasJudged w.limits (knows w s) s rec head
-  judged_later w watched rest = let K = kept u w s watched in (
-    J.passed ++ J.rest,
-    subst (λ (l : Limits). IsCopy l (knows w s).facts rec head (J.passed ++ J.rest)) (sym watched.learns.limits) (copies_stay u.limits k.facts (knows w s).facts rec head (J.passed ++ J.rest) K.facts J.copy),
-    closed_are_passed (knows w s) s J.passed J.rest (closed_more k.facts (knows w s).facts J.passed K.facts J.closed) rest,
-  )
-
   -- at the chain's end
-  pub walk_ends : n ≡ 0 → HasJudged seat.view.limits (knows seat.view s) s rec head
-  walk_ends e = judged_later u (watched_same u s) (subst (λ (cs : List Version). IsJudged k s cs) (sym ((chains_are_walked u.limits k.facts rec n J.rest J.leads).none e)) tt)
+  pub walk_ends : n ≡ 0 → StopsAt seat.view.limits (knows seat.view s) s rec head None
+  walk_ends e = let over : J.passed ++ J.rest ≡ J.passed = ap (λ (cs : List Version). J.passed ++ cs) ((chains_are_walked u.limits k.facts rec n J.rest J.leads).none e) ∙ append-nil J.passed in
+      (J.passed, subst (λ (cs : List Version). IsCopy u.limits k.facts rec head cs) over J.copy, J.closed)
 
   module _ (some : 0 < n) where
     pub hand : Hand seat.view.limits (knows seat.view s).facts rec n J.rest
@@ -113,10 +116,6 @@ module _ (store : Store) (v : View) (seat : Sitting) (s rec head n : ℕ) (J : J
       walk_version = (rec, hand.version, hand.is, hand.known, tail_is)
 
       module _ (w : View) (watched : Watched seat.view w s) where
-        -- a version that is seen
-        pub walk_seen : Stands seat.view w s tail Seen → HasJudged w.limits (knows w s) s rec head
-        walk_seen stands = judged_later w watched (subst (λ (cs : List Version). IsJudged (knows w s) s cs) (sym hand.split) (inl (stands rec hand.version hand.is hand.known tail_is)))
-
         -- the versions with those that were passed
         stops : Stops w.limits (knows w s) rec head J.passed hand.version hand.older
         stops = let K = kept u w s watched in record {
@@ -124,6 +123,10 @@ module _ (store : Store) (v : View) (seat : Sitting) (s rec head n : ℕ) (J : J
               (subst (λ (l : Limits). IsCopy l (knows w s).facts rec head (J.passed ++ J.rest)) (sym watched.learns.limits) (copies_stay u.limits k.facts (knows w s).facts rec head (J.passed ++ J.rest) K.facts J.copy));
           closed = closed_more k.facts (knows w s).facts J.passed K.facts J.closed;
         }
+
+        -- a version that is seen
+        pub walk_seen : Stands seat.view w s tail Seen → StopsAt w.limits (knows w s) s rec head (Some tail)
+        walk_seen stands = (J.passed, hand.version, hand.older, stops, tail_is, stands rec hand.version hand.is hand.known tail_is)
 
         -- a newer one
         pub walk_newer : (time : ℕ) → Possible w → Stands seat.view w s tail (Newer time) → FoundNewer w.limits (knows w s) rec head time

@@ -1,5 +1,5 @@
 -- What a session finds of a record's chain before it writes.
-use Rattle.std.specs.Prelude.{◌≡◌, ◌≢◌, ℕ, ◌+◌, ◌<◌, ◌≤◌, List, ◌∷◌, ◌++◌, true, length}
+use Rattle.std.specs.Prelude.{◌≡◌, ◌≢◌, ℕ, ◌+◌, ◌<◌, ◌≤◌, List, ◌∷◌, ◌++◌, true, length, Option, None, Some}
 use Rattle.lst_layout.specs.declared.limits.Limits.{Limits}
 use Rattle.lst_layout.specs.Words.{shown}
 use Rattle.lst_core_state.specs.declared.known.Known.{Known}
@@ -8,7 +8,7 @@ use Rattle.lst_core_state.specs.State.{name_of}
 use Rattle.lst_rule.specs.declared.view.View.{View}
 use Rattle.lst_rule.specs.Rule.{knows, hosts}
 use Rattle.lst_rule.specs.Copies.{Version, IsChainFrom, IsCopy}
-use Rattle.lst_rule.specs.Seen.{HasKey}
+use Rattle.lst_rule.specs.Seen.{sees, HasKey}
 use Rattle.lst_rule.specs.Judging.{AreClosed, IsJudged, IsCommittedAt, WroteAt}
 use Rattle.lst_rule.specs.Watching.{Watched}
 use Rattle.lst_rule.specs.declared.store.Store.{Store}
@@ -30,6 +30,11 @@ HasJudged l k s rec head = (copy : List Version) × IsCopy l k.facts rec head co
 pub record Stops (l : Limits) (k : Known) (rec head : ℕ) (passed : List Version) (c : Version) (older : List Version) : Type 0 where
   pub copy : IsCopy l k.facts rec head (passed ++ c ∷ older)
   pub closed : AreClosed k.facts passed
+
+-- the newest version that isn't closed has this tail record, and is one that the open transaction of s sees; or each version is closed
+abbrev pub StopsAt : Limits → Known → ℕ → ℕ → ℕ → Option ℕ → Type 0
+StopsAt l k s rec head None = (copy : List Version) × IsCopy l k.facts rec head copy × AreClosed k.facts copy
+StopsAt l k s rec head (Some tail) = (passed : List Version) × (c : Version) × (older : List Version) × Stops l k rec head passed c older × (c.tail ≡ tail) × (sees k s c.writer ≡ true)
 
 -- the newest version that isn't closed was committed at this time, which is above the begin. What was seen has that commit there, which
 -- wrote the record's key

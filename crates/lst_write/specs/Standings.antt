@@ -77,3 +77,14 @@ IsVersion l k tail = (rec : ℕ) × (c : Version) × IsVersionOf l rec c × Cont
 -- each version with this tail that the facts have stands so
 abbrev pub Stands : View → View → ℕ → ℕ → Standing → Type 0
 Stands v w s tail standing = (rec : ℕ) (c : Version) → IsVersionOf v.limits rec c → Contains (knows v s).facts (fact_of c) → c.tail ≡ tail → IsStanding v w s rec c standing
+
+-- where the view knows each word: the tail record's start word is that of the open transaction, or has a commit time
+abbrev pub IsSettled : View → ℕ → ℕ → Type 0
+IsSettled w s tail = w.whole ≡ true → ((shown w.limits w.words).cells tail 0 ≡ 1 + 2 * name_of s (knows w s).number) ⊎ ((shown w.limits w.words).cells tail 0 % 2 ≡ 0)
+
+-- so is that of a version that is seen
+abbrev pub SettledAs : View → ℕ → ℕ → Standing → Type 0
+SettledAs w s tail Seen = IsSettled w s tail
+SettledAs w s tail Closed = Unit {0}
+SettledAs w s tail (Newer time) = Unit {0}
+SettledAs w s tail (Unfinished j n) = Unit {0}

@@ -10,6 +10,6 @@ mod latches;
 mod standing;
 mod tails;
 
-pub use judgement::{JudgeFault, judge};
+pub use judgement::{JudgeFault, judge, judged_version};
 pub use latches::{Latched, latch, release};
 pub use tails::{TailFull, append, install};

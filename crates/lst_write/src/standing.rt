@@ -1,12 +1,12 @@
 //! How a version of a record stands to a transaction that is to write above it.
-ghost use Rattle.std.specs.Prelude.{◌≡◌, ◌≤◌, length, true};
+ghost use Rattle.std.specs.Prelude.{◌≡◌, ◌+◌, ◌*◌, ◌<◌, ◌≤◌, length, true};
 ghost use Rattle.lst_rule.specs.Rule.{knows, hosts};
 ghost use Rattle.lst_rule.specs.Stores.{IsSeatOf};
 ghost use Rattle.lst_rule.specs.Watching.{Watched};
-ghost use Rattle.lst_write.specs.Standings.{IsStamp, IsVersion, StandsAt, Stands, standing_at};
+ghost use Rattle.lst_write.specs.Standings.{IsStamp, IsVersion, StandsAt, Stands, SettledAs, standing_at};
 
 use lst_model::Time;
-use lst_rule::{Resolution, Seat, Store, load_clock, resolve};
+use lst_rule::{Resolution, Seat, Store, load_clock, resolve, step_stamp};
 
 /// How a version stands to a transaction.
 #[derive(Clone, Copy, PartialEq, Eq, Debug)]
@@ -63,15 +63,28 @@ fn stamped_standing(store: &Store, seat: &mut Seat, s: u32, time: Time) -> Stand
     committed_standing(seat, s, time)
 }
 
-/// How a version stands, which is named by its tail's identifier.
-pub(crate) fn standing_of(store: &Store, seat: &mut Seat, s: u32, tail: u32) -> Standing
+/// How a version stands, which is named by its tail record's identifier and by that one's number in its range. Where its transaction is found committed
+/// and its start word has no time yet, the time is stored there.
+pub(crate) fn standing_of(
+    store: &Store,
+    seat: &mut Seat,
+    s: u32,
+    range: u32,
+    number: u32,
+    tail: u32,
+) -> Standing
     requires seat { IsSeatOf store.now seat.old }
     requires host { hosts seat.old.view s ≡ true }
+    requires own { s < seat.old.view.limits.sessions }
     requires on { (knows seat.old.view s).is_open ≡ true }
+    requires range { range < seat.old.view.limits.ranges }
+    requires number { (0 < number) × (number ≤ seat.old.view.limits.tails) }
+    requires tail { tail ≡ range * seat.old.view.limits.tails + number }
     requires version { IsVersion seat.old.view.limits (knows seat.old.view s) tail }
     ensures seat { IsSeatOf store.now seat.new }
     ensures watched { Watched seat.old.view seat.new.view s }
     ensures stands { Stands seat.old.view seat.new.view s tail result }
+    ensures settled { SettledAs seat.new.view s tail result }
 {
     let found = resolve(store, seat, s, tail);
     seat.consider();
@@ -80,7 +93,11 @@ pub(crate) fn standing_of(store: &Store, seat: &mut Seat, s: u32, tail: u32) -> 
         Resolution::Stamped { time } => stamped_standing(store, seat, s, time),
         Resolution::Own => Standing::Seen,
         Resolution::Closed => Standing::Closed,
-        Resolution::Committed { time } => committed_standing(seat, s, time),
+        Resolution::Committed { time } => {
+            step_stamp(store, seat, s, range, number, time);
+            seat.consider();
+            committed_standing(seat, s, time)
+        }
         Resolution::Unfinished { session, number } => Standing::Unfinished { session, number },
     }
 }

@@ -8,19 +8,19 @@ use Rattle.lst_history.specs.Peeks.{words_in}
 use Rattle.lst_history.proofs.Recounting.{stock_reader, recounts, same_history}
 use Rattle.lst_history.proofs.reading.history.Goals as goal
 
-pub recount-requires : goal.recount-requires
-recount-requires c = record { reader = stock_reader c.args.store.now c.args.seat.now c.survey.new.seat c.args.s c.survey.ensures.seat c.survey.ensures.surveyed c.requires.all c.requires.own c.requires.rec c.requires.turn }
+pub recount-all-requires : goal.recount-all-requires
+recount-all-requires c = record { reader = stock_reader c.args.store.now c.args.seat.now c.survey.new.seat c.args.s c.survey.ensures.seat c.survey.ensures.surveyed c.requires.all c.requires.own c.requires.rec c.requires.turn }
 
 pub returns-clause-seat : goal.returns-clause-seat
-returns-clause-seat c = c.recount.ensures.reads.reader.seat_of
+returns-clause-seat c = c.recount-all.ensures.reads.reader.seat_of
 
 pub returns-clause-ok : goal.returns-clause-ok
-returns-clause-ok c = let b : View = c.survey.new.seat.view in let w : View = c.recount.new.seat.view in IfOk-weaker c.recount.result (λ all. all ≡ history_of b.limits (words_in b)) (λ all. all ≡ history_of w.limits (words_in w))
-    (λ all is. is ∙ same_history c.args.store.now c.survey.new.seat c.recount.new.seat c.args.s c.recount.ensures.reads) c.recount.ensures.ok
+returns-clause-ok c = let b : View = c.survey.new.seat.view in let w : View = c.recount-all.new.seat.view in IfOk-weaker c.recount-all.result (λ all. all ≡ history_of b.limits (words_in b)) (λ all. all ≡ history_of w.limits (words_in w))
+    (λ all is. is ∙ same_history c.args.store.now c.survey.new.seat c.recount-all.new.seat c.args.s c.recount-all.ensures.reads) c.recount-all.ensures.ok
 
 pub returns-clause-seen : goal.returns-clause-seen
-returns-clause-seen c = let b : View = c.survey.new.seat.view in let w : View = c.recount.new.seat.view in let seen : List Commit = (knows w c.args.s).seen in IfOk-weaker c.recount.result (λ _. seen ≡ history_of b.limits (words_in b)) (λ _. seen ≡ history_of w.limits (words_in w))
-    (λ _ is. is ∙ same_history c.args.store.now c.survey.new.seat c.recount.new.seat c.args.s c.recount.ensures.reads) c.recount.ensures.seen
+returns-clause-seen c = let b : View = c.survey.new.seat.view in let w : View = c.recount-all.new.seat.view in let seen : List Commit = (knows w c.args.s).seen in IfOk-weaker c.recount-all.result (λ _. seen ≡ history_of b.limits (words_in b)) (λ _. seen ≡ history_of w.limits (words_in w))
+    (λ _ is. is ∙ same_history c.args.store.now c.survey.new.seat c.recount-all.new.seat c.args.s c.recount-all.ensures.reads) c.recount-all.ensures.seen
 
 pub returns-clause-looks : goal.returns-clause-looks
-returns-clause-looks c = recounts c.args.store.now c.args.seat.now c.survey.new.seat c.recount.new.seat c.args.s c.survey.ensures.surveyed c.recount.ensures.reads
+returns-clause-looks c = recounts c.args.store.now c.args.seat.now c.survey.new.seat c.recount-all.new.seat c.args.s c.survey.ensures.surveyed c.recount-all.ensures.reads c.consider.ensures

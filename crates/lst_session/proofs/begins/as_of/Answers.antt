@@ -1,8 +1,8 @@
 use Rattle.std.proofs.Common.{ℕ, ◌<◌, ⊎_elim, refl, subst, ◌∙◌, arith}
 use Rattle.lst_txn.specs.Transactions.{Sees}
 use Rattle.lst_txn.specs.declared.begins.BeginFault.TheVariants.{Active, Spent, Future}
-use Rattle.lst_txn.proofs.Refusing.{neither, not_true, ok_err, active_future, spent_future, future_is, hosts_on, own_on}
-use Rattle.lst_session.proofs.Refusals.{refused_there, refused_as}
+use Rattle.lst_txn.proofs.Refusing.{neither, not_true, ok_err, active_future, spent_future, future_is, hosts_on, own_on, seen_until, closed_on, more_on, refused_there, refused_as}
+use Rattle.lst_session.proofs.Refusals.{pinned_closed, pinned_more, pinned_seen}
 use Rattle.lst_txn.proofs.Transacting.{sees}
 use Rattle.lst_session.proofs.begins.as_of.Goals as goal
 
@@ -72,20 +72,36 @@ pin-requires-clause-host c = hosts_on _ _ _ _ _ c.load_clock-clock.ensures.clock
 pub pin-requires-clause-own : goal.pin-requires-clause-own
 pin-requires-clause-own c = own_on _ _ _ _ _ c.load_clock-clock.ensures.clocked.view c.requires.own
 
-pub as_of-requires-clause-seat : goal.as_of-requires-clause-seat
-as_of-requires-clause-seat c = c.pin.ensures.seat
+pub load_clock-requires-clause-seat : goal.load_clock-requires-clause-seat
+load_clock-requires-clause-seat c = c.pin.ensures.seat
 
-pub as_of-requires-clause-host : goal.as_of-requires-clause-host
-as_of-requires-clause-host c = hosts_on _ _ _ _ _ c.pin.ensures.pins.view (hosts_on _ _ _ _ _ c.load_clock-clock.ensures.clocked.view c.requires.host)
+pub load_clock-requires-clause-host : goal.load_clock-requires-clause-host
+load_clock-requires-clause-host c = hosts_on _ _ _ _ _ c.pin.ensures.pins.view (hosts_on _ _ _ _ _ c.load_clock-clock.ensures.clocked.view c.requires.host)
 
-pub as_of-requires-clause-own : goal.as_of-requires-clause-own
-as_of-requires-clause-own c = own_on _ _ _ _ _ c.pin.ensures.pins.view (own_on _ _ _ _ _ c.load_clock-clock.ensures.clocked.view c.requires.own)
+pub open-requires-clause-seat : goal.open-requires-clause-seat
+open-requires-clause-seat c = c.load_clock.ensures.seat
+
+pub open-requires-clause-host : goal.open-requires-clause-host
+open-requires-clause-host c = hosts_on _ _ _ _ _ c.load_clock.ensures.clocked.view (hosts_on _ _ _ _ _ c.pin.ensures.pins.view (hosts_on _ _ _ _ _ c.load_clock-clock.ensures.clocked.view c.requires.host))
+
+pub open-requires-clause-own : goal.open-requires-clause-own
+open-requires-clause-own c = own_on _ _ _ _ _ c.load_clock.ensures.clocked.view (own_on _ _ _ _ _ c.pin.ensures.pins.view (own_on _ _ _ _ _ c.load_clock-clock.ensures.clocked.view c.requires.own))
+
+pub open-requires-clause-closed : goal.open-requires-clause-closed
+open-requires-clause-closed c = closed_on _ _ _ _ c.load_clock.ensures.clocked (pinned_closed _ _ _ c.pin.ensures.pins (closed_on _ _ _ _ c.load_clock-clock.ensures.clocked c.in_default.ensures.ok.0))
+
+pub open-requires-clause-more : goal.open-requires-clause-more
+open-requires-clause-more c = more_on _ _ _ _ c.load_clock.ensures.clocked (pinned_more _ _ _ c.pin.ensures.pins (more_on _ _ _ _ c.load_clock-clock.ensures.clocked c.in_default.ensures.ok.1))
+
+pub open-requires-clause-early : goal.open-requires-clause-early
+open-requires-clause-early c = let late = c.if-clock-time.false in let first = seen_until _ _ _ _ c.load_clock-clock.ensures.clocked in let still = pinned_seen _ _ _ c.pin.ensures.pins in let more = c.load_clock.ensures.clocked.least in
+    let all = seen_until _ _ _ _ c.load_clock.ensures.clocked in omega arith
 
 pub returns-clause-seat : goal.returns-clause-seat
-returns-clause-seat c = c.as_of.ensures.seat
+returns-clause-seat c = c.open.ensures.seat
 
 pub returns-clause-hosted : goal.returns-clause-hosted
-returns-clause-hosted c = c.as_of.ensures.hosted ∙ (c.pin.ensures.pins.view.hosted ∙ c.load_clock-clock.ensures.clocked.view.hosted)
+returns-clause-hosted c = c.open.ensures.hosted ∙ (c.load_clock.ensures.clocked.view.hosted ∙ (c.pin.ensures.pins.view.hosted ∙ c.load_clock-clock.ensures.clocked.view.hosted))
 
 pub returns-clause-active : goal.returns-clause-active
 returns-clause-active c = neither _ _ (ok_err _ _ _ _) (not_true _ c.in_default.ensures.ok.0)
@@ -103,16 +119,21 @@ pub returns-clause-still : goal.returns-clause-still
 returns-clause-still c = λ h. ⊎_elim (λ same. absurd (ok_err _ _ _ _ same)) (λ same. absurd (ok_err _ _ _ _ same)) h
 
 pub returns-clause-ok : goal.returns-clause-ok
-returns-clause-ok c = let load = c.load_clock-clock.ensures.clocked in let ok = c.in-Ok.ensures.ok in (
-  ok.0,
+returns-clause-ok c = let load = c.load_clock-clock.ensures.clocked in let again = c.load_clock.ensures.clocked in (
+  refl,
   (
-    ok.1.0,
+    c.load_clock.result,
     record {
       before = c.load_clock-clock.result;
       between = c.load_clock-clock.new.seat.view;
       sees = record { load = load; own = load.own c.requires.own };
       reached = let late = c.if-clock-time.false in omega arith;
-      begins = record { between = c.pin.new.seat.view; pins = c.pin.ensures.pins; opens = ok.1.1 };
+      begins = record {
+        between = c.pin.new.seat.view;
+        pins = c.pin.ensures.pins;
+        opens = c.open.ensures.opens c.pin.new.seat.view c.load_clock.result again
+            (let late = c.if-clock-time.false in let first = seen_until _ _ _ _ load in let still = pinned_seen _ _ _ c.pin.ensures.pins in let more = again.least in omega arith);
+      };
     },
   ),
 )

@@ -1,8 +1,8 @@
-use Rattle.std.proofs.Common.{refl, ◌∙◌}
+use Rattle.std.proofs.Common.{refl, ◌∙◌, arith}
 use Rattle.lst_rule.specs.Rule.{knows}
 use Rattle.lst_txn.specs.declared.begins.BeginFault.TheVariants.{Active, Spent, Future}
-use Rattle.lst_txn.proofs.Refusing.{neither, not_true, ok_err, hosts_on, own_on}
-use Rattle.lst_session.proofs.Refusals.{refused_there, refused_as, unpinned}
+use Rattle.lst_txn.proofs.Refusing.{neither, not_true, ok_err, hosts_on, own_on, seen_until, closed_on, more_on, refused_there, refused_as}
+use Rattle.lst_session.proofs.Refusals.{unpinned, pinned_closed, pinned_more}
 use Rattle.lst_session.proofs.begins.begin.Goals as goal
 
 pub may_begin-requires : goal.may_begin-requires
@@ -41,20 +41,35 @@ pin-requires-clause-own c = c.requires.own
 pub pin-requires-clause-free : goal.pin-requires-clause-free
 pin-requires-clause-free c = unpinned (knows c.args.seat.now.view c.args.s) c.requires.pinned c.in_default.ensures.ok.0
 
-pub begin-requires-clause-seat : goal.begin-requires-clause-seat
-begin-requires-clause-seat c = c.pin.ensures.seat
+pub load_clock-begin-requires-clause-seat : goal.load_clock-begin-requires-clause-seat
+load_clock-begin-requires-clause-seat c = c.pin.ensures.seat
 
-pub begin-requires-clause-host : goal.begin-requires-clause-host
-begin-requires-clause-host c = hosts_on _ _ _ _ _ c.pin.ensures.pins.view c.requires.host
+pub load_clock-begin-requires-clause-host : goal.load_clock-begin-requires-clause-host
+load_clock-begin-requires-clause-host c = hosts_on _ _ _ _ _ c.pin.ensures.pins.view c.requires.host
 
-pub begin-requires-clause-own : goal.begin-requires-clause-own
-begin-requires-clause-own c = own_on _ _ _ _ _ c.pin.ensures.pins.view c.requires.own
+pub open-requires-clause-seat : goal.open-requires-clause-seat
+open-requires-clause-seat c = c.load_clock-begin.ensures.seat
+
+pub open-requires-clause-host : goal.open-requires-clause-host
+open-requires-clause-host c = hosts_on _ _ _ _ _ c.load_clock-begin.ensures.clocked.view (hosts_on _ _ _ _ _ c.pin.ensures.pins.view c.requires.host)
+
+pub open-requires-clause-own : goal.open-requires-clause-own
+open-requires-clause-own c = own_on _ _ _ _ _ c.load_clock-begin.ensures.clocked.view (own_on _ _ _ _ _ c.pin.ensures.pins.view c.requires.own)
+
+pub open-requires-clause-closed : goal.open-requires-clause-closed
+open-requires-clause-closed c = closed_on _ _ _ _ c.load_clock-begin.ensures.clocked (pinned_closed _ _ _ c.pin.ensures.pins c.in_default.ensures.ok.0)
+
+pub open-requires-clause-more : goal.open-requires-clause-more
+open-requires-clause-more c = more_on _ _ _ _ c.load_clock-begin.ensures.clocked (pinned_more _ _ _ c.pin.ensures.pins c.in_default.ensures.ok.1)
+
+pub open-requires-clause-early : goal.open-requires-clause-early
+open-requires-clause-early c = let all = seen_until _ _ _ _ c.load_clock-begin.ensures.clocked in omega arith
 
 pub returns-clause-seat : goal.returns-clause-seat
-returns-clause-seat c = c.begin.ensures.seat
+returns-clause-seat c = c.open.ensures.seat
 
 pub returns-clause-hosted : goal.returns-clause-hosted
-returns-clause-hosted c = c.begin.ensures.hosted ∙ c.pin.ensures.pins.view.hosted
+returns-clause-hosted c = c.open.ensures.hosted ∙ (c.load_clock-begin.ensures.clocked.view.hosted ∙ c.pin.ensures.pins.view.hosted)
 
 pub returns-clause-active : goal.returns-clause-active
 returns-clause-active c = neither _ _ (ok_err _ _ _ _) (not_true _ c.in_default.ensures.ok.0)
@@ -63,7 +78,7 @@ pub returns-clause-spent : goal.returns-clause-spent
 returns-clause-spent c = neither _ _ (ok_err _ _ _ _) (λ h. c.in_default.ensures.ok.1 h.1)
 
 pub returns-clause-ok : goal.returns-clause-ok
-returns-clause-ok c = record { between = c.pin.new.seat.view; pins = c.pin.ensures.pins; opens = c.in-Ok.ensures.ok }
+returns-clause-ok c = record { between = c.pin.new.seat.view; pins = c.pin.ensures.pins; opens = c.open.ensures.opens c.pin.new.seat.view c.load_clock-begin.result c.load_clock-begin.ensures.clocked (omega arith) }
 
 pub returns-clause-future : goal.returns-clause-future
 returns-clause-future c = λ clock. ok_err _ _ _ _

@@ -1,9 +1,6 @@
 use Rattle.std.proofs.Common.{sym, ◌∙◌}
-use Rattle.lst_session.proofs.Agreeing.{rec_low, misfits, fits, same_bool, other_bool}
+use Rattle.lst_session.proofs.Agreeing.{misfits, fits, same_bool, other_bool}
 use Rattle.lst_session.proofs.writes.agree.Goals as goal
-
-pub has_row-is_there-requires-clause-rec : goal.has_row-is_there-requires-clause-rec
-has_row-is_there-requires-clause-rec c = rec_low _ _ _ _ _ c.requires.seat.limits c.consider.ensures c.requires.host c.requires.placed
 
 pub returns-then-is_there-is_put-clause-agrees : goal.returns-then-is_there-is_put-clause-agrees
 returns-then-is_there-is_put-clause-agrees c = misfits _ _ _ _ _ _ _ c.has_row-is_there.ensures.watched c.has_row-is_there.ensures.row.1 c.requires.placed _ c.misfit.ensures (sym c.has_row-is_there.ensures.row.2 ∙ (same_bool _ _ c.if-is_there-is_put.true ∙ c.is_put.ensures))

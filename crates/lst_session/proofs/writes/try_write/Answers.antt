@@ -42,3 +42,6 @@ returns-in-Ok-prepare-clause-seat c = c.install.ensures.seat
 
 pub returns-in-Err-clause-seat : goal.returns-in-Err-clause-seat
 returns-in-Err-clause-seat c = c.release.ensures.seat
+
+pub prepare-requires-clause-chain : goal.prepare-requires-clause-chain
+prepare-requires-clause-chain c = c.in-Ok.ensures.ok.chain

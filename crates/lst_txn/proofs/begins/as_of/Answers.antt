@@ -1,63 +1,36 @@
-use Rattle.std.proofs.Common.{true, ℕ, ◌<◌, ⊎_elim, refl, sym, subst, ap, ◌∙◌, arith}
-use Rattle.lst_layout.specs.declared.limits.Limits.{Limits}
+use Rattle.std.proofs.Common.{ℕ, ◌<◌, ⊎_elim, refl, subst, ◌∙◌, arith}
 use Rattle.lst_txn.specs.Transactions.{Sees}
-use Rattle.lst_txn.proofs.Refusing.{neither, not_false, not_true, ok_err, active_spent, active_future, spent_active, spent_future, future_is, hosts_on, own_on, may_open}
-use Rattle.lst_txn.proofs.Transacting.{sees, opens}
+use Rattle.lst_txn.specs.declared.begins.BeginFault.TheVariants.{Active, Spent, Future}
+use Rattle.lst_txn.proofs.Refusing.{neither, not_true, ok_err, active_future, spent_future, future_is, hosts_on, own_on, seen_until, closed_on, more_on, refused_there, refused_as}
+use Rattle.lst_txn.proofs.Transacting.{sees}
 use Rattle.lst_txn.proofs.begins.as_of.Goals as goal
 
-pub is_open-requires : goal.is_open-requires
-is_open-requires c = c.requires.host
+pub may_begin-requires : goal.may_begin-requires
+may_begin-requires c = c.requires.host
 
-pub returns-then-is_open-clause-seat : goal.returns-then-is_open-clause-seat
-returns-then-is_open-clause-seat c = c.requires.seat
+pub returns-in-Err-clause-seat : goal.returns-in-Err-clause-seat
+returns-in-Err-clause-seat c = c.requires.seat
 
-pub returns-then-is_open-clause-hosted : goal.returns-then-is_open-clause-hosted
-returns-then-is_open-clause-hosted c = refl
+pub returns-in-Err-clause-hosted : goal.returns-in-Err-clause-hosted
+returns-in-Err-clause-hosted c = refl
 
-pub returns-then-is_open-clause-ok : goal.returns-then-is_open-clause-ok
-returns-then-is_open-clause-ok c = tt
+pub returns-in-Err-clause-ok : goal.returns-in-Err-clause-ok
+returns-in-Err-clause-ok c = tt
 
-pub returns-then-is_open-clause-active : goal.returns-then-is_open-clause-active
-returns-then-is_open-clause-active c = (λ _. sym c.is_open.ensures ∙ c.if-is_open.true, λ _. refl)
+pub returns-in-Err-clause-active : goal.returns-in-Err-clause-active
+returns-in-Err-clause-active c = refused_as c.in-Err.fault Active _ c.in-Err.ensures.active
 
-pub returns-then-is_open-clause-spent : goal.returns-then-is_open-clause-spent
-returns-then-is_open-clause-spent c = neither _ _ (active_spent _ refl) (λ h. not_false _ (sym c.is_open.ensures ∙ c.if-is_open.true) h.0)
+pub returns-in-Err-clause-spent : goal.returns-in-Err-clause-spent
+returns-in-Err-clause-spent c = refused_as c.in-Err.fault Spent _ c.in-Err.ensures.spent
 
-pub returns-then-is_open-clause-future : goal.returns-then-is_open-clause-future
-returns-then-is_open-clause-future c = λ clock same. absurd (active_future _ clock refl same)
+pub returns-in-Err-clause-future : goal.returns-in-Err-clause-future
+returns-in-Err-clause-future c = λ clock same. absurd (c.in-Err.ensures.future clock (refused_there c.in-Err.fault (Future clock) same))
 
-pub returns-then-is_open-clause-never : goal.returns-then-is_open-clause-never
-returns-then-is_open-clause-never c = λ _ clock. active_future _ clock refl
+pub returns-in-Err-clause-never : goal.returns-in-Err-clause-never
+returns-in-Err-clause-never c = λ _ clock same. c.in-Err.ensures.future clock (refused_there c.in-Err.fault (Future clock) same)
 
-pub returns-then-is_open-clause-still : goal.returns-then-is_open-clause-still
-returns-then-is_open-clause-still c = λ _. refl
-
-pub number-requires : goal.number-requires
-number-requires c = c.requires.host
-
-pub returns-then-number-limits-clause-seat : goal.returns-then-number-limits-clause-seat
-returns-then-number-limits-clause-seat c = c.requires.seat
-
-pub returns-then-number-limits-clause-hosted : goal.returns-then-number-limits-clause-hosted
-returns-then-number-limits-clause-hosted c = refl
-
-pub returns-then-number-limits-clause-ok : goal.returns-then-number-limits-clause-ok
-returns-then-number-limits-clause-ok c = tt
-
-pub returns-then-number-limits-clause-active : goal.returns-then-number-limits-clause-active
-returns-then-number-limits-clause-active c = neither _ _ (spent_active _ refl) (not_true _ (sym c.is_open.ensures ∙ c.if-is_open.false))
-
-pub returns-then-number-limits-clause-spent : goal.returns-then-number-limits-clause-spent
-returns-then-number-limits-clause-spent c = (λ _. (sym c.is_open.ensures ∙ c.if-is_open.false, sym c.number.ensures.is ∙ (c.if-number-limits.true ∙ ap (λ (l : Limits). l.txns) c.limits.ensures)), λ _. refl)
-
-pub returns-then-number-limits-clause-future : goal.returns-then-number-limits-clause-future
-returns-then-number-limits-clause-future c = λ clock same. absurd (spent_future _ clock refl same)
-
-pub returns-then-number-limits-clause-never : goal.returns-then-number-limits-clause-never
-returns-then-number-limits-clause-never c = λ _ clock. spent_future _ clock refl
-
-pub returns-then-number-limits-clause-still : goal.returns-then-number-limits-clause-still
-returns-then-number-limits-clause-still c = λ _. refl
+pub returns-in-Err-clause-still : goal.returns-in-Err-clause-still
+returns-in-Err-clause-still c = λ _. refl
 
 pub load_clock-clock-requires-clause-seat : goal.load_clock-clock-requires-clause-seat
 load_clock-clock-requires-clause-seat c = c.requires.seat
@@ -75,10 +48,10 @@ pub returns-then-clock-time-clause-ok : goal.returns-then-clock-time-clause-ok
 returns-then-clock-time-clause-ok c = tt
 
 pub returns-then-clock-time-clause-active : goal.returns-then-clock-time-clause-active
-returns-then-clock-time-clause-active c = neither _ _ (λ same. active_future _ _ same refl) (not_true _ (sym c.is_open.ensures ∙ c.if-is_open.false))
+returns-then-clock-time-clause-active c = neither _ _ (λ same. active_future _ _ same refl) (not_true _ c.in_default.ensures.ok.0)
 
 pub returns-then-clock-time-clause-spent : goal.returns-then-clock-time-clause-spent
-returns-then-clock-time-clause-spent c = neither _ _ (λ same. spent_future _ _ same refl) (λ h. c.if-number-limits.false (c.number.ensures.is ∙ (h.1 ∙ ap (λ (l : Limits). l.txns) (sym c.limits.ensures))))
+returns-then-clock-time-clause-spent c = neither _ _ (λ same. spent_future _ _ same refl) (λ h. c.in_default.ensures.ok.1 h.1)
 
 pub returns-then-clock-time-clause-future : goal.returns-then-clock-time-clause-future
 returns-then-clock-time-clause-future c = λ x same. subst (λ (y : ℕ). (y < c.args.time) × Sees c.args.seat.now.view c.load_clock-clock.new.seat.view c.args.s y) (future_is _ _ _ refl same) (c.if-clock-time.true, sees _ _ _ _ c.load_clock-clock.ensures.clocked c.requires.own)
@@ -89,32 +62,38 @@ returns-then-clock-time-clause-never c = λ early clock same. let h = c.if-clock
 pub returns-then-clock-time-clause-still : goal.returns-then-clock-time-clause-still
 returns-then-clock-time-clause-still c = λ h. ⊎_elim (λ same. absurd (active_future _ _ same refl)) (λ same. absurd (spent_future _ _ same refl)) h
 
-pub step_begin-requires-clause-seat : goal.step_begin-requires-clause-seat
-step_begin-requires-clause-seat c = c.load_clock-clock.ensures.seat
+pub open-requires-clause-seat : goal.open-requires-clause-seat
+open-requires-clause-seat c = c.load_clock-clock.ensures.seat
 
-pub step_begin-requires-clause-host : goal.step_begin-requires-clause-host
-step_begin-requires-clause-host c = hosts_on _ _ _ _ _ c.load_clock-clock.ensures.clocked.view c.requires.host
+pub open-requires-clause-host : goal.open-requires-clause-host
+open-requires-clause-host c = hosts_on _ _ _ _ _ c.load_clock-clock.ensures.clocked.view c.requires.host
 
-pub step_begin-requires-clause-own : goal.step_begin-requires-clause-own
-step_begin-requires-clause-own c = own_on _ _ _ _ _ c.load_clock-clock.ensures.clocked.view c.requires.own
+pub open-requires-clause-own : goal.open-requires-clause-own
+open-requires-clause-own c = own_on _ _ _ _ _ c.load_clock-clock.ensures.clocked.view c.requires.own
 
-pub step_begin-requires-clause-enabled : goal.step_begin-requires-clause-enabled
-step_begin-requires-clause-enabled c = may_open _ _ _ _ _ _ true _ _ c.load_clock-clock.ensures.clocked c.is_open.ensures c.if-is_open.false c.number.ensures.is (c.number.ensures.few c.requires.own) c.limits.ensures c.if-number-limits.false c.if-clock-time.false
+pub open-requires-clause-closed : goal.open-requires-clause-closed
+open-requires-clause-closed c = closed_on _ _ _ _ c.load_clock-clock.ensures.clocked c.in_default.ensures.ok.0
+
+pub open-requires-clause-more : goal.open-requires-clause-more
+open-requires-clause-more c = more_on _ _ _ _ c.load_clock-clock.ensures.clocked c.in_default.ensures.ok.1
+
+pub open-requires-clause-early : goal.open-requires-clause-early
+open-requires-clause-early c = let all = seen_until _ _ _ _ c.load_clock-clock.ensures.clocked in let late = c.if-clock-time.false in omega arith
 
 pub returns-clause-seat : goal.returns-clause-seat
-returns-clause-seat c = c.step_begin.ensures.seat
+returns-clause-seat c = c.open.ensures.seat
 
 pub returns-clause-hosted : goal.returns-clause-hosted
-returns-clause-hosted c = c.step_begin.ensures.view.hosted ∙ c.load_clock-clock.ensures.clocked.view.hosted
+returns-clause-hosted c = c.open.ensures.hosted ∙ c.load_clock-clock.ensures.clocked.view.hosted
 
 pub returns-clause-ok : goal.returns-clause-ok
-returns-clause-ok c = (refl, (c.load_clock-clock.result, opens _ _ _ _ _ _ _ c.load_clock-clock.ensures.clocked c.requires.own c.if-clock-time.false c.step_begin.ensures.view c.step_begin.ensures.made))
+returns-clause-ok c = (refl, (c.load_clock-clock.result, c.open.ensures.opens c.args.seat.now.view c.load_clock-clock.result c.load_clock-clock.ensures.clocked (let late = c.if-clock-time.false in omega arith)))
 
 pub returns-clause-active : goal.returns-clause-active
-returns-clause-active c = neither _ _ (ok_err _ _ _ _) (not_true _ (sym c.is_open.ensures ∙ c.if-is_open.false))
+returns-clause-active c = neither _ _ (ok_err _ _ _ _) (not_true _ c.in_default.ensures.ok.0)
 
 pub returns-clause-spent : goal.returns-clause-spent
-returns-clause-spent c = neither _ _ (ok_err _ _ _ _) (λ h. c.if-number-limits.false (c.number.ensures.is ∙ (h.1 ∙ ap (λ (l : Limits). l.txns) (sym c.limits.ensures))))
+returns-clause-spent c = neither _ _ (ok_err _ _ _ _) (λ h. c.in_default.ensures.ok.1 h.1)
 
 pub returns-clause-future : goal.returns-clause-future
 returns-clause-future c = λ clock same. absurd (ok_err _ _ _ _ same)
