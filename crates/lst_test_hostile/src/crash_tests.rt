@@ -1,70 +1,12 @@
-//! Scripts that are crashed: what `crash` writes at calls of the disk, and that what is recovered is the table at the last commit that was acknowledged, or
-//! at the one behind it.
+//! Scripts that are crashed: what is recovered is the table at the last commit that was acknowledged, or at the one behind it.
 
 use crate::asof_tests::{behind_line, drawn, looked, without_last};
-use crate::calls::{all_answer, all_leave_nothing, same, written};
+use crate::calls::{same, written};
 use lst_model::OutOfMemory;
 use std::alloc::Global;
 use std::process::Abort;
 use std::sync::Wait;
 use std::thread::Threads;
-
-/// A row is put.
-const PUT: &str = "0 begin\n0 insert 7 10 20\n0 commit\n";
-
-/// A row is put, and deleted.
-const PUT_AND_DELETED: &str =
-    "0 begin\n0 insert 7 10 20\n0 commit\n0 begin\n0 delete 7\n0 commit\n";
-
-/// The commit is acknowledged, and recovered.
-const KEPT: &str = "0 begun 0\n0 ok\n0 committed 1\nrecovered 1\nrows 7:10,20\n";
-
-#[test]
-fn a_script_is_crashed_at_calls_of_its_disk(rt: HostRuntime) -> Result<(), OutOfMemory> {
-    all_answer(
-        &rt,
-        rt.alloc(),
-        &[
-            ("crash --stop 5", PUT, KEPT),
-            (
-                "crash --stop 4",
-                PUT,
-                "0 begun 0\n0 ok\n0 stopped\nrecovered 0\nrows\n",
-            ),
-            (
-                "crash --stop 4 --torn 1",
-                PUT,
-                "0 begun 0\n0 ok\n0 stopped\nrecovered 1\nrows 7:10,20\n",
-            ),
-            ("crash --stop 0", PUT, "stopped\nrecovered 0\nrows\n"),
-            ("crash", PUT, KEPT),
-            ("crash", "", "recovered 0\nrows\n"),
-            (
-                "crash --bytes 64",
-                PUT_AND_DELETED,
-                "0 begun 0\n0 ok\n0 committed 1\n0 begun 1\n0 ok\n0 full journal\nrecovered 1\nrows 7:10,20\n",
-            ),
-        ],
-    )
-}
-
-#[test]
-fn words_and_lines_of_a_crash_are_refused(rt: HostRuntime) -> Result<(), OutOfMemory> {
-    all_leave_nothing(
-        &rt,
-        rt.alloc(),
-        &[
-            ("crash --stop", "", 2),
-            ("crash --stop 1000001", "", 2),
-            ("crash --torn 2", "", 2),
-            ("crash --bytes 63", "", 2),
-            ("crash --bytes=262145", "", 2),
-            ("run --stop 1", "", 2),
-            ("crash --time 1", "", 2),
-            ("crash --columns 3", PUT, 3),
-        ],
-    )
-}
 
 /// The bytes without a last line that tells of a commit at which the disk stopped, where they end with one.
 fn without_stopped(bytes: &[u8]) -> &[u8] {

@@ -1,57 +1,11 @@
-//! Looks at past tables: what `asof` writes at each time, and that it is what a transaction as of that time scans.
+//! Past tables: what `asof` writes at each time is what a transaction as of that time scans.
 
-use crate::calls::{all_answer, all_leave_nothing, same, written};
+use crate::calls::{same, written};
 use lst_model::OutOfMemory;
 use std::alloc::{AllocError, Global};
 use std::process::Abort;
 use std::sync::Wait;
 use std::thread::Threads;
-
-/// A row, and a change of its first column.
-const CHANGED: &str = "0 begin\n0 insert 7 10 20\n0 commit\n0 begin\n0 update 7 11 _\n0 commit\n";
-
-/// A row that is put, deleted, and put again.
-const PUT_AGAIN: &str =
-    "0 begin\n0 insert 7 10 20\n0 commit\n0 begin\n0 delete 7\n0 commit\n0 begin\n0 insert 7 30 40\n0 commit\n";
-
-#[test]
-fn a_past_table_is_told_at_each_time(rt: HostRuntime) -> Result<(), OutOfMemory> {
-    all_answer(
-        &rt,
-        rt.alloc(),
-        &[
-            ("asof --time 0", CHANGED, "bytes 12\nrows\n"),
-            ("asof --time 1", CHANGED, "bytes 12\nrows 7:10,20\n"),
-            ("asof --time 2", CHANGED, "bytes 12\nrows 7:11,20\n"),
-            ("asof --time 3", CHANGED, "bytes 12\nfuture 2\n"),
-            ("asof", "", "bytes 3\nrows\n"),
-            ("asof --time=0", PUT_AGAIN, "bytes 15\nrows\n"),
-            ("asof --time=1", PUT_AGAIN, "bytes 15\nrows 7:10,20\n"),
-            ("asof --time=2", PUT_AGAIN, "bytes 15\nrows\n"),
-            ("asof --time=3", PUT_AGAIN, "bytes 15\nrows 7:30,40\n"),
-            (
-                "asof --time 18446744073709551615",
-                PUT_AGAIN,
-                "bytes 15\nfuture 3\n",
-            ),
-        ],
-    )
-}
-
-#[test]
-fn words_and_lines_of_a_look_are_refused(rt: HostRuntime) -> Result<(), OutOfMemory> {
-    all_leave_nothing(
-        &rt,
-        rt.alloc(),
-        &[
-            ("asof --time", "", 2),
-            ("asof --time -1", "", 2),
-            ("asof --seed 1", "", 2),
-            ("run --time 1", "", 2),
-            ("asof --columns 3", CHANGED, 3),
-        ],
-    )
-}
 
 /// The bytes behind the first newline.
 pub(crate) fn behind_line(bytes: &[u8]) -> &[u8] {

@@ -1,6 +1,6 @@
 use Rattle.std.proofs.Common.{◌≡◌, [], ◌∷◌, ◌++◌, refl, ap, ◌∙◌, arith}
 use Rattle.std.specs.Prelude.{Some, map, option_map}
-use Rattle.lst_shell.proofs.drawn_tests.first_and.Goals as goal
+use Rattle.lst_test_hostile.proofs.drawn_tests.first_and.Goals as goal
 
 pub returns : goal.returns
 returns c =

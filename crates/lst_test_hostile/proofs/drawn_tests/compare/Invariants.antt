@@ -2,7 +2,7 @@ use Rattle.std.proofs.Common.{◌≡◌}
 use Rattle.lst_plain.specs.Plains.{limits_of}
 use Rattle.lst_machine.specs.Machines.{limits_of as machine_limits}
 use Rattle.lst_session.specs.Crews.{IsCrewOf}
-use Rattle.lst_shell.proofs.drawn_tests.compare.Given as goal
+use Rattle.lst_test_hostile.proofs.drawn_tests.compare.Given as goal
 
 abbrev pub invariant-loop : goal.invariant-loop
 invariant-loop g l = record {

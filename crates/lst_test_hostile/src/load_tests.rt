@@ -1,6 +1,6 @@
-//! Loads: what `load` writes, that it reads nothing, and which words name none.
+//! Loads: what `load` writes, and that it reads nothing.
 
-use crate::calls::{Fails, all_are_refused, called, same, shows};
+use crate::calls::{called, failing, same};
 use lst_command::{FreeGate, Gate, Status};
 use lst_model::{Line, OutOfMemory};
 use lst_script::generate;
@@ -10,13 +10,6 @@ use std::sync::Wait;
 use std::sync::atomic::{AtomicU64, Ordering};
 use std::thread::Threads;
 
-/// A source that fails when it is read.
-const UNREADABLE: Fails = Fails {
-    read: 1,
-    write: 0,
-    report: 0,
-};
-
 /// A load with these options, of a source that fails when it is read: it tells these numbers, and leaves a store.
 fn loads(
     rt: &(impl Abort + Threads + Wait + Sync),
@@ -24,7 +17,7 @@ fn loads(
     line: &str,
     output: &str,
 ) -> Result<(), OutOfMemory> {
-    let shown = called(rt, alloc, line, b"0 begin\n", UNREADABLE, &FreeGate)?;
+    let shown = called(rt, alloc, line, b"0 begin\n", &failing(1, 0, 0), &FreeGate)?;
     same(rt, shown.status, Status::Done, line);
     same(rt, shown.sink.taken(), output.as_bytes(), line);
     let has_left = shown.left.is_some() && shown.errors.taken().is_empty();
@@ -32,38 +25,28 @@ fn loads(
     Ok(())
 }
 
-/// The same of each load, by its words and its output.
-fn all_load(
-    rt: &(impl Abort + Threads + Wait + Sync),
-    alloc: Global,
-    calls: &[(&str, &str)],
-) -> Result<(), OutOfMemory> {
-    for &(line, output) in calls {
-        loads(rt, alloc, line, output)?;
-    }
-    Ok(())
-}
+/// The words of loads, with their outputs.
+const LOADS: &[(&str, &str)] = &[
+    (
+        "load --seed 1 --keys 1000 --sessions 4",
+        "rows 1000\ntotal 1000000\n",
+    ),
+    (
+        "load --sessions=3 --keys=1 --seed=18446744073709551615",
+        "rows 1\ntotal 1000\n",
+    ),
+    (
+        "load --keys 300 --seed 0 --sessions 2",
+        "rows 300\ntotal 300000\n",
+    ),
+];
 
 #[test]
 fn a_load_tells_its_rows_and_their_total(rt: HostRuntime) -> Result<(), OutOfMemory> {
-    all_load(
-        &rt,
-        rt.alloc(),
-        &[
-            (
-                "load --seed 1 --keys 1000 --sessions 4",
-                "rows 1000\ntotal 1000000\n",
-            ),
-            (
-                "load --sessions=3 --keys=1 --seed=18446744073709551615",
-                "rows 1\ntotal 1000\n",
-            ),
-            (
-                "load --keys 300 --seed 0 --sessions 2",
-                "rows 300\ntotal 300000\n",
-            ),
-        ],
-    )
+    for &(line, output) in LOADS {
+        loads(&rt, rt.alloc(), line, output)?;
+    }
+    Ok(())
 }
 
 /// A gate that counts its calls.
@@ -87,7 +70,7 @@ fn calls_of_the_gate(
     let counter = Counter {
         calls: AtomicU64::new(0),
     };
-    called(rt, alloc, line, b"", UNREADABLE, &counter)?;
+    called(rt, alloc, line, b"", &failing(1, 0, 0), &counter)?;
     Ok(counter.calls.load(Ordering::SeqCst))
 }
 
@@ -110,35 +93,4 @@ fn the_gate_of_a_load_is_called_twice_for_each_line(rt: HostRuntime) -> Result<(
     let lines = script.unpacked(rt.alloc())?;
     same(&rt, calls, twice_the_lines(lines.as_slice()), line);
     Ok(())
-}
-
-#[test]
-fn a_load_whose_sink_fails_has_written_a_front(rt: HostRuntime) -> Result<(), OutOfMemory> {
-    let fails = Fails {
-        read: 1,
-        write: 2,
-        report: 0,
-    };
-    let (status, message) = (Status::WriteFault, "lstore: write failed\n");
-    let line = "load --keys 2";
-    shows(&rt, rt.alloc(), line, b"", fails, status, "rows ", message)
-}
-
-#[test]
-fn other_words_are_no_load(rt: HostRuntime) -> Result<(), OutOfMemory> {
-    all_are_refused(
-        &rt,
-        rt.alloc(),
-        &[
-            "load --keys 0",
-            "load --keys 4097",
-            "load --sessions 17",
-            "load --tails 3",
-            "load --seed 1 --seed 1",
-            "load --seed 18446744073709551616",
-            "load x",
-            "loads",
-            "run --keys 3",
-        ],
-    )
 }

@@ -1,6 +1,6 @@
 use Rattle.std.proofs.Common.{◌≡◌, [], ◌∷◌, ◌++◌, refl, ap, ◌∙◌, arith}
 use Rattle.std.specs.Prelude.{Some, None, map, option_map}
-use Rattle.lst_shell.proofs.drawn_tests.second_alone.Goals as goal
+use Rattle.lst_test_hostile.proofs.drawn_tests.second_alone.Goals as goal
 
 pub returns : goal.returns
 returns c =

@@ -2,7 +2,7 @@ use Rattle.std.proofs.Common.{◌∙◌, sym, subst}
 use Rattle.std.specs.List.{All}
 use Rattle.lst_seat.proofs.Gathering.{all_none, all_with}
 use Rattle.lst_session.specs.Passes.{IsReady}
-use Rattle.lst_shell.proofs.thread_tests.listed.Goals as goal
+use Rattle.lst_test_hostile.proofs.thread_tests.listed.Goals as goal
 
 pub returns : goal.returns
 returns c = let none = subst (All (IsReady c.args.store.now)) (sym c.new-items.ensures.items) (all_none (IsReady c.args.store.now)) in
