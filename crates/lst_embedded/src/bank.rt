@@ -144,34 +144,3 @@ pub(crate) fn run<R: Threads + Sync>(rt: &R, alloc: Global) -> Result<Books, Sto
     let audits = work_and_audit(rt, alloc, &store, &mut staff)?;
     close(alloc, &store, staff, audits)
 }
-
-#[cfg(test)]
-mod tests {
-    use super::{Books, run};
-    use std::fmt::Debug;
-    use std::process::Abort;
-
-    /// What was found is what was wanted, at this place of the books.
-    fn same<T: PartialEq + Debug + Drop>(rt: &impl Abort, found: T, wanted: T, at: &str) {
-        assert_eq!(rt; found, wanted, "{at}");
-    }
-
-    /// Nothing is lost.
-    fn are_right(rt: &impl Abort, books: &Books) {
-        same(rt, books.history.len(), 58, "commits");
-        same(rt, books.audits.len(), 10, "audits");
-        for audit in &books.audits {
-            same(rt, audit.total, 8_000, "an audit");
-        }
-        same(rt, books.total, 8_000, "in all");
-    }
-
-    /// Where there is memory the bank stays open, and nothing is lost.
-    #[test]
-    fn the_books_are_handed_back(rt: HostRuntime) {
-        match run(&rt, rt.alloc()) {
-            Ok(books) => are_right(&rt, &books),
-            Err(_) => panic!(rt; "the bank closed early"),
-        }
-    }
-}

@@ -2,31 +2,6 @@
 //! it judges a report; it tells a past table; it crashes a script's journal, and tells what is recovered; it writes a script for a table, and a table for a script; or it generates a script for its sessions.
 #![tactic(auto)]
 
-#[cfg(test)]
-mod asof_tests;
-#[cfg(test)]
-mod calls;
-#[cfg(test)]
-mod check_tests;
-#[cfg(test)]
-mod crash_tests;
-#[cfg(test)]
-mod drawn_tests;
-#[cfg(test)]
-mod load_tests;
-#[cfg(test)]
-mod named_tests;
-#[cfg(test)]
-mod option_tests;
-#[cfg(test)]
-mod row_tests;
-#[cfg(test)]
-mod table_tests;
-#[cfg(test)]
-mod tests;
-#[cfg(test)]
-mod thread_tests;
-
 use lst_command::program;
 use lst_io::{StdSink, StdSource};
 use std::process::ExitCode;

@@ -1,6 +1,7 @@
-//! Tests of the calls of sessions and crews, scans among them: each call of a script with its reply.
+//! Tests of the calls of sessions and crews, scans among them, and of sessions at the serializable level: each call of a script with its reply.
 //!
-//! A script is a constant table: `scripts.rt` has lines and their replies as texts, with the crew that answers them, and `steps.rt` the calls of one session with their answers.
+//! A script is a constant table: `scripts.rt` has lines and their replies as texts, with the crew that answers them, `steps.rt` the calls of one session with their answers, and
+//! `serials.rt` those of three sessions at the serializable level.
 #![tactic(auto)]
 
 #[cfg(test)]
@@ -16,6 +17,14 @@ mod scan_tests;
 #[cfg(test)]
 mod scripts;
 #[cfg(test)]
+mod serial_drawn_tests;
+#[cfg(test)]
+mod serial_refusal_tests;
+#[cfg(test)]
+mod serials;
+#[cfg(test)]
 mod session_tests;
+#[cfg(test)]
+mod skew_tests;
 #[cfg(test)]
 mod steps;

@@ -64,7 +64,7 @@ pub(crate) enum Step {
 }
 
 /// Sets the first column alone.
-fn patch(first: u64) -> Patch
+pub(crate) fn patch(first: u64) -> Patch
     ensures { IsPatch 2 result }
 {
     let mut cells = ArrayVec::new();
@@ -83,7 +83,7 @@ fn emptying() -> Patch
     patch
 }
 
-fn cells(rt: &impl Abort, row: &Row) -> Cells {
+pub(crate) fn cells(rt: &impl Abort, row: &Row) -> Cells {
     assert!(rt; row.len() == 2);
     (row.get(0), row.get(1))
 }

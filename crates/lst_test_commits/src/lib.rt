@@ -15,7 +15,11 @@ mod checks;
 #[cfg(test)]
 mod deeds;
 #[cfg(test)]
+mod digits_tests;
+#[cfg(test)]
 mod drawn_tests;
+#[cfg(test)]
+mod field_tests;
 #[cfg(test)]
 mod journal_tests;
 #[cfg(test)]

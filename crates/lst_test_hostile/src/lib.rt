@@ -1,17 +1,35 @@
-//! Tests of hostile use, over `lstore` itself: inputs cut off at each byte and changed at each byte, ends that fail at each of their calls, merges in
-//! each gap of a script, limits that are met, and schedules under which one session's line waits for another's.
+//! Tests of the program, over `lstore` itself: the examples and other worked inputs with what each command makes of them, faulty inputs, and ends that fail.
+//!
+//! And of hostile use: inputs cut off at each byte and changed at each byte, ends that fail at each of their calls, merges in each gap of a script, limits that
+//! are met, drawn scripts beside the engines of one thread, and schedules under which one session's line waits for another's.
 #![tactic(auto)]
 
+#[cfg(test)]
+mod answer_tests;
+#[cfg(test)]
+mod asof_tests;
 #[cfg(test)]
 mod byte_tests;
 #[cfg(test)]
 mod calls;
 #[cfg(test)]
+mod check_tests;
+#[cfg(test)]
+mod crash_tests;
+#[cfg(test)]
+mod drawn_tests;
+#[cfg(test)]
 mod end_tests;
+#[cfg(test)]
+mod example_tests;
+#[cfg(test)]
+mod fault_tests;
 #[cfg(test)]
 mod gate_tests;
 #[cfg(test)]
 mod limit_tests;
+#[cfg(test)]
+mod load_tests;
 #[cfg(test)]
 mod merge_tests;
 #[cfg(test)]
@@ -19,8 +37,8 @@ mod null_tests;
 #[cfg(test)]
 mod prefix_tests;
 #[cfg(test)]
-mod row_tests;
-#[cfg(test)]
 mod rows;
+#[cfg(test)]
+mod thread_tests;
 #[cfg(test)]
 mod work_tests;

@@ -1,10 +1,9 @@
 //! Sessions at work: what `work` writes for a script is a report that `check` judges to be legal.
 
-use crate::calls::{SOUND, Wanted, all_come_to, called, comes_to, same};
+use crate::calls::{SOUND, Wanted, all_come_to, called, comes_to, failing, same};
 use lst_command::{FreeGate, Gate, Status};
 use lst_model::OutOfMemory;
 use lst_script::FaultKind;
-use lst_test_memory::Ends;
 use std::alloc::Global;
 use std::process::Abort;
 use std::sync::Wait;
@@ -228,12 +227,6 @@ fn the_edges_of_work_are_those_of_run(rt: HostRuntime) -> Result<(), OutOfMemory
             ("work --sessions 1", b"0 begin\n1 begin\n", FAULTY),
         ],
     )?;
-    let ends = Ends {
-        read_step: 7,
-        write_step: 5,
-        failing_read: 0,
-        failing_write: 2,
-        failing_report: 0,
-    };
+    let ends = failing(0, 2, 0);
     comes_to(&rt, rt.alloc(), 2, "work", b"0 begin\n", &ends, CUT)
 }

@@ -1,4 +1,4 @@
-//! Tests of the parts that stand alone: packed words, addresses and limits, values and lists, packed pages, probing, chains, streams of
+//! Tests of the parts that stand alone: packed words, addresses and limits, values and lists, sums over a page, packed pages, probing, chains, streams of
 //! bytes, and disks.
 #![tactic(auto)]
 
@@ -10,6 +10,8 @@ mod chain_tests;
 mod disk_tests;
 #[cfg(test)]
 mod io_tests;
+#[cfg(test)]
+mod kernel_tests;
 #[cfg(test)]
 mod layout_tests;
 #[cfg(test)]

@@ -1,5 +1,5 @@
 //! Sessions of one seat, which hosts them all, taken operation by operation, so that tests can hold every order of their operations against each
-//! other; and tests of keys, postings, rows, seats, merges and transactions.
+//! other; and tests of keys, postings, rows, seats, pins, merges, pages and transactions.
 #![tactic(auto)]
 
 #[cfg(test)]
@@ -17,13 +17,21 @@ mod merge_tests;
 #[cfg(test)]
 mod operations;
 #[cfg(test)]
+mod page_tests;
+#[cfg(test)]
 mod pairs;
 #[cfg(test)]
 mod part_tests;
 #[cfg(test)]
+mod pin_tests;
+#[cfg(test)]
+mod place_tests;
+#[cfg(test)]
 mod post_tests;
 #[cfg(test)]
 mod read_tests;
+#[cfg(test)]
+mod same;
 #[cfg(test)]
 mod seat_tests;
 #[cfg(test)]

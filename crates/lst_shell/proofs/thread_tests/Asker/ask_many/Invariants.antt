@@ -1,5 +1,0 @@
-use Rattle.lst_session.specs.Passes.{IsReady}
-use Rattle.lst_shell.proofs.thread_tests.Asker.ask_many.Given as goal
-
-abbrev pub invariant-loop : goal.invariant-loop
-invariant-loop g l = IsReady l.store l.session
