@@ -5,9 +5,12 @@ use Rattle.lst_model.specs.declared.acts.Write.{Write}
 use Rattle.lst_model.specs.declared.commits.Commit.{Commit}
 use Rattle.lst_model.specs.Histories.{Extends}
 use Rattle.lst_core_state.specs.declared.facts.Find.TheVariants.{FreshClock}
+use Rattle.lst_layout.specs.declared.place.Place.TheVariants.{CommitWord}
 use Rattle.lst_core_state.specs.Writes.{commit}
+use Rattle.lst_core_state.specs.declared.events.Event.TheVariants.{Give}
 use Rattle.lst_rule.specs.declared.view.View.{View}
 use Rattle.lst_rule.specs.Rule.{knows}
+use Rattle.lst_rule.specs.Learned.{Made}
 use Rattle.lst_rule.specs.declared.store.Store.{Store}
 use Rattle.lst_session.specs.declared.kinds.Outcome.{Outcome}
 use Rattle.lst_session.specs.declared.kinds.Outcome.TheVariants.{Committed, Ended}
@@ -16,8 +19,9 @@ use Rattle.lst_session.specs.Passes.{IsReady}
 use Rattle.lst_session.specs.Calls.{Ends, OnlyLooks, FindsNoneFull, FindsHeld}
 use Rattle.lst_session.specs.Held.{HasSeenHistory, LooksStill, TakesTurn, CommitsNext}
 use Rattle.lst_session.proofs.Growing.{none_full_on}
+use Rattle.lst_session.proofs.Spending.{looks_same}
 use Rattle.lst_session.proofs.Waiting.{held_looks, same_commit, commits_after}
-use Rattle.lst_serial.proofs.Looking.{looks_same, looks_on, still_same, still_on, takes_after, fresh_still, found_after}
+use Rattle.lst_serial.proofs.Looking.{looks_on, still_same, still_on, takes_after, fresh_still, found_after}
 use Rattle.lst_serial.specs.declared.keys.KeySet.{KeySet}
 use Rattle.lst_serial.specs.declared.kinds.SerialCommit.{SerialCommit}
 use Rattle.lst_serial.specs.declared.kinds.SerialEnd.{SerialEnd}
@@ -73,6 +77,9 @@ module _ (v held w : View) (s : ℕ) (keys : KeySet) (all : Bool) (time : ℕ) (
     takes = takes;
     whole = whole;
     stale = g.stale;
+    asked = g.asked;
+    asks = g.asks;
+    gives = g.gives;
     still = g.still;
     fresh = fresh_still v held w s takes g.still;
     room = none_full_on v held w s takes.room g.still.room;
@@ -145,6 +152,9 @@ module _ (store : Store) (before session next : Session) (a : IsWaiting store be
       takes = takes_after u v c.held s a.looks a.room c.takes;
       whole = c.whole;
       stale = c.stale;
+      asked = c.asked;
+      asks = c.asks;
+      gives = c.gives;
       still = c.still;
       fresh = found_after u v w s (FreshClock (length (knows w s).seen)) a.looks c.fresh;
       room = none_full_on u v w s a.room c.room;
@@ -179,8 +189,14 @@ module _ (v w : View) (s : ℕ) (keys : KeySet) (all : Bool) where
 -- ---- with the turn in hand
 
 module _ (v asked w : View) (s t : ℕ) (keys : KeySet) (all : Bool) (time : ℕ) (same : t ≡ s) (still : LooksStill v asked s) where
-  pub gives_back : LooksStill asked w t → IsStaleAt (knows v s) keys all (Some time) → GivesBackStale v w s keys all time
-  gives_back back stale = record { still = still_on v asked w s still (subst (λ (n : ℕ). LooksStill asked w n) same back); stale = stale }
+  pub gives_back : LooksStill asked w t → Made asked w (Give t) CommitWord 0 → IsStaleAt (knows v s) keys all (Some time) → GivesBackStale v w s keys all time
+  gives_back back gives stale = record {
+    asked = asked;
+    asks = still;
+    stale = stale;
+    gives = subst (λ (n : ℕ). Made asked w (Give n) CommitWord 0) same gives;
+    still = still_on v asked w s still (subst (λ (n : ℕ). LooksStill asked w n) same back);
+  }
 
   pub spends : IsStaleAt (knows v s) keys all None → CommitsNext asked w t time → SpendsOnCommit v w s keys all time
   spends unchanged commits = record { asked = asked; still = still; unchanged = unchanged; commits = subst (λ (n : ℕ). CommitsNext asked w n time) same commits }

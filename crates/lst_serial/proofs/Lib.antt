@@ -2,3 +2,4 @@ pub mod Sets
 pub mod Checking
 pub mod Ending
 pub mod Looking
+pub mod Freeing

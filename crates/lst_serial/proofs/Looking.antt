@@ -9,17 +9,9 @@ use Rattle.lst_rule.specs.Rule.{knows}
 use Rattle.lst_write.specs.Standings.{FoundSince}
 use Rattle.lst_session.specs.Calls.{OnlyLooks, FindsNoneFull}
 use Rattle.lst_session.specs.Held.{LooksStill, TakesTurn}
-use Rattle.lst_session.proofs.Growing.{work_on, pins_on, pins_stay, none_full_on, none_full_still}
-use Rattle.lst_session.proofs.Keeping.{called_same}
+use Rattle.lst_session.proofs.Growing.{work_on, pins_on, none_full_on, none_full_still}
+use Rattle.lst_session.proofs.Spending.{looks_same}
 use Rattle.lst_session.proofs.Waiting.{called_on, lists_on}
-
-pub looks_same : (v : View) (s : ℕ) → OnlyLooks v v s
-looks_same v s = record {
-  called = called_same v v s refl;
-  same = record { transaction = record { number = refl; begin = refl; read_only = refl; is_open = refl }; own = refl; mine = refl };
-  pins = pins_stay (knows v s);
-  lists = record { drawn = refl; latched = refl; done = refl };
-}
 
 pub looks_on : (u v w : View) (s : ℕ) → OnlyLooks u v s → OnlyLooks v w s → OnlyLooks u w s
 looks_on u v w s a b = record {
@@ -47,6 +39,13 @@ module _ (u v w : View) (s : ℕ) (a : OnlyLooks u v s) (room : FindsNoneFull u 
   pub takes_after : TakesTurn v w s → TakesTurn u w s
   takes_after t = record {
     looks = looks_on u v w s a t.looks;
+    before = t.before;
+    first = looks_on u v t.before s a t.first;
+    after = t.after;
+    taken = t.taken;
+    last = t.last;
+    loaded = t.loaded;
+    possible = t.possible;
     fresh = found_after u v w s (FreshClock (length (knows w s).seen)) a t.fresh;
     room = none_full_on u v w s room t.room;
   }

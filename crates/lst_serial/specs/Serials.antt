@@ -1,12 +1,16 @@
 -- What a session at the serializable level keeps of its reads, and what its commits answer.
-use Rattle.std.specs.Prelude.{◌≡◌, ℕ, ◌+◌, ◌<◌, [], ◌∷◌, ◌++◌, List, Bool, true, false, length, Option, Some, None}
+use Rattle.std.specs.Prelude.{◌≡◌, ◌≢◌, ℕ, ◌+◌, ◌<◌, [], ◌∷◌, ◌++◌, List, Bool, true, false, length, Option, Some, None}
 use Rattle.lst_model.specs.declared.commits.Commit.{Commit}
 use Rattle.lst_model.specs.Histories.{Extends}
+use Rattle.lst_layout.specs.declared.place.Place.TheVariants.{CommitWord}
 use Rattle.lst_core_state.specs.Writes.{commit}
+use Rattle.lst_core_state.specs.declared.events.Event.TheVariants.{Give}
 use Rattle.lst_core_state.specs.declared.facts.Find.TheVariants.{FreshClock}
 use Rattle.lst_core_state.specs.declared.known.Known.{Known}
+use Rattle.lst_core_state.specs.State.{rank}
 use Rattle.lst_rule.specs.declared.view.View.{View}
-use Rattle.lst_rule.specs.Rule.{knows}
+use Rattle.lst_rule.specs.Rule.{knows, hosts}
+use Rattle.lst_rule.specs.Learned.{Made}
 use Rattle.lst_write.specs.Standings.{FoundSince}
 use Rattle.lst_changes.specs.Changes.{IsUnwrittenAfter, Changed}
 use Rattle.lst_session.specs.Calls.{OnlyLooks, FindsNoneFull, Commits}
@@ -47,10 +51,13 @@ pub record SpendsOnCommit (held w : View) (s : ℕ) (keys : KeySet) (all : Bool)
   pub unchanged : IsStaleAt (knows held s) keys all None
   pub commits : CommitsNext asked w s time
 
--- it was given back, with something changed
+-- it was given back by the last step, with something changed
 pub record GivesBackStale (held w : View) (s : ℕ) (keys : KeySet) (all : Bool) (time : ℕ) : Type 0 where
-  pub still : LooksStill held w s
+  pub asked : View
+  pub asks : LooksStill held asked s
   pub stale : IsStaleAt (knows held s) keys all (Some time)
+  pub gives : Made asked w (Give s) CommitWord 0
+  pub still : LooksStill held w s
 
 -- ---- commits
 
@@ -66,8 +73,8 @@ pub record CommitsInPlace (v w : View) (s : ℕ) (keys : KeySet) (all : Bool) (t
   pub seen : let k = knows v s in (knows w s).seen ≡ (knows held s).seen ++ commit s k.number k.begin k.own ∷ []
   pub place : (history : List Commit) → Extends history (knows w s).seen → IsInPlace (has keys) all history (knows v s).begin time
 
--- something that was read was found changed, in what was the whole history while the commit word was held. The clock was loaded then, and found as many commits
--- as are seen. The transaction stays open
+-- something that was read was found changed, in what was the whole history while the commit word was held: it was taken by one step, which found it free, and given
+-- back by the last one, and the view between is possible. The clock was loaded meanwhile, and found as many commits as are seen. The transaction stays open
 pub record FindsStale (v w : View) (s : ℕ) (keys : KeySet) (all : Bool) (time : ℕ) : Type 0 where
   pub looks : OnlyLooks v w s
   pub wrote : 0 < length (knows v s).own
@@ -75,6 +82,13 @@ pub record FindsStale (v w : View) (s : ℕ) (keys : KeySet) (all : Bool) (time 
   pub takes : TakesTurn v held s
   pub whole : HasSeenHistory held s
   pub stale : IsStaleAt (knows held s) keys all (Some time)
+  pub asked : View
+  pub asks : LooksStill held asked s
+  pub gives : Made asked w (Give s) CommitWord 0
   pub still : LooksStill held w s
   pub fresh : FoundSince v w s (FreshClock (length (knows w s).seen))
   pub room : FindsNoneFull v w s
+
+-- then no other session that the seat hosts had the turn
+abbrev pub StaleFoundItFree : Type 0
+StaleFoundItFree = (v w : View) (s : ℕ) (keys : KeySet) (all : Bool) (time : ℕ) → FindsStale v w s keys all time → (t : ℕ) → t ≢ s → t < v.limits.sessions → hosts v t ≡ true → rank (knows v t).turn ≡ 0

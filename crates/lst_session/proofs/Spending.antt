@@ -6,20 +6,22 @@ use Rattle.lst_model.specs.declared.commits.Commit.{Commit}
 use Rattle.lst_core_state.specs.Writes.{commit}
 use Rattle.lst_core_state.specs.declared.known.Known.{Known}
 use Rattle.lst_core_state.specs.declared.known.Placing.{Placing}
+use Rattle.lst_core_state.specs.declared.known.Stage.{Stage}
 use Rattle.lst_core_state.specs.declared.known.Stage.TheVariants.{Away}
+use Rattle.lst_core_state.specs.declared.facts.Fact.{Fact}
 use Rattle.lst_core_state.specs.declared.facts.Find.{Find}
 use Rattle.lst_core_state.specs.declared.facts.Find.TheVariants.{FreshClock}
 use Rattle.lst_core_state.specs.Facts.{early_find}
 use Rattle.lst_core_state.specs.State.{rank, mine, no_hold}
-use Rattle.lst_core_state.specs.Step.{took}
+use Rattle.lst_core_state.specs.Step.{took, refreshed}
 use Rattle.lst_rule.specs.declared.view.View.{View}
 use Rattle.lst_rule.specs.declared.store.Store.{Store}
-use Rattle.lst_rule.specs.Rule.{knows, hosts}
-use Rattle.lst_rule.specs.Learned.{Learns}
+use Rattle.lst_rule.specs.Rule.{knows, hosts, Allowed}
+use Rattle.lst_rule.specs.Learned.{Possible, Learns}
 use Rattle.lst_rule.specs.PageSteps.{unpinned}
 use Rattle.lst_rule.specs.Seats.{Sitting}
 use Rattle.lst_rule.specs.Stores.{IsSeatOf, clocked}
-use Rattle.lst_rule.proofs.Learning.{learns_then}
+use Rattle.lst_rule.proofs.Learning.{learns_same, learns_then}
 use Rattle.lst_rule.proofs.Watching.{clock_not_full}
 use Rattle.lst_txn.specs.declared.ends.Turn.{Turn}
 use Rattle.lst_txn.specs.Transactions as txn
@@ -30,7 +32,7 @@ use Rattle.lst_session.specs.declared.kinds.CommitRefusal.{CommitRefusal}
 use Rattle.lst_session.specs.declared.kinds.CommitRefusal.TheVariants.{Idle, Busy}
 use Rattle.lst_session.specs.declared.session.Session.{Session}
 use Rattle.lst_session.specs.Traces as traces
-use Rattle.lst_session.specs.Calls.{Commits}
+use Rattle.lst_session.specs.Calls.{OnlyLooks, Commits}
 use Rattle.lst_session.specs.Passes.{IsReady}
 use Rattle.lst_session.specs.Turns.{Takes, Asks, Spends, Returns}
 use Rattle.lst_session.specs.Held.{IsHeld, HasSeenHistory, LooksStill, TakesTurn, CommitsNext}
@@ -48,7 +50,29 @@ sees_history store seat s h words known merger a = seen_is seat.view words known
 still_wrote : (u k : Known) → k.own ≡ u.own → 0 < length u.own → 0 < length k.own
 still_wrote u k e some = subst (λ (ws : List Write). 0 < length ws) (sym e) some
 
+-- ---- what only looks
+
+-- who only sees and finds more, and is at another stage of its turn
+looks_by : (v w : View) (s : ℕ) (all : List Commit) (stage : Stage) (facts : List Fact) (finds : List Find) → Learns v w s (record (knows v s) { seen = all; turn = stage; facts = facts; finds = finds }) → Grown (knows v s) (knows w s)
+    → mine s (knows w s) ≡ mine s (knows v s) → OnlyLooks v w s
+looks_by v w s all stage facts finds view grown own = let e = view.now in record {
+  called = called v w s _ view grown;
+  same = record {
+    transaction = record { number = ap (λ (k : Known). k.number) e; begin = ap (λ (k : Known). k.begin) e; read_only = ap (λ (k : Known). k.read_only) e; is_open = ap (λ (k : Known). k.is_open) e };
+    own = ap (λ (k : Known). k.own) e;
+    mine = own;
+  };
+  pins = pins_by (knows v s) (knows w s) (ap (λ (k : Known). k.pages) e);
+  lists = record { drawn = ap (λ (k : Known). k.placing.drawn) e; latched = ap (λ (k : Known). k.latched) e; done = ap (λ (k : Known). k.done) e };
+}
+
+pub looks_same : (v : View) (s : ℕ) → OnlyLooks v v s
+looks_same v s = let k = knows v s in looks_by v v s k.seen k.turn k.facts k.finds (learns_same v s) record { seen = same_extends k.seen; facts = same_facts k.facts; finds = same_finds k.finds } refl
+
 -- ---- the turn is taken
+
+possible_by : (v : View) (words : List ℕ) (known : ℕ → Known) (merger : Known) → Allowed v words known merger → Possible v
+possible_by v words known merger allowed = record { words = words; known = known; merger = merger; allowed = allowed }
 
 module _ (v w : View) (s : ℕ) (own : s < v.limits.sessions) (t : Takes v w s) where
   abbrev all : List Commit
@@ -67,18 +91,38 @@ module _ (v w : View) (s : ℕ) (own : s < v.limits.sessions) (t : Takes v w s) 
     finds = (found, ap (λ (k : Known). k.finds) e);
   }
 
+  abbrev after_step : Known
+  after_step = knows t.between s
+
+  abbrev found_then : List Find
+  found_then = FreshClock (length t.load.all) ∷ early_find (knows t.between s) (length t.load.all)
+
+  -- after the step the clock was loaded, and nothing else done
+  clock_loaded : OnlyLooks t.between w s
+  clock_loaded = let e = t.load.view.now in
+      looks_by t.between w s t.load.all (refreshed after_step.turn) (after_step.facts ++ t.load.index) (after_step.finds ++ found_then) t.load.view
+      record {
+        seen = (t.load.grows.0, ap (λ (k : Known). k.seen) e ∙ t.load.grows.1);
+        facts = (t.load.index, ap (λ (k : Known). k.facts) e);
+        finds = (found_then, ap (λ (k : Known). k.finds) e);
+      }
+      (t.load.own (subst (λ (l : Limits). s < l.sessions) (sym t.takes.limits) own))
+
   pub taken : TakesTurn v w s
-  taken = let e = taken_view.now in record {
-    looks = record {
-      called = called v w s _ taken_view taken_grown;
-      same = record {
-        transaction = record { number = ap (λ (k : Known). k.number) e; begin = ap (λ (k : Known). k.begin) e; read_only = ap (λ (k : Known). k.read_only) e; is_open = ap (λ (k : Known). k.is_open) e };
-        own = ap (λ (k : Known). k.own) e;
-        mine = t.load.own (subst (λ (l : Limits). s < l.sessions) (sym t.takes.limits) own) ∙ ap (λ (k : Known). mine s k) t.takes.now;
-      };
-      pins = pins_by (knows v s) (knows w s) (ap (λ (k : Known). k.pages) e);
-      lists = record { drawn = ap (λ (k : Known). k.placing.drawn) e; latched = ap (λ (k : Known). k.latched) e; done = ap (λ (k : Known). k.done) e };
+  taken = let e = taken_view.now in let u = took (knows v s) in record {
+    looks = looks_by v w s t.load.all (refreshed u.turn) (u.facts ++ t.load.index) (u.finds ++ found) taken_view taken_grown
+        (t.load.own (subst (λ (l : Limits). s < l.sessions) (sym t.takes.limits) own) ∙ ap (λ (k : Known). mine s k) t.takes.now);
+    before = v;
+    first = looks_same v s;
+    after = t.between;
+    taken = t.made;
+    last = clock_loaded;
+    loaded = record {
+      more = found_then;
+      grows = ap (λ (k : Known). k.finds) t.load.view.now;
+      here = subst (λ (n : ℕ). Contains found_then (FreshClock n)) (sym (ap (λ (k : Known). length k.seen) t.load.view.now)) (0, omega arith, refl);
     };
+    possible = possible_by w _ _ _ t.load.looked.met.made.told.after;
     fresh = record { more = found; grows = ap (λ (k : Known). k.finds) e; here = subst (λ (n : ℕ). Contains found (FreshClock n)) (sym (ap (λ (k : Known). length k.seen) e)) (0, omega arith, refl) };
     room = record { more = found; grows = ap (λ (k : Known). k.finds) e; room = clock_not_full (took (knows v s)) (length t.load.all) };
   }
@@ -159,23 +203,16 @@ still_held store session seat held holder a = let v = session.seat.view in let w
 -- ---- the turn is given back
 
 pub returned_looks : (v w : View) (s : ℕ) → Returns v w s → LooksStill v w s
-returned_looks v w s r = let e = r.view.now in record {
-  looks = record {
-    called = called v w s _ r.view record {
-      seen = ([], ap (λ (k : Known). k.seen) e ∙ (same_extends (knows v s).seen).1);
-      facts = ([], ap (λ (k : Known). k.facts) e ∙ (same_facts (knows v s).facts).1);
-      finds = ([], ap (λ (k : Known). k.finds) e ∙ (same_finds (knows v s).finds).1);
-    };
-    same = record {
-      transaction = record { number = ap (λ (k : Known). k.number) e; begin = ap (λ (k : Known). k.begin) e; read_only = ap (λ (k : Known). k.read_only) e; is_open = ap (λ (k : Known). k.is_open) e };
-      own = ap (λ (k : Known). k.own) e;
-      mine = ap (λ (k : Known). mine s k) e;
-    };
-    pins = pins_by (knows v s) (knows w s) (ap (λ (k : Known). k.pages) e);
-    lists = record { drawn = ap (λ (k : Known). k.placing.drawn) e; latched = ap (λ (k : Known). k.latched) e; done = ap (λ (k : Known). k.done) e };
-  };
-  seen = ap (λ (k : Known). k.seen) e;
-  room = none_full_still v w s (ap (λ (k : Known). k.finds) e);
+returned_looks v w s r = let e = r.view.now in let k = knows v s in record {
+  looks = looks_by v w s k.seen Away k.facts k.finds r.view
+      record {
+        seen = ([], ap (λ (m : Known). m.seen) e ∙ (same_extends k.seen).1);
+        facts = ([], ap (λ (m : Known). m.facts) e ∙ (same_facts k.facts).1);
+        finds = ([], ap (λ (m : Known). m.finds) e ∙ (same_finds k.finds).1);
+      }
+      (ap (λ (m : Known). mine s m) e);
+  seen = ap (λ (m : Known). m.seen) e;
+  room = none_full_still v w s (ap (λ (m : Known). m.finds) e);
 }
 
 pub returned_ready : (store : Store) (session : Session) (seat : Sitting) → IsHeld store session → IsSeatOf store seat → Returns session.seat.view seat.view session.number → IsReady store record { seat = seat; number = session.number }

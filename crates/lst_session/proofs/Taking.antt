@@ -9,10 +9,12 @@ use Rattle.lst_model.proofs.Folds.{all_acts_on-append}
 use Rattle.lst_core_state.specs.declared.known.Known.{Known}
 use Rattle.lst_core_state.specs.State.{rank}
 use Rattle.lst_core_state.specs.Step.{took, refreshed}
+use Rattle.lst_core_state.specs.declared.events.Event.TheVariants.{Take}
+use Rattle.lst_layout.specs.declared.place.Place.TheVariants.{CommitWord}
 use Rattle.lst_rule.specs.declared.view.View.{View}
 use Rattle.lst_rule.specs.declared.store.Store.{Store}
 use Rattle.lst_rule.specs.Rule.{knows, hosts}
-use Rattle.lst_rule.specs.Learned.{Learns, Kept}
+use Rattle.lst_rule.specs.Learned.{Learns, Kept, Made}
 use Rattle.lst_rule.specs.Seats.{Sitting}
 use Rattle.lst_rule.specs.Stores.{IsSeatOf, Clocked}
 use Rattle.lst_index.specs.Searches.{Works, Keeps}
@@ -39,8 +41,8 @@ module _ (store : Store) (seat next : Sitting) (between : View) (s x : ℕ) (hos
       turn : rank (refreshed (knows between s).turn) ≡ 2
       turn = ap (λ (k : Known). rank (refreshed k.turn)) takes.now
 
-  pub took_it : Takes seat.view next.view s
-  took_it = record { between = between; takes = takes; clock = x; load = load }
+  pub took_it : Made seat.view between (Take s) CommitWord (s + 1) → Takes seat.view next.view s
+  took_it made = record { between = between; takes = takes; made = made; clock = x; load = load }
 
 -- ---- what is asked
 

@@ -1,13 +1,16 @@
 -- A session that holds the turn: what it knows of the history, what it may ask, and how it spends the turn.
 use Rattle.std.specs.Prelude.{◌≡◌, ℕ, ◌+◌, ◌<◌, List, [], ◌∷◌, ◌++◌, length}
 use Rattle.lst_layout.specs.Words.{shown}
+use Rattle.lst_layout.specs.declared.place.Place.TheVariants.{CommitWord}
 use Rattle.lst_core_state.specs.Writes.{commit}
+use Rattle.lst_core_state.specs.declared.events.Event.TheVariants.{Take}
 use Rattle.lst_core_state.specs.declared.facts.Find.TheVariants.{FreshClock}
 use Rattle.lst_core_state.specs.declared.known.Known.{Known}
 use Rattle.lst_core_state.specs.State.{history_of, no_hold}
 use Rattle.lst_rule.specs.declared.store.Store.{Store}
 use Rattle.lst_rule.specs.declared.view.View.{View}
 use Rattle.lst_rule.specs.Rule.{knows, Allowed}
+use Rattle.lst_rule.specs.Learned.{Possible, Made}
 use Rattle.lst_write.specs.Standings.{FoundSince}
 use Rattle.lst_refinement.specs.Crews.{IsPinnedWhereOpen}
 use Rattle.lst_changes.specs.Changes.{IsHolder}
@@ -33,9 +36,17 @@ pub record LooksStill (v w : View) (s : ℕ) : Type 0 where
   pub seen : (knows w s).seen ≡ (knows v s).seen
   pub room : FindsNoneFull v w s
 
--- only looks were made, and the clock was loaded, which found as many commits as are seen then. That the turn was taken before isn't said here
+-- the turn was taken, by a step that found the commit word free, and then the clock was loaded, which found as many commits as are seen then. Nothing
+-- else was done, but for looks, and the view is possible
 pub record TakesTurn (v w : View) (s : ℕ) : Type 0 where
   pub looks : OnlyLooks v w s
+  pub before : View
+  pub first : OnlyLooks v before s
+  pub after : View
+  pub taken : Made before after (Take s) CommitWord (s + 1)
+  pub last : OnlyLooks after w s
+  pub loaded : FoundSince after w s (FreshClock (length (knows w s).seen))
+  pub possible : Possible w
   pub fresh : FoundSince v w s (FreshClock (length (knows w s).seen))
   pub room : FindsNoneFull v w s
 

@@ -1,12 +1,13 @@
 -- A session that takes the turn, asks while it holds it, and spends it, step by step: which views lie between.
-use Rattle.std.specs.Prelude.{◌≡◌, ℕ, [], slice_set}
+use Rattle.std.specs.Prelude.{◌≡◌, ℕ, ◌+◌, [], slice_set}
 use Rattle.lst_layout.specs.Addresses.{address}
 use Rattle.lst_layout.specs.declared.place.Place.TheVariants.{CommitWord}
+use Rattle.lst_core_state.specs.declared.events.Event.TheVariants.{Take, Give}
 use Rattle.lst_core_state.specs.declared.known.Stage.TheVariants.{Away}
 use Rattle.lst_core_state.specs.Step.{took}
 use Rattle.lst_rule.specs.declared.view.View.{View}
 use Rattle.lst_rule.specs.Rule.{knows}
-use Rattle.lst_rule.specs.Learned.{Learns, Kept}
+use Rattle.lst_rule.specs.Learned.{Learns, Kept, Made}
 use Rattle.lst_rule.specs.Stores.{Clocked}
 use Rattle.lst_index.specs.Searches.{Works, Keeps}
 use Rattle.lst_txn.specs.Transactions.{Commits}
@@ -17,6 +18,7 @@ use Rattle.lst_changes.specs.Changes.{Steady}
 pub record Takes (v w : View) (s : ℕ) : Type 0 where
   pub between : View
   pub takes : Learns v between s (took (knows v s))
+  pub made : Made v between (Take s) CommitWord (s + 1)
   pub clock : ℕ
   pub load : Clocked between w s clock
 
@@ -38,3 +40,4 @@ pub record Spends (v w : View) (s time : ℕ) : Type 0 where
 pub record Returns (v w : View) (s : ℕ) : Type 0 where
   pub view : Learns v w s (record (knows v s) { turn = Away })
   pub words : w.words ≡ slice_set v.words (address v.limits CommitWord) 0
+  pub made : Made v w (Give s) CommitWord 0

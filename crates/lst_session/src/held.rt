@@ -1,7 +1,10 @@
 //! The turn to commit, held by a session while it finds out what has changed since its transaction began.
 ghost use Rattle.std.specs.Prelude.{◌≡◌, ◌↔◌, ◌+◌, ◌<◌, true, false, IfOk, IfErr, Err, length};
 ghost use Rattle.std.specs.Borrow.{sem, RestsIfErr};
+ghost use Rattle.lst_layout.specs.declared.place.Place.TheVariants.{CommitWord};
+ghost use Rattle.lst_core_state.specs.declared.events.Event.TheVariants.{Give};
 ghost use Rattle.lst_rule.specs.Rule.{knows, hosts};
+ghost use Rattle.lst_rule.specs.Learned.{Made};
 ghost use Rattle.lst_changes.specs.Changes.{Changed};
 ghost use Rattle.lst_session.specs.Calls.{FindsHeld};
 ghost use Rattle.lst_session.specs.Held.{IsHeld, HasSeenHistory, LooksStill, TakesTurn, CommitsNext};
@@ -65,6 +68,7 @@ impl Session {
         ensures ready { IsReady store.now self.new }
         ensures number { self.new.number ≡ self.old.number }
         ensures looks { LooksStill self.old.seat.view self.new.seat.view self.old.number }
+        ensures gives { Made self.old.seat.view self.new.seat.view (Give self.old.number) CommitWord 0 }
     {
         give_back(turn, store, &mut self.seat, self.number);
     }
@@ -137,6 +141,7 @@ impl Held<'_> {
         ensures ready { IsReady store.now self.exit.0.now }
         ensures number { self.exit.0.now.number ≡ self.entry.session.now.number }
         ensures looks { LooksStill self.entry.session.now.seat.view self.exit.0.now.seat.view self.entry.session.now.number }
+        ensures gives { Made self.entry.session.now.seat.view self.exit.0.now.seat.view (Give self.entry.session.now.number) CommitWord 0 }
     {
         let Held { session, turn } = self;
         session.give_back_turn(store, turn);

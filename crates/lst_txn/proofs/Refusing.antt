@@ -1,12 +1,14 @@
 -- What a call answers is one thing and no other.
-use Rattle.std.proofs.Common.{◌≡◌, ◌≢◌, ℕ, ◌↔◌, ◌<◌, ◌≤◌, List, Bool, true, false, length, refl, sym, subst, ap, ◌∙◌, arith, slice_index_or, cond, ne_eqb}
+use Rattle.std.proofs.Common.{◌≡◌, ◌≢◌, ℕ, ◌↔◌, ◌+◌, ◌<◌, ◌≤◌, List, Bool, true, false, length, refl, sym, subst, ap, ◌∙◌, arith, slice_index_or, cond, eqb, ne_eqb}
 use Rattle.std.specs.Prelude.{Result, Ok, Err}
 use Rattle.lst_layout.specs.declared.limits.Limits.{Limits}
 use Rattle.lst_core_state.specs.declared.known.Known.{Known}
+use Rattle.lst_layout.specs.declared.place.Place.TheVariants.{CommitWord}
+use Rattle.lst_core_state.specs.declared.events.Event.TheVariants.{Take}
 use Rattle.lst_core_state.specs.Step.{took, held_off}
 use Rattle.lst_rule.specs.declared.view.View.{View}
 use Rattle.lst_rule.specs.Rule.{knows, hosts}
-use Rattle.lst_rule.specs.Learned.{Possible, Learns, Kept}
+use Rattle.lst_rule.specs.Learned.{Possible, Learns, Kept, Made}
 use Rattle.lst_rule.proofs.Knowing.{knows_own}
 use Rattle.lst_rule.specs.Stores.{Clocked, Tried}
 use Rattle.lst_txn.specs.declared.begins.BeginFault.{BeginFault}
@@ -75,3 +77,6 @@ refused_as f g P h = (λ e. h.0 (refused_there f g e), λ p. refused_here f g (h
 
 pub tried_busy : (v w : View) (s x : ℕ) → Tried v w s x → x ≢ 0 → Learns v w s (held_off (knows v s)) × Kept v w
 tried_busy v w s x t more = (subst (λ (b : Bool). Learns v w s (cond b (took (knows v s)) (held_off (knows v s)))) (ne_eqb x 0 more) t.view, t.kept (omega (arith, more)))
+
+pub tried_taken : (v w : View) (s x : ℕ) → Tried v w s x → x ≡ 0 → Made v w (Take s) CommitWord (s + 1)
+tried_taken v w s x t none = subst (λ (n : ℕ). Made v w (Take s) CommitWord (cond (eqb n 0) (s + 1) n)) none t.met.made

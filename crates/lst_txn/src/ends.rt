@@ -2,11 +2,12 @@
 ghost use Rattle.std.specs.Prelude.{◌≡◌, ℕ, ◌↔◌, ◌+◌, ◌<◌, [], true, false, IfOk, OnErr, IsOk, Err, length, slice_set};
 ghost use Rattle.lst_layout.specs.Addresses.{address};
 ghost use Rattle.lst_layout.specs.declared.place.Place.TheVariants.{CommitWord, StateWord};
+ghost use Rattle.lst_core_state.specs.declared.events.Event.TheVariants.{Take, Give};
 ghost use Rattle.lst_core_state.specs.declared.known.Stage.TheVariants.{Away};
 ghost use Rattle.lst_core_state.specs.State.{rank};
 ghost use Rattle.lst_core_state.specs.Step.{took, held_off};
 ghost use Rattle.lst_rule.specs.Rule.{knows, hosts};
-ghost use Rattle.lst_rule.specs.Learned.{Learns, Kept};
+ghost use Rattle.lst_rule.specs.Learned.{Learns, Kept, Made};
 ghost use Rattle.lst_rule.specs.Stores.{IsSeatOf};
 ghost use Rattle.lst_txn.specs.Transactions.{IsFree, HoldsTurn, Commits};
 
@@ -46,6 +47,7 @@ pub fn take_turn(store: &Store, seat: &mut Seat, s: u32) -> Result<Turn, TurnFau
     ensures hosted { seat.new.view.hosts ≡ seat.old.view.hosts }
     ensures ok { IfOk result (λ turn. (turn.session ≡ s) × Learns seat.old.view seat.new.view s (took (knows seat.old.view s))) }
     ensures words { IfOk result (λ _. seat.new.view.words ≡ slice_set seat.old.view.words (address seat.old.view.limits CommitWord) (s + 1)) }
+    ensures made { IfOk result (λ _. Made seat.old.view seat.new.view (Take s) CommitWord (s + 1)) }
     ensures idle { (result ≡ Err TurnFault.Idle) ↔ ((knows seat.old.view s).is_open ≡ false) }
     ensures still { result ≡ Err TurnFault.Idle → seat.new ≡ seat.old }
     ensures busy { result ≡ Err TurnFault.Busy → Learns seat.old.view seat.new.view s (held_off (knows seat.old.view s)) × Kept seat.old.view seat.new.view }
@@ -90,6 +92,7 @@ impl Turn {
         ensures seat { IsSeatOf store.now seat.new }
         ensures view { Learns seat.old.view seat.new.view self.session (record (knows seat.old.view self.session) { turn = Away }) }
         ensures words { seat.new.view.words ≡ slice_set seat.old.view.words (address seat.old.view.limits CommitWord) 0 }
+        ensures made { Made seat.old.view seat.new.view (Give self.session) CommitWord 0 }
     {
         let Turn { session } = self;
         step_give(store, seat, session);

@@ -30,7 +30,7 @@ pub returns-in-Ok-clause-seat : goal.returns-in-Ok-clause-seat
 returns-in-Ok-clause-seat c = c.load_clock.ensures.seat
 
 pub returns-in-Ok-clause-ok : goal.returns-in-Ok-clause-ok
-returns-in-Ok-clause-ok c = (c.in-Ok.ensures.ok.0, takes_turn c.args.store.now c.args.seat.now c.load_clock.new.seat c.take_turn.new.seat.view c.args.s c.load_clock.result c.requires.host c.requires.own (opened_by _ (λ f. ok_err _ _ _ _ (c.in-Ok.ensures.idle.1 f))) c.in-Ok.ensures.ok.1 c.load_clock.ensures.seat c.load_clock.ensures.clocked, took_it c.args.store.now c.args.seat.now c.load_clock.new.seat c.take_turn.new.seat.view c.args.s c.load_clock.result c.requires.host c.requires.own (opened_by _ (λ f. ok_err _ _ _ _ (c.in-Ok.ensures.idle.1 f))) c.in-Ok.ensures.ok.1 c.load_clock.ensures.seat c.load_clock.ensures.clocked)
+returns-in-Ok-clause-ok c = (c.in-Ok.ensures.ok.0, takes_turn c.args.store.now c.args.seat.now c.load_clock.new.seat c.take_turn.new.seat.view c.args.s c.load_clock.result c.requires.host c.requires.own (opened_by _ (λ f. ok_err _ _ _ _ (c.in-Ok.ensures.idle.1 f))) c.in-Ok.ensures.ok.1 c.load_clock.ensures.seat c.load_clock.ensures.clocked, took_it c.args.store.now c.args.seat.now c.load_clock.new.seat c.take_turn.new.seat.view c.args.s c.load_clock.result c.requires.host c.requires.own (opened_by _ (λ f. ok_err _ _ _ _ (c.in-Ok.ensures.idle.1 f))) c.in-Ok.ensures.ok.1 c.load_clock.ensures.seat c.load_clock.ensures.clocked c.in-Ok.ensures.made)
 
 pub returns-in-Ok-clause-idle : goal.returns-in-Ok-clause-idle
 returns-in-Ok-clause-idle c = neither _ _ (ok_err _ _ _ _) (λ f. ok_err _ _ _ _ (c.in-Ok.ensures.idle.1 f))

@@ -1,6 +1,6 @@
 use Rattle.std.proofs.Common.{refl, sym, ◌∙◌}
 use Rattle.lst_rule.proofs.Knowing.{free_turn}
-use Rattle.lst_txn.proofs.Refusing.{neither, not_false, ok_err, idle_busy, tried_busy}
+use Rattle.lst_txn.proofs.Refusing.{neither, not_false, ok_err, idle_busy, tried_busy, tried_taken}
 use Rattle.lst_txn.proofs.ends.take_turn.Goals as goal
 
 pub is_open-requires : goal.is_open-requires
@@ -17,6 +17,9 @@ returns-then-not-is_open-clause-ok c = tt
 
 pub returns-then-not-is_open-clause-words : goal.returns-then-not-is_open-clause-words
 returns-then-not-is_open-clause-words c = tt
+
+pub returns-then-not-is_open-clause-made : goal.returns-then-not-is_open-clause-made
+returns-then-not-is_open-clause-made c = tt
 
 pub returns-then-not-is_open-clause-idle : goal.returns-then-not-is_open-clause-idle
 returns-then-not-is_open-clause-idle c = (λ _. sym c.is_open.ensures ∙ c.if-not-is_open.true, λ _. refl)
@@ -48,6 +51,9 @@ returns-then-step_take-eq0-clause-seat c = c.step_take.ensures.seat
 pub returns-then-step_take-eq0-clause-hosted : goal.returns-then-step_take-eq0-clause-hosted
 returns-then-step_take-eq0-clause-hosted c = c.step_take.ensures.tried.view.hosted
 
+pub returns-then-step_take-eq0-clause-made : goal.returns-then-step_take-eq0-clause-made
+returns-then-step_take-eq0-clause-made c = tried_taken _ _ _ _ c.step_take.ensures.tried c.if-step_take-eq0.true
+
 pub returns-then-step_take-eq0-clause-idle : goal.returns-then-step_take-eq0-clause-idle
 returns-then-step_take-eq0-clause-idle c = neither _ _ (ok_err _ _ _ _) (not_false _ (sym c.is_open.ensures ∙ c.if-not-is_open.false))
 
@@ -71,6 +77,9 @@ returns-else-step_take-eq0-clause-ok c = tt
 
 pub returns-else-step_take-eq0-clause-words : goal.returns-else-step_take-eq0-clause-words
 returns-else-step_take-eq0-clause-words c = tt
+
+pub returns-else-step_take-eq0-clause-made : goal.returns-else-step_take-eq0-clause-made
+returns-else-step_take-eq0-clause-made c = tt
 
 pub returns-else-step_take-eq0-clause-idle : goal.returns-else-step_take-eq0-clause-idle
 returns-else-step_take-eq0-clause-idle c = neither _ _ (λ same. idle_busy _ _ same refl) (not_false _ (sym c.is_open.ensures ∙ c.if-not-is_open.false))
