@@ -114,16 +114,7 @@ taken_over Dump limits input text status both old new owed over = (
   },
   owed.1,
 )
-taken_over (Crash disk) limits input text status both old new owed over = (
-  record {
-    script = owed.0.script;
-    is_script = owed.0.is_script;
-    both = owed.0.both;
-    is_left = is_over both old new owed.0.both owed.0.is_left over;
-    by = owed.0.by;
-  },
-  owed.1,
-)
+taken_over (Crash disk) limits input text status both old new owed over = (owed.0, owed.1, over.1 owed.2)
 
 -- what a command makes has a status with which an output is written
 made_final : (command : Command) (source : Change) (text : List ℕ) (status : Status) (old new : Left) → Makes command source text status old new → IsFinal status

@@ -4,7 +4,7 @@ use Rattle.lst_model.specs.declared.lines.Line.{Line}
 use Rattle.lst_layout.specs.declared.layout.Layout.{Layout}
 use Rattle.lst_layout.specs.Limits.{IsValid}
 use Rattle.lst_layout.specs.declared.limits.Limits.{Limits}
-use Rattle.lst_crash.specs.Recovering.{IsCrashed}
+use Rattle.lst_crash.specs.Crashes.{Ending, ending_of, recovered, crash_text}
 use Rattle.lst_csv.specs.declared.faults.TableFault.{TableFault}
 use Rattle.lst_csv.specs.Importing.{import_of}
 use Rattle.lst_csv.specs.Records.{records_of}
@@ -138,13 +138,16 @@ pub record OwesDump (limits : Limits) (input text : List ℕ) (left : Left) : Ty
 
 -- ---- what a crash owes
 
--- the input is this script, which was run through a journal and crashed: the text tells that, and what was recovered, and this store and crew are left, which hold it
-pub record OwesCrash (disk : DiskOptions) (limits : Limits) (input text : List ℕ) (left : Left) : Type 0 where
+-- the text of a script that is run through a journal on such a disk and crashed, with what is recovered
+abbrev pub crashed_text : DiskOptions → Limits → List Line → List ℕ
+crashed_text disk limits script =
+    let ending : Ending = ending_of limits disk.bytes disk.stop script in crash_text ending (recovered disk.torn ending)
+
+-- the input is this script, and the text tells how it was run and what was recovered
+pub record OwesCrash (disk : DiskOptions) (limits : Limits) (input text : List ℕ) : Type 0 where
   pub script : List Line
   pub is_script : IsScript limits input script
-  pub both : Store × Crew
-  pub is_left : left ≡ Some both
-  pub by : IsCrashed limits disk.bytes disk.stop script text both
+  pub is_text : text ≡ crashed_text disk limits script
 
 -- ---- what a load owes
 
@@ -164,7 +167,7 @@ pub record OwesLoad (numbers : LoadNumbers) (text : List ℕ) (left : Left) : Ty
 -- ---- what a task owes
 
 -- The input is in order for this task, which comes to this text and, where the text is written, to this status. Where `old` was left before, `new` is
--- left now: what the task made, and by a check, a migration or an import what there was.
+-- left now: what the task made, and by a check, a migration, an import or a crash what there was.
 abbrev pub OwesFor : Task → Limits → List ℕ → List ℕ → Status → Left → Left → Type 0
 OwesFor Run limits input text status old new = OwesAnswers limits input text new × (status ≡ Done)
 OwesFor (Work level) limits input text status old new = OwesReport level limits input text new × (status ≡ Done)
@@ -173,7 +176,7 @@ OwesFor Migrate limits input text status old new = OwesMigration limits input te
 OwesFor (AsOf time) limits input text status old new = OwesPast time limits input text new × (status ≡ Done)
 OwesFor Import limits input text status old new = OwesTable limits input text × (status ≡ Done) × (new ≡ old)
 OwesFor Dump limits input text status old new = OwesDump limits input text new × (status ≡ Done)
-OwesFor (Crash disk) limits input text status old new = OwesCrash disk limits input text new × (status ≡ Done)
+OwesFor (Crash disk) limits input text status old new = OwesCrash disk limits input text × (status ≡ Done) × (new ≡ old)
 
 -- the input's first faulty line for this task; a table has no lines
 abbrev pub IsFaultFor : Task → Limits → List ℕ → ℕ → FaultKind → Type 0

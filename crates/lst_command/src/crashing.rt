@@ -5,8 +5,8 @@ ghost use Rattle.lst_options.specs.Options.{IsDisk};
 ghost use Rattle.lst_command.specs.declared.command.Task.{Task as TaskOf};
 ghost use Rattle.lst_command.specs.Outputs.{IsOutputFor, IsRefusalFor};
 
-use crate::execution::{Ran, layout};
-use crate::output::{Output, of_fault, output_of};
+use crate::execution::layout;
+use crate::output::{Output, of_fault};
 use crate::status::Status;
 use lst_crash::crash_lines;
 use lst_layout::Limits;
@@ -34,10 +34,11 @@ pub(crate) fn crash_input(
     };
     let stop = u64::from(disk.stop);
     match crash_lines(alloc, &script, &layout(limits), disk.bytes, stop, disk.torn) {
-        Ok(crashed) => Ok(output_of(Ran {
+        Ok(crashed) => Ok(Output {
             text: crashed.text,
-            left: crashed.left,
-        })),
+            status: Status::Done,
+            both: None,
+        }),
         Err(OutOfMemory) => Err(Status::OutOfMemory),
     }
 }

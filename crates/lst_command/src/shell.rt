@@ -58,7 +58,8 @@ const MOST_BYTES: u64 = 16_777_216;
 /// For `dump` it is a script, which is run as for `run`, and the output is the table that its commits make, as comma-separated values.
 /// For `crash` it is a script, which is run through a journal on a disk in memory of `--bytes` bytes that makes `--stop` calls and fails then. The disk crashes
 /// at the first line at which it fails, or behind the last line, and is opened again. The output is what the lines are answered until then, how many
-/// commits were recovered and the table that they make: they are those that were acknowledged, or these and the one at which the disk failed.
+/// commits were recovered and the table that they make: they are those that were acknowledged, and the one at which the disk failed exactly where the disk is
+/// torn and three of its calls were left for it.
 /// The words are looked at first, then the whole input is read, then its lines are, then they are run, and then the output is written at once.
 /// Want of memory may come at any of these but the last, so at the words too: then nothing is read.
 ///
@@ -67,10 +68,9 @@ const MOST_BYTES: u64 = 16_777_216;
 /// sink fails or memory is wanting.
 ///
 /// With `Done` and with `WriteFault` of a run, a look at a past table and a dump, `left` receives a store with those limits and the crew that hosts all of
-/// it, which tells the machine's state after the last line; of a crash a store and its crew, which tell its state behind the lines that run
-/// the recovered commits again; of sessions at work the store and the crew in which they are gathered, under whose history
+/// it, which tells the machine's state after the last line; of sessions at work the store and the crew in which they are gathered, under whose history
 /// the very report that was written is legal. Of a load it receives the store and the crew in which its sessions are gathered. With any other status,
-/// and of a check, a migration or an import, `left` stays as it is.
+/// and of a check, a migration, an import or a crash, `left` stays as it is.
 ///
 /// A worker calls the gate before each of its lines, and after each that was answered, which no clause says. Nothing is promised of when the call returns: a session that commits
 /// waits while another one does.

@@ -1,10 +1,10 @@
 -- What a crash of a disk in memory leaves, and what an image of zeros stands for.
-use Rattle.std.proofs.Common.{◌≡◌, ℕ, zero, suc, List, [], ◌∷◌, ◌++◌, replicate, refl, arith}
+use Rattle.std.proofs.Common.{◌≡◌, ℕ, zero, suc, Bool, Some, List, [], ◌∷◌, ◌++◌, replicate, refl, arith}
 use Rattle.lst_layout.specs.declared.limits.Limits.{Limits}
 use Rattle.lst_model.specs.declared.commits.Commit.{Commit}
 use Rattle.lst_disk.specs.declared.memory.MemDisk.{MemDisk}
-use Rattle.lst_disk.specs.Disk.{LeavesOnly}
-use Rattle.lst_disk.specs.Memory.{disk_content, disk_clock, disk_images, disk_images_since}
+use Rattle.lst_disk.specs.Disk.{LeavesOnly, tears}
+use Rattle.lst_disk.specs.Memory.{disk_content, disk_clock, disk_images, disk_images_since, disk_torn, disk_outcome}
 use Rattle.lst_disk.specs.MemoryLaws.{content_stays, is_now}
 use Rattle.lst_log.specs.Journals.{Ends, StandsFor}
 use Rattle.lst_log.specs.Stores.{LastsSince}
@@ -39,3 +39,12 @@ zeros_stand columns size = record {
 -- which need no room
 pub none_need_room : (limits : Limits) → HasRoomFor limits []
 none_need_room limits = record { sessions = tt; each = λ s. omega arith; keys = omega arith; writes = omega arith }
+
+-- ---- a torn crash
+
+some_torn : (a b : Bool) → Some a ≡ Some b → a ≡ b
+some_torn a b e = cc
+
+-- whether it is one stays
+pub torn_stays : (old new : MemDisk) → tears (Some (disk_outcome new)) ≡ tears (Some (disk_outcome old)) → disk_torn new ≡ disk_torn old
+torn_stays old new e = some_torn (disk_torn new) (disk_torn old) e

@@ -6,13 +6,14 @@ use Rattle.lst_model.specs.declared.commits.Commit.{Commit}
 use Rattle.lst_model.specs.declared.lines.Line.{Line}
 use Rattle.lst_disk.specs.declared.memory.MemDisk.{MemDisk}
 use Rattle.lst_disk.specs.Disk.{Only, LeavesOnly}
-use Rattle.lst_disk.specs.Memory.{disk_content, disk_clock, disk_images, disk_images_since, disk_left}
+use Rattle.lst_disk.specs.Memory.{disk_content, disk_clock, disk_images, disk_images_since, disk_synced, disk_outcome, disk_left}
+use Rattle.lst_disk.specs.MemoryLaws.{content_stays, synced_stays}
 use Rattle.lst_log.specs.Journals.{StandsFor, HasOneList}
 use Rattle.lst_log.specs.Stores.{LastsSince}
 use Rattle.lst_redo.specs.declared.journal.Redo.{Redo}
 use Rattle.lst_redo.specs.Openings.{HasOpened}
 use Rattle.lst_crash.specs.Crashes.{most_bytes, start_of, Ending, ending_from, ending_of, limits_again}
-use Rattle.lst_crash.specs.Recovering.{IsAt, IsRunning, HasEnded}
+use Rattle.lst_crash.specs.Recovering.{IsAt, IsRunning, IsRecoverable, HasEnded}
 use Rattle.lst_crash.proofs.Images.{left_now, content_kept, zeros_stand, none_need_room}
 
 module _ (limits : Limits) (disk : MemDisk) (zeros : disk_content disk ≡ replicate (length (disk_content disk)) 0) where
@@ -38,17 +39,17 @@ module _ (limits : Limits) (disk : MemDisk) (zeros : disk_content disk ≡ repli
   -- a disk that failed at once leaves no commits
   pub stopped_at_once : (e : MemDisk) (script : List Line) (bytes stop : ℕ) (text : List ℕ) → Only (disk_content disk) (disk_images disk) → LeavesOnly disk_clock disk_images_since disk e (disk_images disk)
       → stop ≡ 0 → text ≡ codes "stopped\n" → HasEnded limits e text (ending_of limits bytes stop script)
-  stopped_at_once e script bytes stop text only run never said = subst (λ (n : ℕ). HasEnded limits e text (ending_of limits bytes n script)) (sym never) record {
-    is_text = said;
-    recoverable = λ image now. (
-      [],
-      refl,
-      record {
+  stopped_at_once e script bytes stop text only run never said =
+      let none : (image : List ℕ) → disk_images e image → IsRecoverable limits [] image =
+      λ image now. record {
         stands = subst (λ (content : List ℕ). StandsFor limits.columns content []) (sym (only image (left_now disk e (disk_images disk) run image now))) none_stand;
         room = none_need_room (limits_again limits);
-      },
-    );
-  }
+      } in
+      subst (λ (n : ℕ). HasEnded limits e text (ending_of limits bytes n script)) (sym never) record {
+        is_text = said;
+        written = none (disk_content e) (content_stays e);
+        synced = none (disk_synced e) (synced_stays e (disk_outcome e) refl);
+      }
 
 -- a run whose opening was made
 pub ending_is : (limits : Limits) (bytes stop : ℕ) (script : List Line) → (stop ≡ 0 → ⊥) → ending_from limits bytes (start_of (stop - 1)) [] script ≡ ending_of limits bytes stop script

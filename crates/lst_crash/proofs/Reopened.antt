@@ -1,5 +1,5 @@
 -- The second opening: what it makes of the image, and the text that tells it.
-use Rattle.std.proofs.Common.{◌≡◌, ℕ, List, [], ◌∷◌, ◌++◌, length, refl, sym, ap, ◌∙◌, subst, arith}
+use Rattle.std.proofs.Common.{◌≡◌, ℕ, Bool, true, false, List, [], ◌∷◌, ◌++◌, length, refl, sym, ap, ◌∙◌, subst, arith}
 use Rattle.lst_layout.specs.declared.limits.Limits.{Limits}
 use Rattle.lst_model.specs.declared.commits.Commit.{Commit}
 use Rattle.lst_model.specs.declared.lines.Line.{Line}
@@ -8,7 +8,8 @@ use Rattle.lst_model.specs.Tables.{Rows, scan_of}
 use Rattle.lst_model.specs.Histories.{table_at}
 use Rattle.lst_machine.specs.State.{State}
 use Rattle.lst_disk.specs.declared.memory.MemDisk.{MemDisk}
-use Rattle.lst_disk.specs.Memory.{disk_content, disk_images}
+use Rattle.lst_disk.specs.Disk.{left_by}
+use Rattle.lst_disk.specs.Memory.{disk_content, disk_images, disk_synced, disk_torn, disk_outcome}
 use Rattle.lst_historic.specs.Blocks.{AreWide}
 use Rattle.lst_past.specs.Past.{number_line, rows_line}
 use Rattle.std.specs.Prelude.{codes}
@@ -25,7 +26,7 @@ use Rattle.lst_session.specs.Crews.{IsCrewOf, TellsState, state_told, store_told
 use Rattle.lst_redo.specs.declared.journal.Redo.{Redo}
 use Rattle.lst_redo.specs.Journals.{view_of}
 use Rattle.lst_redo.specs.Openings.{HasOpened}
-use Rattle.lst_crash.specs.Crashes.{ending_of, recovered_text, limits_again}
+use Rattle.lst_crash.specs.Crashes.{Ending, ending_of, recovered as commits_of, recovered_text, limits_again}
 use Rattle.lst_crash.specs.Recovering.{IsCrashed, IsRecoverable, HasEnded, HasRecovered}
 use Rattle.lst_crash.proofs.Histories.{sound_told, wide_told}
 
@@ -45,30 +46,29 @@ same_text history commits same =
 
 -- ---- the store
 
-module _ (limits : Limits) (disk before : MemDisk) (image : disk_images before (disk_content disk)) (redo : Redo MemDisk) (again : Limits) (same_limits : again ≡ limits_again limits)
+module _ (limits : Limits) (disk before : MemDisk) (is : disk_content disk ≡ left_by (disk_outcome before) (disk_content before)) (redo : Redo MemDisk) (again : Limits) (same_limits : again ≡ limits_again limits)
     (found : (commits : List Commit) × HasOpened disk_content disk_images again disk commits redo) (one : HasOneList) where
   -- the commits that it stands for are those that were found
-  these : (commits : List Commit) → IsRecoverable limits commits (disk_content disk) → found.0 ≡ commits
-  these commits is =
-      one limits.columns (disk_content disk) found.0 commits (subst (λ (l : Limits). StandsFor l.columns (disk_content disk) found.0) same_limits found.1.stood) is.stands
+  these : (commits : List Commit) → IsRecoverable limits commits (left_by (disk_outcome before) (disk_content before)) → found.0 ≡ commits
+  these commits can =
+      one limits.columns (disk_content disk) found.0 commits (subst (λ (l : Limits). StandsFor l.columns (disk_content disk) found.0) same_limits found.1.stood)
+      (subst (λ (content : List ℕ). StandsFor limits.columns content commits) (sym is) can.stands)
 
-  opened : (commits : List Commit) → IsRecoverable limits commits (disk_content disk) → HasOpened disk_content disk_images (limits_again limits) disk commits redo
-  opened commits is =
-      subst (λ (cs : List Commit). HasOpened disk_content disk_images (limits_again limits) disk cs redo) (these commits is)
+  opened : (commits : List Commit) → IsRecoverable limits commits (left_by (disk_outcome before) (disk_content before)) → HasOpened disk_content disk_images (limits_again limits) disk commits redo
+  opened commits can =
+      subst (λ (cs : List Commit). HasOpened disk_content disk_images (limits_again limits) disk cs redo) (these commits can)
       (subst (λ (l : Limits). HasOpened disk_content disk_images l disk found.0 redo) same_limits found.1)
 
   pub recovered : (text now : List ℕ) (history : List Commit) (store : Store) (crew : Crew) → history ≡ (store_told (view_of redo)).history → now ≡ text ++ recovered_text history
       → store ≡ redo.store → redo.store.layout.limits ≡ again → IsCrewOf store crew → KeepsState (view_of redo) crew.seat.view → HasRecovered limits before text now (store, crew)
   recovered text now history store crew told said same layout of keeps = record {
-    image = disk_content disk;
-    left_so = image;
-    is_text = λ commits is.
-        said ∙ ap (λ (t : List ℕ). text ++ t) (ap recovered_text told ∙ same_text (store_told (view_of redo)).history commits (opened commits is).journal.same);
-    holds = λ commits is. let kept = keeps (opened commits is).ran.tells in record {
+    is_text = λ commits can.
+        said ∙ ap (λ (t : List ℕ). text ++ t) (ap recovered_text told ∙ same_text (store_told (view_of redo)).history commits (opened commits can).journal.same);
+    holds = λ commits can. let kept = keeps (opened commits can).ran.tells in record {
       opened = of.seat_of.limits ∙ ap (λ (s : Store). s.layout.limits) same ∙ layout ∙ same_limits;
       crew_of = of;
       tells = kept.0;
-      told = kept.1 ∙ (opened commits is).state;
+      told = kept.1 ∙ (opened commits can).state;
     };
   }
 
@@ -102,13 +102,23 @@ module _ (v w : View) (keeps : TellsState w × (state_told w ≡ state_told v)) 
 
 -- ---- a whole script
 
--- what is recovered behind a run is what may be
-pub is_crashed : (limits : Limits) (bytes stop : ℕ) (script : List Line) (disk : MemDisk) (before text : List ℕ) (left : Store × Crew) → HasEnded limits disk before (ending_of limits bytes stop script) → HasRecovered limits disk before text left
-    → IsCrashed limits bytes stop script text left
-is_crashed limits bytes stop script disk before text left has_ended found =
-    let can = has_ended.recoverable found.image found.left_so in record {
-      commits = can.0;
-      recovered = can.1;
-      is_text = found.is_text can.0 can.2 ∙ ap (λ (t : List ℕ). t ++ recovered_text can.0) has_ended.is_text;
-      holds = found.holds can.0 can.2;
+-- what a crash leaves
+pub left_is : (limits : Limits) (ending : Ending) (content synced : List ℕ) (torn : Bool) → IsRecoverable limits (commits_of true ending) content → IsRecoverable limits (commits_of false ending) synced
+    → IsRecoverable limits (commits_of torn ending) (left_by (record { synced = synced; torn = torn }) content)
+left_is limits ending content synced true written lasting = written
+left_is limits ending content synced false written lasting = lasting
+
+pub can_recover : (limits : Limits) (disk : MemDisk) (text : List ℕ) (ending : Ending) → HasEnded limits disk text ending → IsRecoverable limits (commits_of (disk_torn disk) ending) (left_by (disk_outcome disk) (disk_content disk))
+can_recover limits disk text ending has_ended = left_is limits ending (disk_content disk) (disk_synced disk) (disk_torn disk) has_ended.written has_ended.synced
+
+-- it is recovered behind a run
+pub is_crashed : (limits : Limits) (bytes stop : ℕ) (torn : Bool) (script : List Line) (disk : MemDisk) (before text : List ℕ) (left : Store × Crew) → disk_torn disk ≡ torn → HasEnded limits disk before (ending_of limits bytes stop script)
+    → HasRecovered limits disk before text left → IsCrashed limits bytes stop torn script text left
+is_crashed limits bytes stop torn script disk before text left same has_ended found =
+    let ending = ending_of limits bytes stop script in
+    let commits = commits_of (disk_torn disk) ending in
+    let can = can_recover limits disk before ending has_ended in
+    subst (λ (b : Bool). IsCrashed limits bytes stop b script text left) same record {
+      is_text = found.is_text commits can ∙ ap (λ (t : List ℕ). t ++ recovered_text commits) has_ended.is_text;
+      holds = found.holds commits can;
     }

@@ -2,7 +2,7 @@
 use Rattle.std.proofs.Math.Seq.{drop-cons}
 use Rattle.std.proofs.lemmas.List.{drop_all}
 use Rattle.std.proofs.Common.{add-one, suc, drop, slice_index_or, ◌≡◌, ◌↔◌, inl, inr, ⊎_elim, ℕ, ◌+◌, ◌-◌, ◌<◌, ◌≤◌, Bool, true, false, cond, List, [], ◌∷◌, ◌++◌, length, Option, Some, None, Result, Ok, refl, sym, ap, ◌∙◌, subst, arith, length-append}
-use Rattle.std.specs.Prelude.{nat_lt}
+use Rattle.std.specs.Prelude.{nat_lt, not}
 use Rattle.std.specs.List.{AllByRecursion}
 use Rattle.std.proofs.lemmas.Bool.{lt-ltb, le-ltb, ltb-true, ltb-false}
 use Rattle.std.proofs.lemmas.Grind.{flat_map-append}
@@ -18,9 +18,11 @@ use Rattle.lst_machine.specs.State.{State}
 use Rattle.lst_machine.specs.Machine as machine
 use Rattle.lst_disk.specs.declared.memory.MemDisk.{MemDisk}
 use Rattle.lst_disk.specs.Disk.{LeavesOnly}
-use Rattle.lst_disk.specs.Memory.{disk_content, disk_clock, disk_images, disk_images_since, disk_left}
+use Rattle.lst_disk.specs.Memory.{disk_content, disk_clock, disk_images, disk_images_since, disk_synced, disk_outcome, disk_left}
+use Rattle.lst_disk.specs.MemoryLaws.{synced_stays}
 use Rattle.lst_log.specs.Format.{record_of, journal, HasRecord}
 use Rattle.lst_log.specs.Journals.{StandsFor}
+use Rattle.lst_log.specs.Logs.{StopsShort}
 use Rattle.lst_log.specs.declared.log.Log.{Log}
 use Rattle.lst_replay_laws.specs.Again.{writes_in}
 use Rattle.lst_replay_laws.specs.Rests.{HasRoomFor, with_tails}
@@ -34,10 +36,9 @@ use Rattle.lst_redo.specs.declared.journal.Kept.TheVariants.{Reply as Replied, J
 use Rattle.lst_redo.specs.declared.journal.Redo.{Redo}
 use Rattle.lst_redo.specs.Journals.{view_of, IsJournalOf}
 use Rattle.lst_redo.specs.Owns.{commit_of}
-use Rattle.lst_redo.specs.Answers.{CommitsWrites, MayLeave, StandsForOneMore, IsAnswered, commits_after, HasRoomAfter, LacksRoom, CountsLine}
-use Rattle.lst_crash.specs.Crashes.{most_bytes, commit_by, Run, record_size, answer_of, run_after, answer, later, kept_text, is_fault, Ending, ended, ending_from, AreTheseOrOneMore, AreRecovered}
+use Rattle.lst_redo.specs.Answers.{CommitsWrites, MayLeave, StopsAt, IsAnswered, commits_after, HasRoomAfter, LacksRoom, CountsLine}
+use Rattle.lst_crash.specs.Crashes.{most_bytes, commit_by, Run, record_size, answer_of, run_after, answer, later, kept_text, is_fault, Ending, ended, ending_from, with_one, recovered}
 use Rattle.lst_crash.specs.Recovering.{IsAt, IsRunning, IsRecoverable, HasEnded, GoesOn}
-use Rattle.lst_crash.proofs.Images.{left_now}
 use Rattle.lst_crash.proofs.Made.{history_stays, commits_stay, reply_committed, history_grows, MakesCommit, MakesNothing, by_line}
 use Rattle.lst_crash.proofs.Rooms.{few_writes, has_room_again}
 
@@ -53,6 +54,8 @@ pub record IsKept (old new : Redo MemDisk) (line : Line) (kept : Kept) : Type 0 
   pub calls : CountsLine (view_of old) line (Some (disk_left old.log.disk)) (Some (disk_left new.log.disk)) kept
   pub still : (CommitsWrites (view_of old) line → ⊥) → new.log ≡ old.log
   pub refused : kept ≡ JournalFull → new.log ≡ old.log
+  pub stopped : kept ≡ DiskFault → (commits : List Commit) → IsJournalOf disk_content disk_images commits old
+      → StopsAt old.log.columns (view_of old) commits line (Some (disk_left old.log.disk)) (disk_content new.log.disk) (Some (disk_outcome new.log.disk))
 
 ok_same : (a b : Kept) → ◌≡◌ {A = Result Kept OutOfMemory} (Ok a) (Ok b) → a ≡ b
 ok_same a b e = cc
@@ -94,13 +97,17 @@ journal_more columns commits c =
     let lengths = length-append (journal columns commits) (journal columns (c ∷ [])) in
     let last = length-append (record_of columns c) [] in omega (arith, both, lengths, last)
 
--- the line is answered as the definition says; where the disk didn't fail the journal is where the run stands then, and else a crash leaves the
--- commits so far, or these and the line's
+-- the disk failed at this commit: what it has written stands for the commits so far, and for this one too where its gate was opened; what it has synced for
+-- those so far
+pub record HasStopped (limits : Limits) (run : Run) (disk : MemDisk) (made : Option Commit) : Type 0 where
+  pub written : IsRecoverable limits (with_one (not (nat_lt run.left 3)) run.state.store.history made) (disk_content disk)
+  pub synced : IsRecoverable limits run.state.store.history (disk_synced disk)
+
+-- the line is answered as the definition says; where the disk didn't fail the journal is where the run stands then
 pub record HasPassed (limits : Limits) (bytes : ℕ) (run : Run) (new : Redo MemDisk) (line : Line) (kept : Kept) : Type 0 where
   pub is : answer limits bytes run line ≡ kept
   pub goes : (kept ≡ DiskFault → ⊥) → IsAt limits bytes (later limits bytes run line) new
-  pub ends : kept ≡ DiskFault → (image : List ℕ) → disk_images new.log.disk image
-      → (commits : List Commit) × AreTheseOrOneMore run.state.store.history (commit_by limits run.state.store line) commits × IsRecoverable limits commits image
+  pub ends : kept ≡ DiskFault → HasStopped limits run new.log.disk (commit_by limits run.state.store line)
 
 module _ (limits : Limits) (bytes : ℕ) (run : Run) (old : Redo MemDisk) (some : 1 ≤ limits.columns) (few : bytes ≤ most_bytes) (here : IsAt limits bytes run old) where
   abbrev v : View
@@ -233,10 +240,9 @@ module _ (limits : Limits) (bytes : ℕ) (run : Run) (old : Redo MemDisk) (some 
 
       -- ---- what a crash may leave where the disk failed
 
-      one_more : IsKept old new line DiskFault → (place) ≤ bytes → (image : List ℕ) → StandsForOneMore old.log.columns (v) (history) line image → IsRecoverable limits ((history) ++ (c) ∷ []) image
+      one_more : IsKept old new line DiskFault → (place) ≤ bytes → (image : List ℕ) → StandsFor old.log.columns image ((history) ++ (c) ∷ []) → IsRecoverable limits ((history) ++ (c) ∷ []) image
       one_more told high image more =
-          let stands : StandsFor limits.columns image ((history) ++ (c) ∷ []) =
-          subst (λ (n : ℕ). StandsFor n image ((history) ++ (c) ∷ [])) columns_are (subst (λ (l : Line). StandsForOneMore old.log.columns (v) (history) l image) m.is more) in
+          let stands : StandsFor limits.columns image ((history) ++ (c) ∷ []) = subst (λ (n : ℕ). StandsFor n image ((history) ++ (c) ∷ [])) columns_are more in
           let room : HasRoomFor (with_tails (v).limits (writes_in ((history) ++ (c) ∷ []))) ((history) ++ (c) ∷ []) = subst (λ (l : Line). HasRoomAfter (v) (history) l) m.is (told.room (history) here.journal committing) in
           record {
             stands = stands;
@@ -244,15 +250,19 @@ module _ (limits : Limits) (bytes : ℕ) (run : Run) (old : Redo MemDisk) (some 
                 (few_writes limits.columns some ((history) ++ (c) ∷ []) bytes stands.lists.each (let e = end_is in let w = journal_more limits.columns (history) (c) in omega (arith, e, w, high)) few);
           }
 
-      recoverable : IsKept old new line DiskFault → (place) ≤ bytes → (image : List ℕ) → disk_images new.log.disk image
-          → (commits : List Commit) × AreTheseOrOneMore (history) (commit_by limits run.state.store line) commits × IsRecoverable limits commits image
-      recoverable told high image now =
-          subst (λ (o : Option Commit). (commits : List Commit) × AreTheseOrOneMore (history) o commits × IsRecoverable limits commits image) (sym made)
-          (by (left_now old.log.disk new.log.disk (MayLeave old.log.columns (v) (history) line) (told.any_moment (history) here.journal) image now))
+      stopped : IsKept old new line DiskFault → StopsShort old.log.columns (history) ((c) ∷ []) (disk_left old.log.disk) (disk_content new.log.disk) (disk_outcome new.log.disk)
+      stopped told =
+          subst (λ (l : Line). StopsAt old.log.columns (v) (history) l (Some (disk_left old.log.disk)) (disk_content new.log.disk) (Some (disk_outcome new.log.disk))) m.is (told.stopped refl (history) here.journal)
+
+      has_stopped : IsKept old new line DiskFault → (place) ≤ bytes → HasStopped limits run new.log.disk (commit_by limits run.state.store line)
+      has_stopped told high = subst (HasStopped limits run new.log.disk) (sym made) record {
+        written = by (nat_lt run.left 3) (subst (λ (n : ℕ). StandsFor old.log.columns (disk_content new.log.disk) (cond (nat_lt n 3) (history) ((history) ++ (c) ∷ []))) here.left (stopped told).written);
+        synced = so_far (disk_synced new.log.disk) (stopped told).synced;
+      }
         where
-          by : MayLeave old.log.columns (v) (history) line image → (commits : List Commit) × AreTheseOrOneMore (history) (Some (c)) commits × IsRecoverable limits commits image
-          by (inl stands) = (history, inl refl, so_far image stands)
-          by (inr more) = ((history) ++ (c) ∷ [], inr refl, one_more told high image more.1)
+          by : (b : Bool) → StandsFor old.log.columns (disk_content new.log.disk) (cond b (history) ((history) ++ (c) ∷ [])) → IsRecoverable limits (with_one (not b) (history) (Some (c))) (disk_content new.log.disk)
+          by true stands = so_far (disk_content new.log.disk) stands
+          by false stands = one_more told high (disk_content new.log.disk) stands
 
       -- ---- the answers
 
@@ -282,7 +292,7 @@ module _ (limits : Limits) (bytes : ℕ) (run : Run) (old : Redo MemDisk) (some 
       passed_to_disk DiskFault told = record {
         is = otherwise high ∙ ap (λ (b : Bool). cond b DiskFault (spoken_of)) (lt-ltb run.left 4 (subst (λ (n : ℕ). n < 4) here.left ((told.calls.0 committing).0.0 refl)));
         goes = λ sound. absurd (sound refl);
-        ends = λ e. recoverable told high;
+        ends = λ e. has_stopped told high;
       }
         where
           high : (place) ≤ bytes
@@ -359,7 +369,8 @@ module _ (limits : Limits) (bytes : ℕ) (run : Run) (old : Redo MemDisk) (some 
         → HasPassed limits bytes run new line kept → GoesOn failed limits bytes new (text ++ kept_text line kept) rest ending
     goes_on text rest ending DiskFault failed both ends passed_so = subst (λ (b : Bool). GoesOn b limits bytes new (text ++ kept_text line DiskFault) rest ending) (sym (both.1 refl)) record {
       is_text = ap (λ (e : Ending). e.text) ending_is;
-      recoverable = λ image now. subst (λ (e : Ending). (commits : List Commit) × AreRecovered e commits × IsRecoverable limits commits image) ending_is (passed_so.ends refl image now);
+      written = subst (λ (e : Ending). IsRecoverable limits (recovered true e) (disk_content new.log.disk)) ending_is (passed_so.ends refl).written;
+      synced = subst (λ (e : Ending). IsRecoverable limits (recovered false e) (disk_synced new.log.disk)) ending_is (passed_so.ends refl).synced;
     }
       where
         ending_is : ended run (text ++ kept_text line DiskFault) (commit_by limits run.state.store line) ≡ ending
@@ -379,17 +390,24 @@ module _ (limits : Limits) (bytes : ℕ) (run : Run) (old : Redo MemDisk) (some 
 
 -- ---- behind the last line
 
--- the run has ended: a crash leaves just the content, which stands for the commits that were acknowledged
+none_more : (b : Bool) (commits : List Commit) → with_one b commits None ≡ commits
+none_more true commits = refl
+none_more false commits = refl
+
+-- the run has ended: all that was written is synced, and stands for the commits that were acknowledged
 pub at_the_end : (limits : Limits) (bytes : ℕ) (redo : Redo MemDisk) (text : List ℕ) (ending : Ending) → 1 ≤ limits.columns → IsRunning limits bytes redo text [] ending → HasEnded limits redo.log.disk text ending
-at_the_end limits bytes redo text ending some running = record {
-  is_text = ap (λ (e : Ending). e.text) running.ends;
-  recoverable = λ image now. subst (λ (e : Ending). (commits : List Commit) × AreRecovered e commits × IsRecoverable limits commits image) running.ends (
-    running.run.state.store.history,
-    refl,
-    so_far limits bytes running.run redo some running.few running.at image
-        (subst (λ (content : List ℕ). StandsFor redo.log.columns content running.run.state.store.history) (sym (running.at.journal.keeps.lasts image now)) running.at.journal.keeps.stands),
-  );
-}
+at_the_end limits bytes redo text ending some running =
+    let keeps = running.at.journal.keeps in
+    let disk = redo.log.disk in
+    let history = running.run.state.store.history in
+    let here : IsRecoverable limits history (disk_content disk) = so_far limits bytes running.run redo some running.few running.at (disk_content disk) keeps.stands in
+    let same : disk_synced disk ≡ disk_content disk = keeps.lasts (disk_synced disk) (synced_stays disk (disk_outcome disk) refl) in
+    record {
+      is_text = ap (λ (e : Ending). e.text) running.ends;
+      written = subst (λ (e : Ending). IsRecoverable limits (recovered true e) (disk_content disk)) running.ends
+          (subst (λ (commits : List Commit). IsRecoverable limits commits (disk_content disk)) (sym (none_more (not (nat_lt running.run.left 3)) history)) here);
+      synced = subst (λ (e : Ending). IsRecoverable limits (recovered false e) (disk_synced disk)) running.ends (subst (IsRecoverable limits history) (sym same) here);
+    }
 
 -- ---- a script's lines
 

@@ -1,5 +1,5 @@
 -- The text of a script that is run through a journal and crashed, with what a second opening finds.
-use Rattle.std.specs.Prelude.{◌≡◌, ◌⊎◌, ℕ, zero, suc, ◌+◌, ◌-◌, Bool, true, false, List, [], ◌∷◌, ◌++◌, Option, Some, None, cond, nat_lt, length, codes}
+use Rattle.std.specs.Prelude.{ℕ, zero, suc, ◌+◌, ◌-◌, Bool, true, false, not, ◌&&◌, List, [], ◌∷◌, ◌++◌, Option, Some, None, cond, nat_lt, length, codes}
 use Rattle.lst_layout.specs.declared.limits.Limits.{Limits}
 use Rattle.lst_model.specs.declared.acts.Write.{Write}
 use Rattle.lst_model.specs.declared.commits.Commit.{Commit}
@@ -90,14 +90,16 @@ abbrev pub is_fault : Kept → Bool
 is_fault DiskFault = true
 is_fault kept = false
 
--- how a run ends: the text of its lines, the commits that were acknowledged, and the one at which the disk failed, or none
+-- how a run ends: the text of its lines, the commits that were acknowledged, the one at which the disk failed, or none, and whether the byte that opens its
+-- record's gate was written: the third of its four calls
 pub record Ending : Type 0 where
   pub text : List ℕ
   pub acknowledged : List Commit
   pub under_way : Option Commit
+  pub opened : Bool
 
 abbrev pub ended : Run → List ℕ → Option Commit → Ending
-ended run text made = record { text = text; acknowledged = run.state.store.history; under_way = made }
+ended run text made = record { text = text; acknowledged = run.state.store.history; under_way = made; opened = not (nat_lt run.left 3) }
 
 -- behind the text so far: a run goes on up to the line at which the disk fails, or the last one
 abbrev pub ending_from : Limits → ℕ → Run → List ℕ → List Line → Ending
@@ -113,18 +115,20 @@ start_of left = record { state = opening; end = 0; left = left }
 
 -- by the number of the disk's calls, of which the opening takes one. Where it makes none, the opening fails
 abbrev pub ending_of : Limits → ℕ → ℕ → List Line → Ending
-ending_of limits bytes zero lines = record { text = codes "stopped\n"; acknowledged = []; under_way = None }
+ending_of limits bytes zero lines = record { text = codes "stopped\n"; acknowledged = []; under_way = None; opened = false }
 ending_of limits bytes (suc left) lines = ending_from limits bytes (start_of left) [] lines
 
 -- ---- what is recovered
 
--- these are the acknowledged commits, or these and the one at which the disk failed
-abbrev pub AreTheseOrOneMore : List Commit → Option Commit → List Commit → Type 0
-AreTheseOrOneMore acknowledged None commits = commits ≡ acknowledged
-AreTheseOrOneMore acknowledged (Some c) commits = (commits ≡ acknowledged) ⊎ (commits ≡ acknowledged ++ c ∷ [])
+-- these commits, and the one more where it counts
+abbrev pub with_one : Bool → List Commit → Option Commit → List Commit
+with_one false commits made = commits
+with_one true commits None = commits
+with_one true commits (Some c) = commits ++ c ∷ []
 
-abbrev pub AreRecovered : Ending → List Commit → Type 0
-AreRecovered ending commits = AreTheseOrOneMore ending.acknowledged ending.under_way commits
+-- the commits that are recovered: those that were acknowledged, and the one at which the disk failed exactly where its gate was opened, which a torn crash keeps
+abbrev pub recovered : Bool → Ending → List Commit
+recovered torn ending = with_one (torn && ending.opened) ending.acknowledged ending.under_way
 
 -- the text that is owed, where these commits are recovered
 abbrev pub crash_text : Ending → List Commit → List ℕ

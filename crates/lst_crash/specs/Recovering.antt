@@ -6,7 +6,8 @@ use Rattle.lst_model.specs.declared.lines.Line.{Line}
 use Rattle.lst_machine.specs.State.{opening}
 use Rattle.lst_machine.specs.Machine.{state_after}
 use Rattle.lst_disk.specs.declared.memory.MemDisk.{MemDisk}
-use Rattle.lst_disk.specs.Memory.{disk_content, disk_images, disk_left}
+use Rattle.lst_disk.specs.Disk.{left_by}
+use Rattle.lst_disk.specs.Memory.{disk_content, disk_images, disk_synced, disk_outcome, disk_left}
 use Rattle.lst_log.specs.Journals.{StandsFor}
 use Rattle.lst_redo.specs.Scripts.{lines_again}
 use Rattle.lst_replay_laws.specs.Rests.{HasRoomFor}
@@ -15,7 +16,7 @@ use Rattle.lst_session.specs.declared.crew.Crew.{Crew}
 use Rattle.lst_session.specs.Crews.{IsCrewOf, TellsState, state_told}
 use Rattle.lst_redo.specs.declared.journal.Redo.{Redo}
 use Rattle.lst_redo.specs.Journals.{view_of, IsJournalOf}
-use Rattle.lst_crash.specs.Crashes.{most_bytes, Run, Ending, ending_from, ending_of, AreRecovered, crash_text, recovered_text, limits_again}
+use Rattle.lst_crash.specs.Crashes.{most_bytes, Run, Ending, ending_from, ending_of, recovered, crash_text, recovered_text, limits_again}
 
 -- ---- a run
 
@@ -43,10 +44,11 @@ pub record IsRecoverable (limits : Limits) (commits : List Commit) (image : List
   pub stands : StandsFor limits.columns image commits
   pub room : HasRoomFor (limits_again limits) commits
 
--- the run has ended: from each image that a crash may leave, commits that may be recovered can be
+-- the run has ended: from what the disk has written the commits can be recovered that a torn crash keeps, and from what it has synced those that any other does
 pub record HasEnded (limits : Limits) (disk : MemDisk) (text : List ℕ) (ending : Ending) : Type 0 where
   pub is_text : text ≡ ending.text
-  pub recoverable : (image : List ℕ) → disk_images disk image → (commits : List Commit) × AreRecovered ending commits × IsRecoverable limits commits image
+  pub written : IsRecoverable limits (recovered true ending) (disk_content disk)
+  pub synced : IsRecoverable limits (recovered false ending) (disk_synced disk)
 
 -- it has ended where the disk failed, and else goes on
 abbrev pub GoesOn : Bool → Limits → ℕ → Redo MemDisk → List ℕ → List Line → Ending → Type 0
@@ -66,16 +68,12 @@ pub record HoldsAgain (limits : Limits) (commits : List Commit) (left : Store ×
   pub tells : TellsState left.1.seat.view
   pub told : state_told left.1.seat.view ≡ state_after limits opening (lines_again commits)
 
--- one of the disk's images was opened: the text tells the commits that it stands for, and the store holds them
+-- what the disk's crash leaves was opened: the text tells the commits that it stands for, and the store holds them
 pub record HasRecovered (limits : Limits) (disk : MemDisk) (before text : List ℕ) (left : Store × Crew) : Type 0 where
-  pub image : List ℕ
-  pub left_so : disk_images disk image
-  pub is_text : (commits : List Commit) → IsRecoverable limits commits image → text ≡ before ++ recovered_text commits
-  pub holds : (commits : List Commit) → IsRecoverable limits commits image → HoldsAgain (limits_again limits) commits left
+  pub is_text : (commits : List Commit) → IsRecoverable limits commits (left_by (disk_outcome disk) (disk_content disk)) → text ≡ before ++ recovered_text commits
+  pub holds : (commits : List Commit) → IsRecoverable limits commits (left_by (disk_outcome disk) (disk_content disk)) → HoldsAgain (limits_again limits) commits left
 
--- a script was run through a journal and crashed: these commits were recovered, which the text tells, and the store that is left holds them
-pub record IsCrashed (limits : Limits) (bytes stop : ℕ) (script : List Line) (text : List ℕ) (left : Store × Crew) : Type 0 where
-  pub commits : List Commit
-  pub recovered : AreRecovered (ending_of limits bytes stop script) commits
-  pub is_text : text ≡ crash_text (ending_of limits bytes stop script) commits
-  pub holds : HoldsAgain (limits_again limits) commits left
+-- a script was run through a journal and crashed: the text tells the commits that are recovered, and the store that is left holds them
+pub record IsCrashed (limits : Limits) (bytes stop : ℕ) (torn : Bool) (script : List Line) (text : List ℕ) (left : Store × Crew) : Type 0 where
+  pub is_text : text ≡ crash_text (ending_of limits bytes stop script) (recovered torn (ending_of limits bytes stop script))
+  pub holds : HoldsAgain (limits_again limits) (recovered torn (ending_of limits bytes stop script)) left

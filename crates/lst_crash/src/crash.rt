@@ -2,7 +2,8 @@
 ghost use Rattle.std.specs.Prelude.{◌≡◌, ◌≤◌, ℕ, List, All, IfOk};
 ghost use Rattle.lst_model.specs.declared.commits.Commit.{Commit};
 ghost use Rattle.lst_layout.specs.Limits.{IsValid};
-ghost use Rattle.lst_disk.specs.Memory.{disk_images};
+ghost use Rattle.lst_disk.specs.Disk.{left_by};
+ghost use Rattle.lst_disk.specs.Memory.{disk_content, disk_outcome};
 ghost use Rattle.lst_crash.specs.Crashes.{IsTaken, limits_again, most_bytes};
 ghost use Rattle.lst_crash.specs.Recovering.{IsCrashed, IsRecoverable, HasRecovered};
 
@@ -30,7 +31,8 @@ pub struct Crashed {
 
 /// Runs the lines of a script in order through a journal, on a disk in memory of so many bytes, all 0, that makes `stop` calls and fails then. At
 /// the first line at which the disk fails, or behind the last one, the disk crashes: it keeps what was synced, or where it is `torn` all
-/// that was written. It is opened again, and the text goes on with how many commits were recovered and the table that they make.
+/// that was written. It is opened again, and the text goes on with how many commits were recovered and the table that they make: those that were acknowledged,
+/// and the one at which the disk failed exactly where the disk is torn and three of its calls were left for it, so that its record's gate was opened.
 ///
 /// Where `stop` is 0 the first opening fails, and the text begins with `stopped`. The only error is want of memory: no disk is found damaged, and no limit
 /// is met when the commits are run again.
@@ -45,7 +47,7 @@ pub fn crash_lines(
     requires few { bytes ≤ most_bytes }
     requires valid { IsValid layout.now.limits }
     requires taken { All (IsTaken layout.now.limits) script.now }
-    ensures { IfOk result (λ crashed. IsCrashed layout.now.limits bytes stop script.now crashed.text crashed.left) }
+    ensures { IfOk result (λ crashed. IsCrashed layout.now.limits bytes stop torn script.now crashed.text crashed.left) }
 {
     let disk = MemDisk::new(alloc, bytes, stop, torn)?;
     let stopped = run_to_stop(alloc, script, layout, disk)?;
@@ -56,7 +58,7 @@ pub fn crash_lines(
 /// they make. The only error is want of memory.
 fn recover(alloc: Global, layout: &Layout, stopped: Stopped) -> Result<Crashed, OutOfMemory>
     requires valid { IsValid layout.now.limits }
-    requires recoverable { (image : List ℕ) → disk_images stopped.disk image → (commits : List Commit) × IsRecoverable layout.now.limits commits image }
+    requires recoverable { (commits : List Commit) × IsRecoverable layout.now.limits commits (left_by (disk_outcome stopped.disk) (disk_content stopped.disk)) }
     ensures { IfOk result (λ crashed. HasRecovered layout.now.limits stopped.disk stopped.text crashed.text crashed.left) }
 {
     image_has_one_history();

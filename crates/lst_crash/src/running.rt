@@ -5,7 +5,7 @@ ghost use Rattle.lst_model.specs.declared.lines.Line.{Line as ScriptLine};
 ghost use Rattle.lst_layout.specs.Limits.{IsValid};
 ghost use Rattle.lst_layout.specs.declared.limits.Limits.{Limits as LimitsOf};
 ghost use Rattle.lst_disk.specs.Disk.{Only};
-ghost use Rattle.lst_disk.specs.Memory.{disk_content, disk_images, disk_left};
+ghost use Rattle.lst_disk.specs.Memory.{disk_content, disk_images, disk_left, disk_torn};
 ghost use Rattle.lst_redo.specs.Journals.{view_of, IsOpenJournal};
 ghost use Rattle.lst_crash.specs.Crashes.{Ending, IsTaken, most_bytes};
 ghost use Rattle.lst_crash.specs.Recovering.{IsStopped, IsRunning, HasEnded, GoesOn};
@@ -38,7 +38,8 @@ pub(crate) fn run_to_stop(
     requires zeros { disk_content disk ≡ replicate (length (disk_content disk)) 0 }
     requires lasts { Only (disk_content disk) (disk_images disk) }
     requires taken { All (IsTaken layout.now.limits) script.now }
-    ensures { IfOk result (λ stopped. IsStopped layout.now.limits (length (disk_content disk)) (disk_left disk) script.now stopped.text stopped.disk) }
+    ensures ended { IfOk result (λ stopped. IsStopped layout.now.limits (length (disk_content disk)) (disk_left disk) script.now stopped.text stopped.disk) }
+    ensures torn { IfOk result (λ stopped. disk_torn stopped.disk ≡ disk_torn disk) }
 {
     image_has_one_history();
     let mut text = Text::new(alloc);
@@ -75,7 +76,8 @@ fn run_lines(
     requires running { (limits : LimitsOf) × (bytes : ℕ) × (ending : Ending) × IsRunning limits bytes redo.old text.old script.now ending }
     requires valid { IsValid (view_of redo.old).limits }
     requires taken { All (IsTaken (view_of redo.old).limits) script.now }
-    ensures { OnOk result ((limits : LimitsOf) (bytes : ℕ) (ending : Ending) → IsRunning limits bytes redo.old text.old script.now ending → HasEnded limits redo.new.log.disk text.new ending) }
+    ensures ended { OnOk result ((limits : LimitsOf) (bytes : ℕ) (ending : Ending) → IsRunning limits bytes redo.old text.old script.now ending → HasEnded limits redo.new.log.disk text.new ending) }
+    ensures torn { OnOk result (disk_torn redo.new.log.disk ≡ disk_torn redo.old.log.disk) }
 {
     for place in 0..script.len() {
         if answer(alloc, text, redo, &script.line(place))? {
@@ -96,7 +98,8 @@ fn answer(
     requires sound { redo.old.failed ≡ false }
     requires valid { IsValid (view_of redo.old).limits }
     requires taken { IsTaken (view_of redo.old).limits line.now }
-    ensures { IfOk result (λ failed. (limits : LimitsOf) (bytes : ℕ) (rest : List ScriptLine) (ending : Ending) → IsRunning limits bytes redo.old text.old (line.now ∷ rest) ending → GoesOn failed limits bytes redo.new text.new rest ending) }
+    ensures goes { IfOk result (λ failed. (limits : LimitsOf) (bytes : ℕ) (rest : List ScriptLine) (ending : Ending) → IsRunning limits bytes redo.old text.old (line.now ∷ rest) ending → GoesOn failed limits bytes redo.new text.new rest ending) }
+    ensures torn { disk_torn redo.new.log.disk ≡ disk_torn redo.old.log.disk }
 {
     redo.crew.seat.consider();
     let kept = redo.line(alloc, line)?;

@@ -1,5 +1,6 @@
 -- What a disk in memory shows of itself.
 use Rattle.std.specs.Prelude.{◌≡◌, ◌↔◌, ℕ, ◌-◌, Bool, List, length, vec_capacity}
+use Rattle.lst_disk.specs.Disk.{CrashOutcome}
 use Rattle.lst_disk.specs.Images.{settled, replayed, ImageAt, ImageSince, DiffersWithin}
 use Rattle.lst_disk.specs.declared.memory.MemDisk.{MemDisk}
 
@@ -13,6 +14,10 @@ disk_synced m = m.synced.items
 -- whether a crash leaves all that was written, and not only what was synced
 abbrev pub disk_torn : MemDisk → Bool
 disk_torn m = m.torn
+
+-- how its crash turns out
+abbrev pub disk_outcome : MemDisk → CrashOutcome
+disk_outcome m = record { synced = disk_synced m; torn = disk_torn m }
 
 -- how many writes and syncs it will still make
 abbrev pub disk_left : MemDisk → ℕ

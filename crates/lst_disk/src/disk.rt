@@ -1,7 +1,7 @@
 //! What a disk is, by what it shows and what each of its calls does.
-ghost use Rattle.std.specs.Prelude.{◌≡◌, ◌+◌, ◌≤◌, ℕ, List, Option, length, take, drop, IsSome, IsOk, OnOk};
+ghost use Rattle.std.specs.Prelude.{◌≡◌, ◌+◌, ◌≤◌, ℕ, List, Option, Some, length, take, drop, IsSome, IsOk, IsErr, OnOk};
 ghost use Rattle.lst_model.specs.Faults.{HasCause};
-ghost use Rattle.lst_disk.specs.Disk.{overwritten, Torn, Follows, Only, Elapses, CountsCall};
+ghost use Rattle.lst_disk.specs.Disk.{CrashOutcome, overwritten, Torn, Follows, Only, Elapses, CountsCall, outcome_after};
 
 use lst_model::OutOfMemory;
 
@@ -35,6 +35,9 @@ pub trait Disk {
     /// How many writes and syncs it will still make, where it tells.
     ghost calls_left: { Self → Option ℕ };
 
+    /// How a crash turns out, where the disk tells it. A call of such a disk that fails leaves the content as it was.
+    ghost outcome: { Self → Option CrashOutcome };
+
     /// The number of bytes, which never changes.
     fn size(&self) -> u64
         ensures { result ≡ length (content self.now) };
@@ -50,6 +53,7 @@ pub trait Disk {
         ensures room_bytes { room_bytes self.new ≡ room_bytes self.old }
         ensures left { calls_left self.new ≡ calls_left self.old }
         ensures told { IsSome (calls_left self.old) → IsOk result }
+        ensures outcome { outcome self.new ≡ outcome self.old }
         ensures cause { HasCause (faults self.old) (faults self.new) result };
 
     /// Writes a piece over the bytes from a place on. Until the next sync that succeeds, and also where the write fails, these
@@ -60,6 +64,8 @@ pub trait Disk {
         requires bytes { length from.now ≤ room_bytes self.old }
         ensures written { OnOk result (content self.new ≡ overwritten (content self.old) at from.now) }
         ensures elsewhere { Torn at (length from.now) (content self.old) (content self.new) }
+        ensures refused { IsErr result → IsSome (outcome self.old) → content self.new ≡ content self.old }
+        ensures outcome { outcome self.new ≡ outcome self.old }
         ensures crash { Follows (Torn at (length from.now)) (images self.old) (images self.new) }
         ensures time { Elapses (clock self.old) (clock self.new) (images_since self.old) (images_since self.new) (images self.new) }
         ensures room_calls { room_calls self.old ≤ room_calls self.new + 1 }
@@ -72,6 +78,7 @@ pub trait Disk {
         requires { 1 ≤ room_calls self.old }
         ensures durable { OnOk result (Only (content self.old) (images self.new)) }
         ensures content { content self.new ≡ content self.old }
+        ensures outcome { outcome self.new ≡ outcome_after (content self.old) (outcome self.old) result }
         ensures crash { (c : List ℕ) → images self.new c → images self.old c }
         ensures time { Elapses (clock self.old) (clock self.new) (images_since self.old) (images_since self.new) (images self.new) }
         ensures room_calls { room_calls self.old ≤ room_calls self.new + 1 }
@@ -87,6 +94,7 @@ pub trait Disk {
         ensures content { content self.new ≡ content self.old }
         ensures crash { (c : List ℕ) → images self.new c → images self.old c }
         ensures kept { (c : List ℕ) → images self.old c → images self.new c }
+        ensures outcome { outcome self.new ≡ outcome self.old }
         ensures time { Elapses (clock self.old) (clock self.new) (images_since self.old) (images_since self.new) (images self.new) }
         ensures room_calls { room_calls self.old ≤ room_calls self.new }
         ensures room_bytes { room_bytes self.old ≤ room_bytes self.new }
@@ -95,6 +103,9 @@ pub trait Disk {
 
     /// The content is one of the images: a crash may lose nothing.
     ghost content_counts: { (disk : Self) → images disk (content disk) };
+
+    /// So are the bytes of the last sync: it may lose all that was written since.
+    ghost synced_counts: { (disk : Self) (o : CrashOutcome) → outcome disk ≡ Some o → images disk o.synced };
 
     /// This moment is one of those since an earlier one.
     ghost counts_now: { (disk : Self) (t : ℕ) (c : List ℕ) → t ≤ clock disk → images disk c → images_since disk t c };

@@ -100,8 +100,8 @@ impl Disk for MemDisk {
     ghost use Rattle.std.specs.Prelude.{◌≡◌, ◌+◌, ◌≤◌, Some, List, [], ◌∷◌, ℕ, length, take, drop, IsOk, IsErr, OnOk};
     ghost use Rattle.lst_model.specs.Faults.{HasCause};
     ghost use Rattle.lst_disk.specs.Disk.{overwritten, Torn, Follows, Only, Elapses, CountsCall};
-    ghost use Rattle.lst_disk.specs.Memory.{disk_content, disk_synced, disk_pending, disk_torn, disk_images, disk_images_since, disk_clock, disk_left, disk_room_calls, disk_room_bytes, disk_faults, Stays};
-    ghost use Rattle.lst_disk.specs.MemoryLaws.{content_stays, is_now, is_earlier, is_only_now};
+    ghost use Rattle.lst_disk.specs.Memory.{disk_content, disk_synced, disk_pending, disk_torn, disk_images, disk_images_since, disk_clock, disk_left, disk_outcome, disk_room_calls, disk_room_bytes, disk_faults, Stays};
+    ghost use Rattle.lst_disk.specs.MemoryLaws.{content_stays, synced_stays, is_now, is_earlier, is_only_now};
 
     ghost content = { disk_content };
 
@@ -119,7 +119,11 @@ impl Disk for MemDisk {
 
     ghost calls_left = { λ m. Some (disk_left m) };
 
+    ghost outcome = { λ m. Some (disk_outcome m) };
+
     ghost content_counts = { content_stays };
+
+    ghost synced_counts = { synced_stays };
 
     ghost counts_now = { is_now };
 

@@ -1,5 +1,6 @@
 -- What an image stands for while records are stored behind the closed gate, and while the gate is opened.
-use Rattle.std.proofs.Common.{◌≡◌, ◌≢◌, inl, inr, ℕ, suc, ◌+◌, ◌-◌, ◌≤◌, ◌<◌, List, [], ◌∷◌, ◌++◌, length, get_or, set, take, drop, sym, ◌∙◌, ap, subst, arith, append_assoc, length-append}
+use Rattle.std.proofs.Common.{◌≡◌, ◌≢◌, inl, inr, ℕ, zero, suc, ◌+◌, ◌-◌, ◌≤◌, ◌<◌, List, [], ◌∷◌, ◌++◌, length, get_or, set, take, drop, Option, Some, None, sym, ◌∙◌, ap, subst, arith, append_assoc, length-append}
+use Rattle.std.specs.Prelude.{Result, IsErr}
 use Rattle.std.specs.List.{AllByRecursion}
 use Rattle.std.proofs.lemmas.Bool.{cases_eq}
 use Rattle.std.proofs.lemmas.List.{append-nil, take_at, drop_at, drop_more, take-append-drop, take_all, length-drop}
@@ -8,11 +9,12 @@ use Rattle.std.proofs.lemmas.Grind.{flat_map-append}
 use Rattle.lst_model.specs.declared.commits.Commit.{Commit}
 use Rattle.lst_model.specs.Soundness.{IsSound}
 use Rattle.lst_model.proofs.Sounding.{sound_snoc}
-use Rattle.lst_disk.specs.Disk.{overwritten, Torn}
+use Rattle.lst_disk.specs.Disk.{CrashOutcome, overwritten, Torn}
 use Rattle.lst_log.specs.Format.{body, record_of, journal, HasRecord, IsPieceOf, IsBatchOf}
 use Rattle.lst_snapshots.specs.Replays.{numbered_at, numbered_from, IsRecovered, MayFollow}
 use Rattle.lst_log.specs.Journals.{Ends, AllMayFollow, StandsFor, StandsForOrAll}
-use Rattle.lst_log.specs.Stores.{staged, opened, HalfStored}
+use Rattle.lst_log.specs.Logs.{StopsShort, StopsSo}
+use Rattle.lst_log.specs.Stores.{CountsCalls, staged, opened, HalfStored, written_by, synced_by, IsLeftSo}
 
 -- ---- one commit more
 
@@ -168,6 +170,24 @@ module _ (columns : ℕ) (content : List ℕ) (commits : List Commit) (stands : 
 
     pub stored : (image : List ℕ) → image ≡ opened content gate piece → StandsFor columns image (commits ++ more)
     stored image is = all_more image (is ∙ opened_is piece)
+
+    -- the piece is behind the gate, which is closed
+    staged_stands : StandsFor columns (staged content gate piece) commits
+    staged_stands = record { lists = record { rest = shut.gate ∷ tail piece; whole = staged_is piece; ended = shut.shut; each = stands.lists.each }; recovered = stands.recovered }
+
+    -- too few calls were left
+    stopped : (left : ℕ) (image : List ℕ) (o : CrashOutcome) → left < 4 → image ≡ written_by left content gate piece → o.synced ≡ synced_by left content gate piece → StopsShort columns commits more left image o
+    stopped zero image o few written synced = record { few = few; written = subst (λ (c : List ℕ). StandsFor columns c commits) (sym written) stands; synced = subst (λ (c : List ℕ). StandsFor columns c commits) (sym synced) stands }
+    stopped (suc zero) image o few written synced = record { few = few; written = subst (λ (c : List ℕ). StandsFor columns c commits) (sym written) staged_stands; synced = subst (λ (c : List ℕ). StandsFor columns c commits) (sym synced) stands }
+    stopped (suc (suc zero)) image o few written synced = record { few = few; written = subst (λ (c : List ℕ). StandsFor columns c commits) (sym written) staged_stands; synced = subst (λ (c : List ℕ). StandsFor columns c commits) (sym synced) staged_stands }
+    stopped (suc (suc (suc zero))) image o few written synced = record { few = few; written = stored image written; synced = subst (λ (c : List ℕ). StandsFor columns c commits) (sym synced) staged_stands }
+    stopped (suc (suc (suc (suc n)))) image o few written synced = absurd (omega (arith, few))
+
+    pub stops_so : {T E : Type 0} (calls then : Option ℕ) (outcome : Option CrashOutcome) (image : List ℕ) (r : Result T E) → CountsCalls 4 calls then r → IsErr r
+        → IsLeftSo calls outcome image (λ left. written_by left content gate piece) (λ left. synced_by left content gate piece) → StopsSo columns commits more calls image outcome
+    stops_so None then outcome image r counts failed so = tt
+    stops_so (Some n) then None image r counts failed so = tt
+    stops_so (Some n) then (Some o) image r counts failed so = stopped n image o (counts.0.0 failed) so.0 so.1
 
     -- where the records end then
     pub end_after : gate + length piece ≡ length (journal columns (commits ++ more))

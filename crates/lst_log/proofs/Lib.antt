@@ -1,7 +1,9 @@
 mod Again
 mod Crashes
 mod Loops
+mod Loads
 mod Logging
+mod Looking
 pub mod Moments
 mod Ones
 mod Pushes
@@ -9,4 +11,5 @@ mod Found
 mod Rows
 mod Scans
 mod Sizes
+mod Stopping
 mod Opens

@@ -1,12 +1,10 @@
 -- What a disk that is opened does.
-use Rattle.std.proofs.Common.{◌≡◌, ◌≢◌, ℕ, ◌-◌, ◌≤◌, Option, Some, None, is_some, subst, ap, ◌∙◌, arith}
-use Rattle.std.specs.Prelude.{Result, Ok, Err, IsSome, IsOk, IsErr, IsErrAnd, IfSome, IfOk, OnOk}
+use Rattle.std.proofs.Common.{◌≡◌, ◌≢◌, ℕ, ◌-◌, ◌≤◌, Option, Some, None, subst, ◌∙◌, arith}
+use Rattle.std.specs.Prelude.{Result, Ok, Err, IsOk, IsErr, IfSome, OnOk}
 use Rattle.lst_disk.specs.Disk.{CountsCall}
 use Rattle.lst_model.specs.Faults.{Rose}
 use Rattle.lst_log.specs.declared.opening.LogCause.{LogCause}
 use Rattle.lst_log.specs.declared.opening.LogCause.TheVariants.{Disk, Damaged, OutOfMemory}
-use Rattle.lst_log.specs.declared.opening.ScanFault.{ScanFault}
-use Rattle.lst_log.specs.declared.opening.ScanFault.TheVariants.{Damaged as Broken, OutOfMemory as Wanting}
 
 -- an answer is one thing and no other
 pub ok_err : (A E : Type 0) (a : A) (e : E) → ¬ (Ok a ≡ Err e)
@@ -24,30 +22,7 @@ memory_damaged A r at is same = cc
 pub disk_damaged : (A : Type 0) (r : Result A LogCause) (at : ℕ) → r ≡ Err Disk → ¬ (r ≡ Err (Damaged at))
 disk_damaged A r at is same = cc
 
--- and so is a cause
-pub damaged_no_memory : (cause : LogCause) (at : ℕ) → cause ≡ Damaged at → ¬ (cause ≡ OutOfMemory)
-damaged_no_memory cause at is same = cc
-
-pub damaged_no_disk : (cause : LogCause) (at : ℕ) → cause ≡ Damaged at → ¬ (cause ≡ Disk)
-damaged_no_disk cause at is same = cc
-
-pub memory_no_disk : (cause : LogCause) → cause ≡ OutOfMemory → ¬ (cause ≡ Disk)
-memory_no_disk cause is same = cc
-
--- memory that is wanting damages nothing
-pub wanting_damaged : (A : Type 0) (r : Result A ScanFault) (at : ℕ) → r ≡ Err Wanting → ¬ (r ≡ Err (Broken at))
-wanting_damaged A r at is same = cc
-
-pub turned_damaged : (A : Type 0) (r : Result A ScanFault) (at : ℕ) → IsErrAnd r (λ e. e ≡ Wanting) → ¬ (r ≡ Err (Broken at))
-turned_damaged A (Ok a) at is same = cc
-turned_damaged A (Err e) at is same = wanting_damaged A (Err e) at (ap (λ (f : ScanFault). Err f) is) same
-
--- a call that failed answers no value
-pub no_value : (A E : Type 0) (r : Result A E) (P : A → Type 0) → IsErr r → IfOk r P
-no_value A E (Ok a) P failed = absurd cc
-no_value A E (Err e) P failed = tt
-
-no_both : (T E : Type 0) (r : Result T E) → IsOk r → IsErr r → ⊥
+pub no_both : (T E : Type 0) (r : Result T E) → IsOk r → IsErr r → ⊥
 no_both T E (Ok t) ok err = cc
 no_both T E (Err e) ok err = cc
 
@@ -75,12 +50,6 @@ pub tells_sync : (A T E : Type 0) (r : Result A LogCause) (sync : Result T E) (l
 tells_sync A T E r sync None before after same counts is failed = tt
 tells_sync A T E (Ok a) sync (Some n) before after same counts is failed = absurd cc
 tells_sync A T E (Err e) sync (Some n) before after same counts is failed = (λ _. (subst (λ (o : Option ℕ). CountsCall o after sync) same counts).0.0 failed, tt)
-
--- the read behind it failed, which a disk that tells doesn't
-pub tells_read : (A T E U F : Type 0) (r : Result A LogCause) (sync : Result T E) (read : Result U F) (left before after : Option ℕ) → before ≡ left → CountsCall before after sync → (IsSome after → IsOk read) → IsErr read → Tells r left
-tells_read A T E U F r sync read None before after same counts told failed = tt
-tells_read A T E U F r sync read (Some n) before after same counts told failed =
-    absurd (no_both U F read (told (ap (λ (o : Option ℕ). is_some o) (subst (λ (o : Option ℕ). CountsCall o after sync) same counts).1)) failed)
 
 -- none failed
 pub tells_opened : (A T E : Type 0) (r : Result A LogCause) (sync : Result T E) (left before after : Option ℕ) → before ≡ left → CountsCall before after sync → IsOk r → IsOk sync → Tells r left

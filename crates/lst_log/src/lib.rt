@@ -6,6 +6,7 @@
 #![tactic(auto)]
 
 mod laws;
+mod load;
 mod log;
 mod opening;
 mod read;

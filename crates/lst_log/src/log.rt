@@ -3,12 +3,12 @@ ghost use Rattle.std.specs.Prelude.{◌≡◌, ◌↔◌, ◌+◌, ◌-◌, ◌*
 ghost use Rattle.std.specs.List.{AllByRecursion};
 ghost use Rattle.lst_model.specs.declared.commits.Commit.{Commit as CommitValue};
 ghost use Rattle.lst_model.specs.Faults.{Rose, HasCause};
-ghost use Rattle.lst_disk.specs.Disk.{overwritten, LeavesOnly};
+ghost use Rattle.lst_disk.specs.Disk.{overwritten, LeavesOnly, tears};
 ghost use Rattle.lst_log.specs.Format.{body, journal, record_of, HasRecord, IsPieceOf};
 ghost use Rattle.lst_snapshots.specs.Replays.{MayFollow};
 ghost use Rattle.lst_log.specs.Journals.{AllMayFollow, StandsFor, StandsForOrOneMore, StandsForOrAll};
 ghost use Rattle.lst_log.specs.Stores.{CountsCalls, opened};
-ghost use Rattle.lst_log.specs.Logs.{Keeps, IsOpen, Appends, AreStaged, MakesRoom};
+ghost use Rattle.lst_log.specs.Logs.{Keeps, IsOpen, Appends, StopsSo, AreStaged, MakesRoom};
 
 use crate::store::store_gated;
 use crate::write::{piece_of, push_next, record_size, records_of, size_within};
@@ -61,6 +61,9 @@ impl<D: Disk> Log<D> {
         ensures faults { D.faults self.old.disk ≤ D.faults self.new.disk }
         ensures fault { (result ≡ Err AppendFault.Disk) → Rose (D.faults self.old.disk) (D.faults self.new.disk) }
         ensures left { ¬ (result ≡ Err AppendFault.OutOfMemory) → ¬ (result ≡ Err AppendFault.JournalFull) → CountsCalls 4 (D.calls_left self.old.disk) (D.calls_left self.new.disk) result }
+        ensures stopped { (result ≡ Err AppendFault.Disk) → (commits : List CommitValue) → Keeps D.content D.images commits self.old → MayFollow commits commit.now
+            → StopsSo self.old.columns commits (commit.now ∷ []) (D.calls_left self.old.disk) (D.content self.new.disk) (D.outcome self.new.disk) }
+        ensures torn { tears (D.outcome self.new.disk) ≡ tears (D.outcome self.old.disk) }
         ensures columns { self.new.columns ≡ self.old.columns }
     {
         let size = record_size(commit, self.columns);
@@ -78,7 +81,7 @@ impl<D: Disk> Log<D> {
         requires record { HasRecord self.old.columns commit.now }
         requires within { self.old.end + length (record_of self.old.columns commit.now) + 1 ≤ length (D.content self.old.disk) }
         requires place { length (D.content self.old.disk) < 2 ^ 64 }
-        ensures { Appends D.content D.images D.clock D.images_since D.calls_left D.faults self.old self.new (commit.now ∷ []) result }
+        ensures { Appends D.content D.images D.clock D.images_since D.calls_left D.outcome D.faults self.old self.new (commit.now ∷ []) result }
     {
         let Ok(piece) = piece_of(alloc, commit, self.columns) else {
             return Err(AppendFault::OutOfMemory);
@@ -131,7 +134,7 @@ impl<D: Disk> Log<D> {
         requires size { size ≡ length (journal self.old.columns commits.now) }
         requires within { self.old.end + size + 1 ≤ length (D.content self.old.disk) }
         requires place { length (D.content self.old.disk) < 2 ^ 64 }
-        ensures { Appends D.content D.images D.clock D.images_since D.calls_left D.faults self.old self.new commits.now result }
+        ensures { Appends D.content D.images D.clock D.images_since D.calls_left D.outcome D.faults self.old self.new commits.now result }
     {
         let Ok(records) = records_of(alloc, commits, self.columns, size) else {
             return Err(AppendFault::OutOfMemory);
@@ -144,7 +147,7 @@ impl<D: Disk> Log<D> {
         requires open { IsOpen D.content D.images self.old }
         requires within { self.old.end + length piece.now + 1 ≤ length (D.content self.old.disk) }
         requires place { length (D.content self.old.disk) < 2 ^ 64 }
-        ensures { (commits : List CommitValue) → IsPieceOf self.old.columns commits piece.now → Appends D.content D.images D.clock D.images_since D.calls_left D.faults self.old self.new commits result }
+        ensures { (commits : List CommitValue) → IsPieceOf self.old.columns commits piece.now → Appends D.content D.images D.clock D.images_since D.calls_left D.outcome D.faults self.old self.new commits result }
     {
         let Ok(()) = self.disk.room(piece.len() as u64 + 1) else {
             return Err(AppendFault::OutOfMemory);
@@ -227,6 +230,9 @@ impl<D: Disk> Log<D> {
         ensures written { OnOk result (D.content self.new.disk ≡ overwritten (D.content self.old.disk) self.old.end (1 ∷ piece.now)) }
         ensures left { CountsCalls 4 (D.calls_left self.old.disk) (D.calls_left self.new.disk) result }
         ensures cause { HasCause (D.faults self.old.disk) (D.faults self.new.disk) result }
+        ensures stopped { (so_far commits : List CommitValue) → Keeps D.content D.images so_far self.old → IsPieceOf self.old.columns commits piece.now → AllMayFollow so_far commits
+            → OnErr result (StopsSo self.old.columns so_far commits (D.calls_left self.old.disk) (D.content self.new.disk) (D.outcome self.new.disk)) }
+        ensures torn { tears (D.outcome self.new.disk) ≡ tears (D.outcome self.old.disk) }
         ensures columns { self.new.columns ≡ self.old.columns }
     {
         store_gated(&mut self.disk, self.end, piece)?;

@@ -2,17 +2,17 @@
 ghost use Rattle.std.specs.Prelude.{◌≡◌, ◌≢◌, ◌≤◌, ◌<◌, ◌+◌, ◌^◌, ◌↔◌, ℕ, List, length, drop, IfOk, IfErr, OnOk, Err, Some, IfSome, ◌-◌, ◌⊎◌};
 ghost use Rattle.lst_model.specs.declared.commits.Commit.{Commit as CommitValue};
 ghost use Rattle.lst_model.specs.Faults.{Rose, HasCause};
-ghost use Rattle.lst_disk.specs.Disk.{Only, LeavesOnly};
+ghost use Rattle.lst_disk.specs.Disk.{Only, LeavesOnly, tears};
 ghost use Rattle.lst_log.specs.Format.{journal};
 ghost use Rattle.lst_snapshots.specs.Replays.{numbered_from};
 ghost use Rattle.lst_log.specs.Journals.{StandsFor, IsDamagedAt};
-ghost use Rattle.lst_log.specs.Stores.{LastsSince, MakesNoCall, MakesOneSync};
+ghost use Rattle.lst_log.specs.Stores.{LastsSince, OnlyReads, MakesNoCall, MakesOneSync};
 ghost use Rattle.lst_log.specs.Logs.{Keeps};
 
+use crate::load::{byte_at, load_record};
 use crate::log::Log;
-use crate::read::read_record;
 use lst_disk::Disk;
-use lst_model::{Commit, OutOfMemory};
+use lst_model::Commit;
 use lst_snapshots::Snapshots;
 use std::alloc::Global;
 
@@ -31,27 +31,8 @@ pub struct LogRefusal<D: Disk> {
     pub cause: LogCause,
 }
 
-/// Why an image was not read.
-#[derive(Clone, Copy, Debug, PartialEq, Eq)]
-enum ScanFault {
-    Damaged { at: usize },
-    OutOfMemory,
-}
-
-impl From<OutOfMemory> for ScanFault {
-    ghost use Rattle.std.specs.Prelude.{◌≡◌};
-    ghost use Rattle.lst_log.specs.declared.opening.ScanFault.TheVariants.{OutOfMemory as Wanting};
-
-    ghost from_gives = { λ _ e. e ≡ Wanting };
-
-    fn from(_error: OutOfMemory) -> ScanFault {
-        ScanFault::OutOfMemory
-    }
-}
-
-/// Syncs the disk, and reads all of it.
-fn all_of<D: Disk>(alloc: Global, disk: &mut D) -> Result<Vec<u8>, LogCause>
-    ensures image { IfOk result (λ image. image.items ≡ D.content disk.old) }
+/// Makes room for a sync in the disk's own record, and syncs.
+fn settle<D: Disk>(disk: &mut D) -> Result<(), LogCause>
     ensures content { D.content disk.new ≡ D.content disk.old }
     ensures lasts { OnOk result (Only (D.content disk.old) (D.images disk.new)) }
     ensures before { LeavesOnly D.clock D.images_since disk.old disk.new (D.images disk.old) }
@@ -60,49 +41,47 @@ fn all_of<D: Disk>(alloc: Global, disk: &mut D) -> Result<Vec<u8>, LogCause>
     ensures told { IfSome (D.calls_left disk.old) (λ left. (result ≡ Err LogCause.Disk → left ≡ 0) × (OnOk result (left ≢ 0))) }
     ensures one { ¬ (result ≡ Err LogCause.OutOfMemory) → IfSome (D.calls_left disk.old) (λ left. D.calls_left disk.new ≡ Some (left - 1)) }
     ensures wanting { result ≡ Err LogCause.OutOfMemory → MakesNoCall D.images D.calls_left D.faults disk.old disk.new }
+    ensures torn { tears (D.outcome disk.new) ≡ tears (D.outcome disk.old) }
     ensures faults { D.faults disk.old ≤ D.faults disk.new }
     ensures never { (at : ℕ) → ¬ (result ≡ Err (LogCause.Damaged at)) }
 {
-    let mut image = Vec::new(alloc);
-    let Ok(()) = image.resize(disk.size() as usize, 0) else {
-        return Err(LogCause::OutOfMemory);
-    };
     let Ok(()) = disk.room(0) else {
         return Err(LogCause::OutOfMemory);
     };
     let Ok(()) = disk.sync() else {
         return Err(LogCause::Disk);
     };
-    let Ok(()) = disk.read(0, image.as_mut_slice()) else {
-        return Err(LogCause::Disk);
-    };
-    Ok(image)
+    Ok(())
 }
 
-/// The bytes behind a gate.
-fn behind_gate(image: &[u8], at: usize) -> &[u8]
-    requires { at < length image.now }
-    ensures { result.now ≡ drop (at + 1) image.now }
-{
-    &image[at + 1..]
-}
-
-/// The commits that an image stands for, each with its time as its number, and where their records end.
-fn scan(alloc: Global, columns: u32, image: &[u8]) -> Result<(Snapshots, usize), ScanFault>
+/// The commits that a disk's content stands for, each with its time as its number, and where their records end. It is read as far as the gates lead.
+fn scan<D: Disk>(alloc: Global, columns: u32, disk: &mut D) -> Result<(Snapshots, u64), LogCause>
     requires { columns ≤ 8 }
-    ensures found { IfOk result (λ x. (commits : List CommitValue) × StandsFor columns image.now commits × (x.0 ≡ numbered_from 1 commits) × (x.1 ≡ length (journal columns commits))) }
-    ensures damaged { (at : ℕ) → result ≡ Err (ScanFault.Damaged at) → IsDamagedAt columns image.now at }
+    ensures found { IfOk result (λ x. (commits : List CommitValue) × StandsFor columns (D.content disk.old) commits × (x.0 ≡ numbered_from 1 commits) × (x.1 ≡ length (journal columns commits))) }
+    ensures damaged { (at : ℕ) → result ≡ Err (LogCause.Damaged at) → IsDamagedAt columns (D.content disk.old) at }
+    ensures reads { OnlyReads D.content D.images D.clock D.images_since D.calls_left D.outcome D.faults disk.old disk.new (result ≡ Err LogCause.Disk) }
 {
+    let size = disk.size();
     let mut snapshots = Snapshots::new(alloc);
+    let mut bytes = Vec::new(alloc);
     let mut own = Vec::new(alloc);
     let mut at = 0;
-    while at < image.len() && image[at] == 1 {
-        let rest = behind_gate(image, at);
-        let Some((commit, size)) = read_record(alloc, columns, &mut own, rest)? else {
-            return Err(ScanFault::Damaged { at });
+    while at < size {
+        let Ok(gate) = byte_at(disk, at) else {
+            return Err(LogCause::Disk);
+        };
+        if gate != 1 {
+            return Ok((snapshots, at));
+        }
+        let read = match load_record(alloc, columns, disk, at + 1, &mut bytes, &mut own) {
+            Ok(read) => read,
+            Err(cause) => return Err(cause),
+        };
+        let Some((commit, len)) = read else {
+            return Err(LogCause::Damaged { at });
         };
         if snapshots.len() >= u32::MAX as usize {
-            return Err(ScanFault::OutOfMemory);
+            return Err(LogCause::OutOfMemory);
         }
         let numbered = Commit {
             session: commit.session,
@@ -111,16 +90,18 @@ fn scan(alloc: Global, columns: u32, image: &[u8]) -> Result<(Snapshots, usize),
             writes: commit.writes,
         };
         if !snapshots.follows(&numbered) {
-            return Err(ScanFault::Damaged { at });
+            return Err(LogCause::Damaged { at });
         }
-        snapshots.push(numbered)?;
-        at += 1 + size;
+        let Ok(()) = snapshots.push(numbered) else {
+            return Err(LogCause::OutOfMemory);
+        };
+        at += 1 + len as u64;
     }
     Ok((snapshots, at))
 }
 
-/// Opens a log over a disk, for a table of so many columns: syncs it, reads it, and answers the commits that its content stands for,
-/// each with its time as its number. `Damaged` names the place of the first record that isn't in the format, in bytes from the disk's
+/// Opens a log over a disk, for a table of so many columns: syncs it, reads it as far as the gates lead, a record at a time, and answers the commits that its
+/// content stands for, each with its time as its number. `Damaged` names the place of the first record that isn't in the format, in bytes from the disk's
 /// front; `Disk` comes only where the disk's count of faults rose. Memory is wanting before the sync, and then the disk has made no call, or behind it. A
 /// refusal hands the disk back.
 pub fn open<D: Disk>(
@@ -142,26 +123,17 @@ pub fn open<D: Disk>(
     ensures told { IfSome (D.calls_left disk) (λ left. IfOk result (λ x. (left ≢ 0) × (D.calls_left x.0.disk ≡ Some (left - 1)))) }
     ensures told_err { IfSome (D.calls_left disk) (λ left. IfErr result (λ e. ¬ (e.cause ≡ LogCause.OutOfMemory) → ((e.cause ≡ LogCause.Disk) ↔ (left ≡ 0)) × (D.calls_left e.disk ≡ Some (left - 1)))) }
     ensures told_memory { IfSome (D.calls_left disk) (λ left. IfErr result (λ e. e.cause ≡ LogCause.OutOfMemory → (D.calls_left e.disk ≡ Some left) ⊎ (D.calls_left e.disk ≡ Some (left - 1)))) }
+    ensures torn { IfOk result (λ x. tears (D.outcome x.0.disk) ≡ tears (D.outcome disk)) }
+    ensures torn_err { IfErr result (λ e. tears (D.outcome e.disk) ≡ tears (D.outcome disk)) }
     ensures faults { IfOk result (λ x. D.faults disk ≤ D.faults x.0.disk) }
     ensures faults_err { IfErr result (λ e. D.faults disk ≤ D.faults e.disk) }
 {
     let mut disk = disk;
-    let image = match all_of(alloc, &mut disk) {
-        Ok(image) => image,
-        Err(cause) => return Err(LogRefusal { disk, cause }),
-    };
-    match scan(alloc, columns, image.as_slice()) {
-        Ok((snapshots, end)) => {
-            let end = end as u64;
-            Ok((Log { disk, columns, end }, snapshots))
-        }
-        Err(ScanFault::Damaged { at }) => {
-            let cause = LogCause::Damaged { at: at as u64 };
-            Err(LogRefusal { disk, cause })
-        }
-        Err(ScanFault::OutOfMemory) => {
-            let cause = LogCause::OutOfMemory;
-            Err(LogRefusal { disk, cause })
-        }
+    match settle(&mut disk) {
+        Ok(()) => match scan(alloc, columns, &mut disk) {
+            Ok((snapshots, end)) => Ok((Log { disk, columns, end }, snapshots)),
+            Err(cause) => Err(LogRefusal { disk, cause }),
+        },
+        Err(cause) => Err(LogRefusal { disk, cause }),
     }
 }

@@ -127,7 +127,7 @@ fn writes_of(
 }
 
 #[tactic(auto, unfolding(crate::specs::Reading::head_at))]
-fn head_of(bytes: &[u8]) -> Option<((u32, u32, u64, u32), &[u8])>
+pub(crate) fn head_of(bytes: &[u8]) -> Option<((u32, u32, u64, u32), &[u8])>
     ensures { Gives (λ x. (x.0, x.1.now)) result (head_at bytes.now) }
 {
     let (session, rest) = u32_at(bytes)?;

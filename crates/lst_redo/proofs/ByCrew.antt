@@ -1,7 +1,7 @@
 -- What a journal promises of a line that its crew answers alone.
 use Rattle.std.proofs.Common.{◌≡◌, ◌≢◌, ◌↔◌, ℕ, ◌<◌, ◌≤◌, Bool, true, false, List, [], length, Option, Result, Ok, Err, IfOk, refl, sym, ap, ◌∙◌, subst, arith, inl, true≢false}
 use Rattle.std.specs.Prelude.{OnErr}
-use Rattle.lst_disk.specs.Disk.{LeavesOnly}
+use Rattle.lst_disk.specs.Disk.{CrashOutcome, LeavesOnly, tears}
 use Rattle.lst_model.specs.declared.commits.Commit.{Commit}
 use Rattle.lst_model.specs.declared.memory.OutOfMemory.{OutOfMemory}
 use Rattle.lst_model.specs.declared.lines.Call.TheVariants as call
@@ -97,6 +97,9 @@ module _ {D : Type 0} (content : D → List ℕ) (images : D → List ℕ → Ty
   written columns end was now (Ok kept) x = subst (IsWritten (view_of before) line columns end was now) (sym x.reply.1)
       (written_by columns end was now line x.reply.0 (λ commits. ap (commits_after (view_of before) commits line) (sym x.reply.1) ∙ x.none commits))
   written columns end was now (Err e) x = tt
+
+  pub torn_stays : (outcome : D → Option CrashOutcome) (result : Result Kept OutOfMemory) → CrewAnswers before after line result → tears (outcome after.log.disk) ≡ tears (outcome before.log.disk)
+  torn_stays outcome result x = ap (λ (log : Log D). tears (outcome log.disk)) x.log
 
   pub faults_stay : (faults : D → ℕ) (r : Result Kept OutOfMemory) → CrewAnswers before after line r → faults before.log.disk ≤ faults after.log.disk
   faults_stay faults r x = let same = ap (λ (l : Log D). faults l.disk) x.log in omega (arith, same)

@@ -14,6 +14,8 @@ use Rattle.lst_rule.specs.Rule.{knows}
 use Rattle.lst_scan.specs.Lines.{KeepsState, LineLooks}
 use Rattle.lst_session.specs.Crews.{IsCrewOf, AnswersLine}
 use Rattle.lst_log.specs.Format.{body, record_of}
+use Rattle.lst_disk.specs.Disk.{CrashOutcome}
+use Rattle.lst_log.specs.Logs.{StopsSo}
 use Rattle.lst_log.specs.Stores.{opened}
 use Rattle.lst_log.specs.Journals.{StandsFor}
 use Rattle.lst_redo.specs.declared.journal.Kept.{Kept}
@@ -35,6 +37,12 @@ StandsForOneMore columns v commits line image = ⊥
 -- while the line is answered, and until the next call, a crash may leave the commits of the journal; and where it commits writes, these and its commit
 abbrev pub MayLeave : ℕ → View → List Commit → Line → List ℕ → Type 0
 MayLeave columns v commits line image = StandsFor columns image commits ⊎ (CommitsWrites v line × StandsForOneMore columns v commits line image)
+
+-- the disk failed for want of calls while the line's commit was written: with three left what is written stands for the commits and this one, with fewer for
+-- the commits; and what is synced for the commits
+abbrev pub StopsAt : ℕ → View → List Commit → Line → Option ℕ → List ℕ → Option CrashOutcome → Type 0
+StopsAt columns v commits (CallLine s CommitCall) calls content outcome = StopsSo columns commits (commit_of v s ∷ []) calls content outcome
+StopsAt columns v commits line calls content outcome = ⊥
 
 -- the commits that the journal stands for once the line was answered: one more where that is that it committed
 abbrev pub commits_after : View → List Commit → Line → Kept → List Commit

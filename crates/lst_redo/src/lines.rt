@@ -6,7 +6,7 @@ ghost use Rattle.lst_model.specs.declared.lines.Call.TheVariants.{Commit as Comm
 ghost use Rattle.lst_model.specs.declared.lines.Line.TheVariants.{Call as CallLine};
 ghost use Rattle.lst_model.specs.Faults.{Rose};
 ghost use Rattle.lst_model.specs.Lines.{LineFits};
-ghost use Rattle.lst_disk.specs.Disk.{LeavesOnly};
+ghost use Rattle.lst_disk.specs.Disk.{LeavesOnly, tears};
 ghost use Rattle.lst_log.specs.Format.{IsWrite};
 ghost use Rattle.lst_replies.specs.Runs as runs;
 ghost use Rattle.lst_rule.specs.Rule.{knows};
@@ -14,7 +14,7 @@ ghost use Rattle.lst_scan.specs.Lines.{KeepsState, LineLooks};
 ghost use Rattle.lst_session.specs.Crews.{IsCrewOf};
 ghost use Rattle.lst_redo.specs.Journals.{view_of, IsJournalOf, IsOpenJournal, HasCrew};
 ghost use Rattle.lst_redo.specs.Owns.{MakesNone};
-ghost use Rattle.lst_redo.specs.Answers.{CommitsWrites, MayLeave, IsAnswered, commits_after, HasRoomAfter, LacksRoom, CountsLine, IsWritten, CrewAnswers};
+ghost use Rattle.lst_redo.specs.Answers.{CommitsWrites, MayLeave, StopsAt, IsAnswered, commits_after, HasRoomAfter, LacksRoom, CountsLine, IsWritten, CrewAnswers};
 
 use crate::fits::{follow, settle, write_of};
 use crate::journal::{Kept, Redo};
@@ -36,7 +36,8 @@ impl<D: Disk> Redo<D> {
     ///
     /// `JournalFull` comes exactly where a commit with writes needs a place past the disk's end for its record or for the byte behind it; its
     /// transaction stays open. `DiskFault` comes only where the disk's count of faults rose, and on a disk that tells its calls exactly where fewer
-    /// than four are left; no line may follow it.
+    /// than four are left; no line may follow it. Where the disk tells both how many calls it will make and how a crash turns out, what it has written then stands for
+    /// the line's commit too exactly where three were left, and what it has synced never does.
     ///
     /// At `Committed` the record stands behind an open gate where the records ended, with a byte 0 behind it, and nothing else of the disk changed. Where
     /// nothing is committed, and at `JournalFull`, the log is as it was.
@@ -63,6 +64,9 @@ impl<D: Disk> Redo<D> {
         ensures still { ¬ CommitsWrites (view_of self.old) line.now → self.new.log ≡ self.old.log }
         ensures refused { result ≡ Ok Kept.JournalFull → self.new.log ≡ self.old.log }
         ensures written { IfOk result (IsWritten (view_of self.old) line.now self.old.log.columns self.old.log.end (D.content self.old.log.disk) (D.content self.new.log.disk)) }
+        ensures stopped { result ≡ Ok Kept.DiskFault → (commits : List CommitValue) → IsJournalOf D.content D.images commits self.old
+            → StopsAt self.old.log.columns (view_of self.old) commits line.now (D.calls_left self.old.log.disk) (D.content self.new.log.disk) (D.outcome self.new.log.disk) }
+        ensures torn { tears (D.outcome self.new.log.disk) ≡ tears (D.outcome self.old.log.disk) }
         ensures store { self.new.store ≡ self.old.store }
         ensures crew { IsCrewOf self.new.store self.new.crew }
     {
@@ -119,6 +123,9 @@ impl<D: Disk> Redo<D> {
         ensures still { ¬ CommitsWrites (view_of self.old) line.now → self.new.log ≡ self.old.log }
         ensures refused { result ≡ Ok Kept.JournalFull → self.new.log ≡ self.old.log }
         ensures written { IfOk result (IsWritten (view_of self.old) line.now self.old.log.columns self.old.log.end (D.content self.old.log.disk) (D.content self.new.log.disk)) }
+        ensures stopped { result ≡ Ok Kept.DiskFault → (commits : List CommitValue) → IsJournalOf D.content D.images commits self.old
+            → StopsAt self.old.log.columns (view_of self.old) commits line.now (D.calls_left self.old.log.disk) (D.content self.new.log.disk) (D.outcome self.new.log.disk) }
+        ensures torn { tears (D.outcome self.new.log.disk) ≡ tears (D.outcome self.old.log.disk) }
         ensures store { self.new.store ≡ self.old.store }
         ensures crew { IsCrewOf self.new.store self.new.crew }
     {

@@ -3,7 +3,7 @@ ghost use Rattle.std.specs.Prelude.{◌≡◌, ◌≢◌, ◌≤◌, ◌⊎◌, 
 ghost use Rattle.std.specs.List.{AllByRecursion};
 ghost use Rattle.lst_model.specs.declared.commits.Commit.{Commit as CommitValue};
 ghost use Rattle.lst_model.specs.Faults.{Rose};
-ghost use Rattle.lst_disk.specs.Disk.{LeavesOnly};
+ghost use Rattle.lst_disk.specs.Disk.{LeavesOnly, tears};
 ghost use Rattle.lst_log.specs.Journals.{StandsFor, IsDamagedAt};
 ghost use Rattle.lst_log.specs.Stores.{LastsSince, MakesNoCall, MakesOneSync};
 ghost use Rattle.lst_replay_laws.specs.Rests.{HasRoomFor};
@@ -70,6 +70,8 @@ pub fn open_redo<D: Disk>(
     ensures told { IfSome (D.calls_left disk) (λ left. IfOk result (λ redo. (left ≢ 0) × (D.calls_left redo.log.disk ≡ Some (left - 1)))) }
     ensures told_err { IfSome (D.calls_left disk) (λ left. IfErr result (λ e. ¬ (e.cause ≡ OpenCause.OutOfMemory) → ((e.cause ≡ OpenCause.Disk) ↔ (left ≡ 0)) × (D.calls_left e.disk ≡ Some (left - 1)))) }
     ensures told_memory { IfSome (D.calls_left disk) (λ left. IfErr result (λ e. e.cause ≡ OpenCause.OutOfMemory → (D.calls_left e.disk ≡ Some left) ⊎ (D.calls_left e.disk ≡ Some (left - 1)))) }
+    ensures torn { IfOk result (λ redo. tears (D.outcome redo.log.disk) ≡ tears (D.outcome disk)) }
+    ensures torn_err { IfErr result (λ e. tears (D.outcome e.disk) ≡ tears (D.outcome disk)) }
     ensures faults { IfOk result (λ redo. D.faults disk ≤ D.faults redo.log.disk) }
     ensures faults_err { IfErr result (λ e. D.faults disk ≤ D.faults e.disk) }
 {

@@ -1,5 +1,5 @@
 //! Disks in memory: with commits, with bytes of one's own, and one that has no memory left at one call.
-ghost use Rattle.lst_disk.specs.Memory.{disk_content, disk_images, disk_images_since, disk_clock, disk_left, disk_room_calls, disk_room_bytes, disk_faults};
+ghost use Rattle.lst_disk.specs.Memory.{disk_content, disk_images, disk_images_since, disk_clock, disk_left, disk_outcome, disk_room_calls, disk_room_bytes, disk_faults};
 
 use lst_disk::{Disk, DiskFailed, MemDisk};
 use lst_model::OutOfMemory;
@@ -46,8 +46,8 @@ impl Cramped {
 
 impl Disk for Cramped {
     ghost use Rattle.std.specs.Prelude.{Some};
-    ghost use Rattle.lst_disk.specs.Memory.{disk_content, disk_images, disk_images_since, disk_clock, disk_left, disk_room_calls, disk_room_bytes, disk_faults};
-    ghost use Rattle.lst_disk.specs.MemoryLaws.{content_stays, is_now, is_earlier, is_only_now};
+    ghost use Rattle.lst_disk.specs.Memory.{disk_content, disk_images, disk_images_since, disk_clock, disk_left, disk_outcome, disk_room_calls, disk_room_bytes, disk_faults};
+    ghost use Rattle.lst_disk.specs.MemoryLaws.{content_stays, synced_stays, is_now, is_earlier, is_only_now};
 
     ghost content = { λ c. disk_content c.disk };
 
@@ -65,7 +65,11 @@ impl Disk for Cramped {
 
     ghost calls_left = { λ c. Some (disk_left c.disk) };
 
+    ghost outcome = { λ c. Some (disk_outcome c.disk) };
+
     ghost content_counts = { λ c. content_stays c.disk };
+
+    ghost synced_counts = { λ c. synced_stays c.disk };
 
     ghost counts_now = { λ c. is_now c.disk };
 

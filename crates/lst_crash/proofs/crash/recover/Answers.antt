@@ -1,9 +1,10 @@
-use Rattle.std.proofs.Common.{sym, ap, ◌∙◌}
+use Rattle.std.proofs.Common.{sym, ap, subst, ◌∙◌}
 use Rattle.lst_layout.specs.declared.layout.Layout.{Layout}
 use Rattle.lst_layout.specs.declared.limits.Limits.{Limits}
 use Rattle.lst_rule.specs.declared.store.Store.{Store}
 use Rattle.lst_disk.specs.Memory.{disk_content, disk_left}
 use Rattle.lst_redo.specs.Journals.{view_of}
+use Rattle.lst_crash.specs.Recovering.{IsRecoverable}
 use Rattle.lst_crash.proofs.Reopened.{recovered, stands_again, has_room_for, never_damaged, calls_left, is_sound, is_wide}
 use Rattle.lst_crash.proofs.crash.recover.Goals as goal
 
@@ -24,7 +25,7 @@ push_recovered-requires-clause-wide c =
 
 pub returns-in_ok-push_recovered-in-Ok : goal.returns-in_ok-push_recovered-in-Ok
 returns-in_ok-push_recovered-in-Ok c =
-    recovered c.args.layout.now.limits c.crash.result c.args.stopped.disk c.crash.ensures.image c.in-Ok.redo c.layout_again.result.limits c.layout_again.ensures c.in-Ok.ensures.opened c.image_has_one_history.ensures.one
+    recovered c.args.layout.now.limits c.crash.result c.args.stopped.disk c.crash.ensures.content c.in-Ok.redo c.layout_again.result.limits c.layout_again.ensures c.in-Ok.ensures.opened c.image_has_one_history.ensures.one
     c.args.stopped.text c.push_recovered.new.text c.in_ok-history-in-Ok.history c.history.new.self.store c.history.new.self.crew c.in_ok-history-in-Ok.ensures.told c.in_ok-push_recovered-in-Ok.ensures c.history.ensures.store
     (ap (λ (l : Layout). l.limits) c.in-Ok.ensures.layout) c.history.ensures.crew c.history.ensures.state
 
@@ -34,12 +35,14 @@ unreachable-requires c =
 
 pub unreachable-requires-in-Damaged : goal.unreachable-requires-in-Damaged
 unreachable-requires-in-Damaged c =
-    let can = c.requires.recoverable (disk_content c.crash.result) c.crash.ensures.image in
-    never_damaged c.args.layout.now.limits c.layout_again.result.limits (disk_content c.crash.result) c.layout_again.ensures can.0 can.1 c.image_has_one_history.ensures.damaged c.in-Damaged.at
+    let commits = c.requires.recoverable.0 in
+    let can : IsRecoverable c.args.layout.now.limits commits (disk_content c.crash.result) = subst (IsRecoverable c.args.layout.now.limits commits) (sym c.crash.ensures.content) c.requires.recoverable.1 in
+    never_damaged c.args.layout.now.limits c.layout_again.result.limits (disk_content c.crash.result) c.layout_again.ensures commits can c.image_has_one_history.ensures.damaged c.in-Damaged.at
     (c.in-Err.ensures.damaged c.in-Damaged.at c.in-Damaged.is)
 
 pub unreachable-requires-in-Full : goal.unreachable-requires-in-Full
 unreachable-requires-in-Full c =
-    let can = c.requires.recoverable (disk_content c.crash.result) c.crash.ensures.image in
-    c.in-Err.ensures.never can.0 (stands_again c.args.layout.now.limits c.layout_again.result.limits (disk_content c.crash.result) c.layout_again.ensures can.0 can.1)
-    (has_room_for c.args.layout.now.limits c.layout_again.result.limits (disk_content c.crash.result) c.layout_again.ensures can.0 can.1) c.in-Full.time c.in-Full.is
+    let commits = c.requires.recoverable.0 in
+    let can : IsRecoverable c.args.layout.now.limits commits (disk_content c.crash.result) = subst (IsRecoverable c.args.layout.now.limits commits) (sym c.crash.ensures.content) c.requires.recoverable.1 in
+    c.in-Err.ensures.never commits (stands_again c.args.layout.now.limits c.layout_again.result.limits (disk_content c.crash.result) c.layout_again.ensures commits can)
+    (has_room_for c.args.layout.now.limits c.layout_again.result.limits (disk_content c.crash.result) c.layout_again.ensures commits can) c.in-Full.time c.in-Full.is

@@ -1,139 +1,118 @@
-use Rattle.std.proofs.Common.{Err, inl, refl, ap, ◌∙◌}
+use Rattle.std.proofs.Common.{◌≡◌, ℕ, List, Option, Err, inl, inr, sym, ap, ◌∙◌, subst, arith}
+use Rattle.std.specs.Prelude.{IsSome, is_ok}
+use Rattle.lst_disk.specs.Disk.{tears}
+use Rattle.lst_log.specs.Journals.{StandsFor, IsDamagedAt}
 use Rattle.lst_log.specs.declared.opening.LogCause.{LogCause}
-use Rattle.lst_log.proofs.Opens.{damaged_no_memory, damaged_no_disk, memory_no_disk}
+use Rattle.lst_log.specs.declared.opening.LogCause.TheVariants.{Disk}
+use Rattle.lst_log.proofs.Looking.{lasts_on, before_on, left_behind, told_behind, memory_behind, told_before, keeps_on, none_before}
+use Rattle.lst_log.proofs.Opens.{rose_since}
 use Rattle.lst_log.proofs.opening.open.Goals as goal
 
-pub returns-in-Err-clause-ok : goal.returns-in-Err-clause-ok
-returns-in-Err-clause-ok g c = tt
+-- ---- it was opened
 
-pub returns-in-Err-clause-columns : goal.returns-in-Err-clause-columns
-returns-in-Err-clause-columns g c = tt
-
-pub returns-in-Err-clause-before : goal.returns-in-Err-clause-before
-returns-in-Err-clause-before g c = tt
-
-pub returns-in-Err-clause-after : goal.returns-in-Err-clause-after
-returns-in-Err-clause-after g c = tt
-
-pub returns-in-Err-clause-faults : goal.returns-in-Err-clause-faults
-returns-in-Err-clause-faults g c = tt
-
-pub returns-in-Err-clause-before_err : goal.returns-in-Err-clause-before_err
-returns-in-Err-clause-before_err g c = c.all_of.ensures.before
-
-pub returns-in-Err-clause-after_err : goal.returns-in-Err-clause-after_err
-returns-in-Err-clause-after_err g c = λ at same. absurd (c.all_of.ensures.never at (c.in-Err.is ∙ ap (λ (e : LogCause). Err e) same))
-
-pub returns-in-Err-clause-damaged : goal.returns-in-Err-clause-damaged
-returns-in-Err-clause-damaged g c = λ at same. absurd (c.all_of.ensures.never at (c.in-Err.is ∙ ap (λ (e : LogCause). Err e) same))
-
-pub returns-in-Err-clause-wanting : goal.returns-in-Err-clause-wanting
-returns-in-Err-clause-wanting g c = λ same. inl (c.all_of.ensures.wanting (c.in-Err.is ∙ ap (λ (e : LogCause). Err e) same))
-
-pub returns-in-Err-clause-fault : goal.returns-in-Err-clause-fault
-returns-in-Err-clause-fault g c = λ same. c.all_of.ensures.fault (c.in-Err.is ∙ ap (λ (e : LogCause). Err e) same)
-
-pub returns-in-Err-clause-content : goal.returns-in-Err-clause-content
-returns-in-Err-clause-content g c = c.all_of.ensures.content
-
-pub returns-in-Err-clause-faults_err : goal.returns-in-Err-clause-faults_err
-returns-in-Err-clause-faults_err g c = c.all_of.ensures.faults
-
-pub returns-in-Ok-scan-clause-before_err : goal.returns-in-Ok-scan-clause-before_err
-returns-in-Ok-scan-clause-before_err g c = tt
-
-pub returns-in-Ok-scan-clause-after_err : goal.returns-in-Ok-scan-clause-after_err
-returns-in-Ok-scan-clause-after_err g c = tt
-
-pub returns-in-Ok-scan-clause-wanting : goal.returns-in-Ok-scan-clause-wanting
-returns-in-Ok-scan-clause-wanting g c = tt
-
-pub returns-in-Ok-scan-clause-content : goal.returns-in-Ok-scan-clause-content
-returns-in-Ok-scan-clause-content g c = tt
-
-pub returns-in-Ok-scan-clause-damaged : goal.returns-in-Ok-scan-clause-damaged
-returns-in-Ok-scan-clause-damaged g c = tt
-
-pub returns-in-Ok-scan-clause-fault : goal.returns-in-Ok-scan-clause-fault
-returns-in-Ok-scan-clause-fault g c = tt
-
-pub returns-in-Ok-scan-clause-faults_err : goal.returns-in-Ok-scan-clause-faults_err
-returns-in-Ok-scan-clause-faults_err g c = tt
-
-pub returns-in-Ok-scan-clause-columns : goal.returns-in-Ok-scan-clause-columns
-returns-in-Ok-scan-clause-columns g c = refl
+pub returns-in-Ok-scan-clause-ok : goal.returns-in-Ok-scan-clause-ok
+returns-in-Ok-scan-clause-ok g c =
+    let content = g.D.Disk.content in
+    let found = c.in-Ok-scan.ensures.found in (
+      found.0,
+      subst (λ (bytes : List ℕ). StandsFor c.args.columns bytes found.0) c.settle.ensures.content found.1,
+      keeps_on content g.D.Disk.images g.D.Disk.clock g.D.Disk.images_since g.D.Disk.calls_left g.D.Disk.outcome g.D.Disk.faults c.args.disk c.settle.new.disk c.scan.new.disk _ c.settle.ensures.content c.in-Ok.ensures.lasts c.scan.ensures.reads
+          c.args.columns c.in-Ok-scan.end found.0 found.1 found.3,
+      found.2,
+    )
 
 pub returns-in-Ok-scan-clause-before : goal.returns-in-Ok-scan-clause-before
-returns-in-Ok-scan-clause-before g c = c.all_of.ensures.before
+returns-in-Ok-scan-clause-before g c =
+    before_on g.D.Disk.content g.D.Disk.images g.D.Disk.clock g.D.Disk.images_since g.D.Disk.calls_left g.D.Disk.outcome g.D.Disk.faults c.args.disk c.settle.new.disk c.scan.new.disk _ c.settle.ensures.before
+    (none_before g.D.Disk.content g.D.Disk.images g.D.Disk.clock g.D.Disk.images_since g.D.Disk.calls_left g.D.Disk.outcome g.D.Disk.faults c.args.disk c.settle.new.disk c.scan.new.disk _ c.settle.ensures.content c.in-Ok.ensures.lasts c.scan.ensures.reads
+    (g.met.D.Disk.content_counts c.args.disk)) c.scan.ensures.reads
 
 pub returns-in-Ok-scan-clause-after : goal.returns-in-Ok-scan-clause-after
-returns-in-Ok-scan-clause-after g c = c.in-Ok.ensures.after
+returns-in-Ok-scan-clause-after g c =
+    lasts_on g.D.Disk.content g.D.Disk.images g.D.Disk.clock g.D.Disk.images_since g.D.Disk.calls_left g.D.Disk.outcome g.D.Disk.faults c.args.disk c.settle.new.disk c.scan.new.disk _ c.in-Ok.ensures.after c.in-Ok.ensures.lasts c.scan.ensures.reads
+
+pub returns-in-Ok-scan-clause-told : goal.returns-in-Ok-scan-clause-told
+returns-in-Ok-scan-clause-told g c =
+    left_behind c.settle.result (g.D.Disk.calls_left c.args.disk) (g.D.Disk.calls_left c.settle.new.disk) (g.D.Disk.calls_left c.scan.new.disk) (ap is_ok c.in-Ok.is) c.settle.ensures.told (c.settle.ensures.one (λ e. let clash = sym c.in-Ok.is ∙ e in cc)) c.scan.ensures.reads.left
+
+pub returns-in-Ok-scan-clause-torn : goal.returns-in-Ok-scan-clause-torn
+returns-in-Ok-scan-clause-torn g c = ap tears c.scan.ensures.reads.turns ∙ c.settle.ensures.torn
 
 pub returns-in-Ok-scan-clause-faults : goal.returns-in-Ok-scan-clause-faults
-returns-in-Ok-scan-clause-faults g c = c.all_of.ensures.faults
+returns-in-Ok-scan-clause-faults g c = omega (arith, c.settle.ensures.faults, c.scan.ensures.reads.rises)
 
-pub returns-in-Err-Damaged-clause-ok : goal.returns-in-Err-Damaged-clause-ok
-returns-in-Err-Damaged-clause-ok g c = tt
+-- ---- the sync was made, and it wasn't
 
-pub returns-in-Err-Damaged-clause-columns : goal.returns-in-Err-Damaged-clause-columns
-returns-in-Err-Damaged-clause-columns g c = tt
+pub returns-in-Err-scan-clause-before_err : goal.returns-in-Err-scan-clause-before_err
+returns-in-Err-scan-clause-before_err g c =
+    before_on g.D.Disk.content g.D.Disk.images g.D.Disk.clock g.D.Disk.images_since g.D.Disk.calls_left g.D.Disk.outcome g.D.Disk.faults c.args.disk c.settle.new.disk c.scan.new.disk _ c.settle.ensures.before
+    (none_before g.D.Disk.content g.D.Disk.images g.D.Disk.clock g.D.Disk.images_since g.D.Disk.calls_left g.D.Disk.outcome g.D.Disk.faults c.args.disk c.settle.new.disk c.scan.new.disk _ c.settle.ensures.content c.in-Ok.ensures.lasts c.scan.ensures.reads
+    (g.met.D.Disk.content_counts c.args.disk)) c.scan.ensures.reads
 
-pub returns-in-Err-Damaged-clause-before : goal.returns-in-Err-Damaged-clause-before
-returns-in-Err-Damaged-clause-before g c = tt
+pub returns-in-Err-scan-clause-after_err : goal.returns-in-Err-scan-clause-after_err
+returns-in-Err-scan-clause-after_err g c = λ at same.
+    lasts_on g.D.Disk.content g.D.Disk.images g.D.Disk.clock g.D.Disk.images_since g.D.Disk.calls_left g.D.Disk.outcome g.D.Disk.faults c.args.disk c.settle.new.disk c.scan.new.disk _ c.in-Ok.ensures.after c.in-Ok.ensures.lasts c.scan.ensures.reads
 
-pub returns-in-Err-Damaged-clause-after : goal.returns-in-Err-Damaged-clause-after
-returns-in-Err-Damaged-clause-after g c = tt
+pub returns-in-Err-scan-clause-wanting : goal.returns-in-Err-scan-clause-wanting
+returns-in-Err-scan-clause-wanting g c = λ memory. inr record {
+  lasts = lasts_on g.D.Disk.content g.D.Disk.images g.D.Disk.clock g.D.Disk.images_since g.D.Disk.calls_left g.D.Disk.outcome g.D.Disk.faults c.args.disk c.settle.new.disk c.scan.new.disk _ c.in-Ok.ensures.after c.in-Ok.ensures.lasts c.scan.ensures.reads;
+  left = left_behind c.settle.result (g.D.Disk.calls_left c.args.disk) (g.D.Disk.calls_left c.settle.new.disk) (g.D.Disk.calls_left c.scan.new.disk) (ap is_ok c.in-Ok.is) c.settle.ensures.told (c.settle.ensures.one (λ e. let clash = sym c.in-Ok.is ∙ e in cc)) c.scan.ensures.reads.left;
+}
 
-pub returns-in-Err-Damaged-clause-faults : goal.returns-in-Err-Damaged-clause-faults
-returns-in-Err-Damaged-clause-faults g c = tt
+pub returns-in-Err-scan-clause-content : goal.returns-in-Err-scan-clause-content
+returns-in-Err-scan-clause-content g c = c.scan.ensures.reads.same ∙ c.settle.ensures.content
 
-pub returns-in-Err-Damaged-clause-before_err : goal.returns-in-Err-Damaged-clause-before_err
-returns-in-Err-Damaged-clause-before_err g c = c.all_of.ensures.before
+pub returns-in-Err-scan-clause-damaged : goal.returns-in-Err-scan-clause-damaged
+returns-in-Err-scan-clause-damaged g c = λ at same.
+    subst (λ (bytes : List ℕ). IsDamagedAt c.args.columns bytes at) c.settle.ensures.content (c.scan.ensures.damaged at (c.in-Err-scan.is ∙ ap (λ (e : LogCause). Err e) same))
 
-pub returns-in-Err-Damaged-clause-after_err : goal.returns-in-Err-Damaged-clause-after_err
-returns-in-Err-Damaged-clause-after_err g c = λ _ _. c.in-Ok.ensures.after
+pub returns-in-Err-scan-clause-fault : goal.returns-in-Err-scan-clause-fault
+returns-in-Err-scan-clause-fault g c = λ same. rose_since _ _ _ c.settle.ensures.faults (c.scan.ensures.reads.fault (c.in-Err-scan.is ∙ ap (λ (e : LogCause). Err e) same))
 
-pub returns-in-Err-Damaged-clause-content : goal.returns-in-Err-Damaged-clause-content
-returns-in-Err-Damaged-clause-content g c = c.all_of.ensures.content
+pub returns-in-Err-scan-clause-told_err : goal.returns-in-Err-scan-clause-told_err
+returns-in-Err-scan-clause-told_err g c =
+    let left =
+    left_behind c.settle.result (g.D.Disk.calls_left c.args.disk) (g.D.Disk.calls_left c.settle.new.disk) (g.D.Disk.calls_left c.scan.new.disk) (ap is_ok c.in-Ok.is) c.settle.ensures.told (c.settle.ensures.one (λ e. let clash = sym c.in-Ok.is ∙ e in cc)) c.scan.ensures.reads.left in
+    told_behind c.in-Err-scan.cause (g.D.Disk.calls_left c.args.disk) (g.D.Disk.calls_left c.scan.new.disk) left
+    (subst (λ (o : Option ℕ). IsSome o → ¬ (c.in-Err-scan.cause ≡ Disk)) (sym c.scan.ensures.reads.left) (λ told same. c.scan.ensures.reads.told told (c.in-Err-scan.is ∙ ap (λ (e : LogCause). Err e) same)))
 
-pub returns-in-Err-Damaged-clause-faults_err : goal.returns-in-Err-Damaged-clause-faults_err
-returns-in-Err-Damaged-clause-faults_err g c = c.all_of.ensures.faults
+pub returns-in-Err-scan-clause-told_memory : goal.returns-in-Err-scan-clause-told_memory
+returns-in-Err-scan-clause-told_memory g c =
+    memory_behind c.in-Err-scan.cause (g.D.Disk.calls_left c.args.disk) (g.D.Disk.calls_left c.scan.new.disk)
+    (left_behind c.settle.result (g.D.Disk.calls_left c.args.disk) (g.D.Disk.calls_left c.settle.new.disk) (g.D.Disk.calls_left c.scan.new.disk) (ap is_ok c.in-Ok.is) c.settle.ensures.told (c.settle.ensures.one (λ e. let clash = sym c.in-Ok.is ∙ e in cc)) c.scan.ensures.reads.left)
 
-pub returns-in-Err-Damaged-clause-wanting : goal.returns-in-Err-Damaged-clause-wanting
-returns-in-Err-Damaged-clause-wanting g c = λ same. absurd (damaged_no_memory _ _ refl same)
+pub returns-in-Err-scan-clause-torn_err : goal.returns-in-Err-scan-clause-torn_err
+returns-in-Err-scan-clause-torn_err g c = ap tears c.scan.ensures.reads.turns ∙ c.settle.ensures.torn
 
-pub returns-in-Err-Damaged-clause-fault : goal.returns-in-Err-Damaged-clause-fault
-returns-in-Err-Damaged-clause-fault g c = λ same. absurd (damaged_no_disk _ _ refl same)
+pub returns-in-Err-scan-clause-faults_err : goal.returns-in-Err-scan-clause-faults_err
+returns-in-Err-scan-clause-faults_err g c = omega (arith, c.settle.ensures.faults, c.scan.ensures.reads.rises)
 
-pub returns-clause-ok : goal.returns-clause-ok
-returns-clause-ok g c = tt
+-- ---- the sync wasn't made
 
-pub returns-clause-columns : goal.returns-clause-columns
-returns-clause-columns g c = tt
+pub returns-in-Err-clause-before_err : goal.returns-in-Err-clause-before_err
+returns-in-Err-clause-before_err g c = c.settle.ensures.before
 
-pub returns-clause-before : goal.returns-clause-before
-returns-clause-before g c = tt
+pub returns-in-Err-clause-after_err : goal.returns-in-Err-clause-after_err
+returns-in-Err-clause-after_err g c = λ at same. absurd (c.settle.ensures.never at (c.in-Err.is ∙ ap (λ (e : LogCause). Err e) same))
 
-pub returns-clause-after : goal.returns-clause-after
-returns-clause-after g c = tt
+pub returns-in-Err-clause-damaged : goal.returns-in-Err-clause-damaged
+returns-in-Err-clause-damaged g c = λ at same. absurd (c.settle.ensures.never at (c.in-Err.is ∙ ap (λ (e : LogCause). Err e) same))
 
-pub returns-clause-faults : goal.returns-clause-faults
-returns-clause-faults g c = tt
+pub returns-in-Err-clause-wanting : goal.returns-in-Err-clause-wanting
+returns-in-Err-clause-wanting g c = λ same. inl (c.settle.ensures.wanting (c.in-Err.is ∙ ap (λ (e : LogCause). Err e) same))
 
-pub returns-clause-before_err : goal.returns-clause-before_err
-returns-clause-before_err g c = c.all_of.ensures.before
+pub returns-in-Err-clause-fault : goal.returns-in-Err-clause-fault
+returns-in-Err-clause-fault g c = λ same. c.settle.ensures.fault (c.in-Err.is ∙ ap (λ (e : LogCause). Err e) same)
 
-pub returns-clause-content : goal.returns-clause-content
-returns-clause-content g c = c.all_of.ensures.content
+pub returns-in-Err-clause-content : goal.returns-in-Err-clause-content
+returns-in-Err-clause-content g c = c.settle.ensures.content
 
-pub returns-clause-faults_err : goal.returns-clause-faults_err
-returns-clause-faults_err g c = c.all_of.ensures.faults
+pub returns-in-Err-clause-told_err : goal.returns-in-Err-clause-told_err
+returns-in-Err-clause-told_err g c =
+    told_before c.settle.result c.in-Err.cause (g.D.Disk.calls_left c.args.disk) (g.D.Disk.calls_left c.settle.new.disk) c.in-Err.is c.settle.ensures.never c.settle.ensures.told c.settle.ensures.one
 
-pub returns-clause-after_err : goal.returns-clause-after_err
-returns-clause-after_err g c = λ at same. absurd (damaged_no_memory _ at same refl)
+pub returns-in-Err-clause-torn_err : goal.returns-in-Err-clause-torn_err
+returns-in-Err-clause-torn_err g c = c.settle.ensures.torn
 
-pub returns-clause-damaged : goal.returns-clause-damaged
-returns-clause-damaged g c = λ at same. absurd (damaged_no_memory _ at same refl)
-
-pub returns-clause-fault : goal.returns-clause-fault
-returns-clause-fault g c = λ same. absurd (memory_no_disk _ refl same)
+pub returns-in-Err-clause-faults_err : goal.returns-in-Err-clause-faults_err
+returns-in-Err-clause-faults_err g c = c.settle.ensures.faults

@@ -1,38 +1,53 @@
-use Rattle.std.proofs.Common.{◌≡◌, ◌++◌, ◌+◌, [], ◌∷◌, ℕ, List, drop, refl, ◌∙◌, ap, subst}
+use Rattle.std.proofs.Common.{◌≡◌, ◌++◌, ◌+◌, ◌<◌, [], ◌∷◌, ℕ, List, length, get_or, drop, sym, ◌∙◌, ap, subst, arith}
 use Rattle.lst_log.specs.Format.{body}
 use Rattle.lst_log.specs.Journals.{IsDamagedAt}
+use Rattle.lst_log.proofs.Looking.{reads_on, reads_so}
 use Rattle.lst_log.proofs.Scans.{Scanned, damaged, may_not_follow, scanned_more, within_more}
-use Rattle.lst_log.proofs.Opens.{ok_err, no_value, turned_damaged, wanting_damaged}
 use Rattle.lst_log.proofs.opening.scan.Goals as goal
 
-pub returns-in_default-clause-damaged : goal.returns-in_default-clause-damaged
-returns-in_default-clause-damaged c = λ at is.
+pub returns-in_default-read-clause-damaged : goal.returns-in_default-read-clause-damaged
+returns-in_default-read-clause-damaged g c = λ at is.
+    let content = g.D.Disk.content in
+    let image = content c.args.disk.now in
     let p = c.loop-at.invariant in
-    let so_far : Scanned c.args.columns c.args.image.now c.loop-at.at p.commits c.loop-at.snapshots = record { whole = p.whole; place = p.place; each = p.each; recovered = p.recovered; same = p.same } in
-    let none = rw c.in_default.is at c.in_ok-commit.ensures.none in
-    let same : c.loop-at.at ≡ at = cc in
-    subst (λ (n : ℕ). IsDamagedAt c.args.columns c.args.image.now n) same
-    (damaged c.args.columns c.args.image.now c.loop-at.at p.commits c.loop-at.snapshots so_far c.loop-at-test.true c.if-image-at-eq1.true (λ k after has follows e. none k after has (c.behind_gate-rest.ensures ∙ e)))
+    let so_far : Scanned c.args.columns image c.loop-at.at p.commits c.loop-at.snapshots = record { whole = p.whole; place = p.place; each = p.each; recovered = p.recovered; same = p.same } in
+    let same : content c.byte_at.new.disk ≡ image = c.byte_at.ensures.reads.same ∙ p.reads.same in
+    let within : c.loop-at.at < length image = omega (arith, c.loop-at-test.true, c.size-size.ensures) in
+    let gate : get_or image c.loop-at.at 0 ≡ 1 = ap (λ (bytes : List ℕ). get_or bytes c.loop-at.at 0) (sym p.reads.same) ∙ sym c.in-Ok.ensures.byte ∙ c.if-gate-ne1.false in
+    let none = rw c.in_default-read.is at c.in-Ok-load_record.ensures.none in
+    let there : c.loop-at.at ≡ at = cc in
+    subst (λ (n : ℕ). IsDamagedAt c.args.columns image n) there
+    (damaged c.args.columns image c.loop-at.at p.commits c.loop-at.snapshots so_far within gate (λ k after has follows e. none k after has (ap (drop (c.loop-at.at + 1)) same ∙ e)))
 
 pub returns-then-not-follows-clause-damaged : goal.returns-then-not-follows-clause-damaged
-returns-then-not-follows-clause-damaged c = λ at is.
+returns-then-not-follows-clause-damaged g c = λ at is.
+    let content = g.D.Disk.content in
+    let image = content c.args.disk.now in
     let p = c.loop-at.invariant in
-    let so_far : Scanned c.args.columns c.args.image.now c.loop-at.at p.commits c.loop-at.snapshots = record { whole = p.whole; place = p.place; each = p.each; recovered = p.recovered; same = p.same } in
-    let found = rw c.in-Some.is at c.in_ok-commit.ensures.found in
-    let there = subst (λ (bytes : List ℕ). bytes ≡ body c.args.columns c.in-Some.commit ++ drop c.in-Some.size bytes) c.behind_gate-rest.ensures found.2 in
-    let same : c.loop-at.at ≡ at = cc in
-    subst (λ (n : ℕ). IsDamagedAt c.args.columns c.args.image.now n) same
-    (may_not_follow c.args.columns c.args.image.now c.loop-at.at p.commits c.loop-at.snapshots so_far c.loop-at-test.true c.if-image-at-eq1.true c.in-Some.commit c.in-Some.size found.0 found.1 there
+    let so_far : Scanned c.args.columns image c.loop-at.at p.commits c.loop-at.snapshots = record { whole = p.whole; place = p.place; each = p.each; recovered = p.recovered; same = p.same } in
+    let same : content c.byte_at.new.disk ≡ image = c.byte_at.ensures.reads.same ∙ p.reads.same in
+    let within : c.loop-at.at < length image = omega (arith, c.loop-at-test.true, c.size-size.ensures) in
+    let gate : get_or image c.loop-at.at 0 ≡ 1 = ap (λ (bytes : List ℕ). get_or bytes c.loop-at.at 0) (sym p.reads.same) ∙ sym c.in-Ok.ensures.byte ∙ c.if-gate-ne1.false in
+    let found = rw c.in-Some.is at c.in-Ok-load_record.ensures.found in
+    let there = subst (λ (bytes : List ℕ). drop (c.loop-at.at + 1) bytes ≡ body c.args.columns c.in-Some.commit ++ drop c.in-Some.len (drop (c.loop-at.at + 1) bytes)) same found.2 in
+    let place : c.loop-at.at ≡ at = cc in
+    subst (λ (n : ℕ). IsDamagedAt c.args.columns image n) place
+    (may_not_follow c.args.columns image c.loop-at.at p.commits c.loop-at.snapshots so_far within gate c.in-Some.commit c.in-Some.len found.0 found.1 there
     (c.len-in-loop-at.result + 1) (ap (λ (n : ℕ). n + 1) c.len-in-loop-at.ensures) c.follows.result c.follows.ensures c.if-not-follows.true)
 
 pub loop-at-preserved : goal.loop-at-preserved
-loop-at-preserved c =
+loop-at-preserved g c =
+    let content = g.D.Disk.content in
+    let image = content c.args.disk.now in
     let p = c.loop-at.invariant in
-    let so_far : Scanned c.args.columns c.args.image.now c.loop-at.at p.commits c.loop-at.snapshots = record { whole = p.whole; place = p.place; each = p.each; recovered = p.recovered; same = p.same } in
-    let found = rw c.in-Some.is at c.in_ok-commit.ensures.found in
-    let there = subst (λ (bytes : List ℕ). bytes ≡ body c.args.columns c.in-Some.commit ++ drop c.in-Some.size bytes) c.behind_gate-rest.ensures found.2 in
-    let more = scanned_more c.args.columns c.args.image.now c.loop-at.at p.commits c.loop-at.snapshots so_far c.loop-at-test.true c.if-image-at-eq1.true c.in-Some.commit c.in-Some.size found.0 found.1 there
-    (c.len-in-loop-at.result + 1) (ap (λ (n : ℕ). n + 1) c.len-in-loop-at.ensures) c.follows.result c.follows.ensures c.push.new.self c.in_ok-push.ensures.ok c.if-not-follows.false in
+    let so_far : Scanned c.args.columns image c.loop-at.at p.commits c.loop-at.snapshots = record { whole = p.whole; place = p.place; each = p.each; recovered = p.recovered; same = p.same } in
+    let same : content c.byte_at.new.disk ≡ image = c.byte_at.ensures.reads.same ∙ p.reads.same in
+    let within : c.loop-at.at < length image = omega (arith, c.loop-at-test.true, c.size-size.ensures) in
+    let gate : get_or image c.loop-at.at 0 ≡ 1 = ap (λ (bytes : List ℕ). get_or bytes c.loop-at.at 0) (sym p.reads.same) ∙ sym c.in-Ok.ensures.byte ∙ c.if-gate-ne1.false in
+    let found = rw c.in-Some.is at c.in-Ok-load_record.ensures.found in
+    let there = subst (λ (bytes : List ℕ). drop (c.loop-at.at + 1) bytes ≡ body c.args.columns c.in-Some.commit ++ drop c.in-Some.len (drop (c.loop-at.at + 1) bytes)) same found.2 in
+    let more = scanned_more c.args.columns image c.loop-at.at p.commits c.loop-at.snapshots so_far within gate c.in-Some.commit c.in-Some.len found.0 found.1 there
+    (c.len-in-loop-at.result + 1) (ap (λ (n : ℕ). n + 1) c.len-in-loop-at.ensures) c.follows.result c.follows.ensures c.push.new.self c.in-Ok-push.ensures.ok c.if-not-follows.false in
     record {
       commits = p.commits ++ c.in-Some.commit ∷ [];
       whole = more.whole;
@@ -40,33 +55,9 @@ loop-at-preserved c =
       each = more.each;
       recovered = more.recovered;
       same = more.same;
-      within = within_more c.args.columns c.args.image.now c.loop-at.at p.commits c.loop-at.snapshots so_far c.loop-at-test.true c.if-image-at-eq1.true c.in-Some.commit c.in-Some.size found.0 found.1 there
+      within = within_more c.args.columns image c.loop-at.at p.commits c.loop-at.snapshots so_far within gate c.in-Some.commit c.in-Some.len found.0 found.1 there
           (c.len-in-loop-at.result + 1) (ap (λ (n : ℕ). n + 1) c.len-in-loop-at.ensures) c.follows.result c.follows.ensures;
+      reads = reads_on content g.D.Disk.images g.D.Disk.clock g.D.Disk.images_since g.D.Disk.calls_left g.D.Disk.outcome g.D.Disk.faults c.args.disk.now c.loop-at.disk c.load_record.new.disk ⊥ ⊥ p.reads
+          (reads_on content g.D.Disk.images g.D.Disk.clock g.D.Disk.images_since g.D.Disk.calls_left g.D.Disk.outcome g.D.Disk.faults c.loop-at.disk c.byte_at.new.disk c.load_record.new.disk _ ⊥ c.byte_at.ensures.reads
+          (reads_so content g.D.Disk.images g.D.Disk.clock g.D.Disk.images_since g.D.Disk.calls_left g.D.Disk.outcome g.D.Disk.faults c.byte_at.new.disk c.load_record.new.disk _ ⊥ (λ x. absurd x) c.load_record.ensures.reads));
     }
-
-pub returns-in_default-clause-found : goal.returns-in_default-clause-found
-returns-in_default-clause-found c = tt
-
-pub returns-then-len-clause-found : goal.returns-then-len-clause-found
-returns-then-len-clause-found c = tt
-
-pub returns-then-not-follows-clause-found : goal.returns-then-not-follows-clause-found
-returns-then-not-follows-clause-found c = tt
-
-pub returns-in_err-commit-clause-found : goal.returns-in_err-commit-clause-found
-returns-in_err-commit-clause-found c = no_value _ _ _ _ c.from_residual.ensures.0
-
-pub returns-in_err-push-clause-found : goal.returns-in_err-push-clause-found
-returns-in_err-push-clause-found c = no_value _ _ _ _ c.from_residual-in_err-push.ensures.0
-
-pub returns-in_err-commit-clause-damaged : goal.returns-in_err-commit-clause-damaged
-returns-in_err-commit-clause-damaged c = λ at same. absurd (turned_damaged _ _ at c.from_residual.ensures.1 same)
-
-pub returns-in_err-push-clause-damaged : goal.returns-in_err-push-clause-damaged
-returns-in_err-push-clause-damaged c = λ at same. absurd (turned_damaged _ _ at c.from_residual-in_err-push.ensures.1 same)
-
-pub returns-then-len-clause-damaged : goal.returns-then-len-clause-damaged
-returns-then-len-clause-damaged c = λ at same. absurd (wanting_damaged _ _ at refl same)
-
-pub returns-clause-damaged : goal.returns-clause-damaged
-returns-clause-damaged c = λ at same. absurd (ok_err _ _ _ _ same)

@@ -44,3 +44,9 @@ returns-clause-left g c = λ no_memory no_full. c.append_within.ensures.left no_
 
 pub returns-clause-columns : goal.returns-clause-columns
 returns-clause-columns g c = c.append_within.ensures.columns
+
+pub returns-clause-stopped : goal.returns-clause-stopped
+returns-clause-stopped g c = λ failed commits keeps follows. c.append_within.ensures.stopped failed commits keeps (follows, tt)
+
+pub returns-clause-torn : goal.returns-clause-torn
+returns-clause-torn g c = c.append_within.ensures.torn

@@ -22,5 +22,7 @@ returns-in_default g c =
       rises = omega arith;
       fault = λ same. absurd (memory_disk _ refl same);
       left = λ no. absurd (no refl);
+      stopped = λ same. absurd (memory_disk _ refl same);
+      torn = refl;
       columns = refl;
     }

@@ -5,7 +5,7 @@ use Rattle.lst_model.specs.declared.lines.Line.{Line}
 use Rattle.lst_model.specs.declared.lines.Call.TheVariants.{Commit as CommitCall}
 use Rattle.lst_model.specs.declared.replies.Reply.TheVariants.{Committed}
 use Rattle.lst_log.specs.Format.{body}
-use Rattle.lst_log.specs.Logs.{Keeps}
+use Rattle.lst_log.specs.Logs.{Keeps, StopsSo}
 use Rattle.lst_log.specs.Stores.{opened}
 use Rattle.lst_log.specs.declared.log.Log.{Log}
 use Rattle.lst_log.specs.declared.log.AppendFault.TheVariants as fault
@@ -17,7 +17,7 @@ use Rattle.lst_snapshots.specs.Replays.{MayFollow}
 use Rattle.lst_redo.specs.declared.journal.Kept.TheVariants.{Reply as Replied, JournalFull, DiskFault}
 use Rattle.lst_redo.specs.Journals.{view_of, IsJournalOf}
 use Rattle.lst_redo.specs.Owns.{commit_of}
-use Rattle.lst_redo.specs.Answers.{commits_after, IsWritten}
+use Rattle.lst_redo.specs.Answers.{StopsAt, commits_after, IsWritten}
 use Rattle.lst_redo.proofs.Answering.{own_put, size_stays, commits_writes}
 use Rattle.lst_redo.proofs.Committing.{may, commit_is, append_leaves, line_has_room, committed, with_log}
 use Rattle.lst_redo.proofs.Crewing.{crew_for, journal_of}
@@ -147,3 +147,30 @@ returns-in-OutOfMemory-clause-still g c = λ none. absurd (none (commits_writes 
 
 pub returns-in-OutOfMemory-clause-looks : goal.returns-in-OutOfMemory-clause-looks
 returns-in-OutOfMemory-clause-looks g c = subst (λ (l : Line). LineLooks (view_of c.args.self.now) (view_of c.args.self.now) l) (sym c.requires.line) refl
+
+pub returns-in-Disk-clause-stopped : goal.returns-in-Disk-clause-stopped
+returns-in-Disk-clause-stopped g c = λ failed commits journal.
+    let content = g.D.Disk.content in
+    let images = g.D.Disk.images in
+    let before = c.args.self.now in
+    let disk = c.append-appended.new.self.disk in
+    let s : ℕ = c.args.session in
+    let of = crew_for content images before commits journal in
+    let same = commit_is before c.consider.ensures s c.requires.session c.requires.is_open c.requires.writes commits of c.number.result c.begin.result c.take.result c.number.ensures.is c.begin.ensures c.take.ensures.taken in
+    let follows = subst (MayFollow commits) (sym same) (may before c.consider.ensures s c.requires.session c.requires.is_open c.requires.writes commits of c.same_writes_may_be_followed.ensures) in
+    let calls = g.D.Disk.calls_left before.log.disk in
+    subst (λ (l : Line). StopsAt before.log.columns (view_of before) commits l calls (content disk) (g.D.Disk.outcome disk)) (sym c.requires.line)
+    (subst (λ (d : Commit). StopsSo before.log.columns commits (d ∷ []) calls (content disk) (g.D.Disk.outcome disk)) same
+    (c.append-appended.ensures.stopped (c.in-Err.is ∙ ap Err c.in-Disk.is) commits journal.keeps follows))
+
+pub returns-in-Ok-Committed-clause-torn : goal.returns-in-Ok-Committed-clause-torn
+returns-in-Ok-Committed-clause-torn g c = c.append-appended.ensures.torn
+
+pub returns-in-JournalFull-clause-torn : goal.returns-in-JournalFull-clause-torn
+returns-in-JournalFull-clause-torn g c = c.append-appended.ensures.torn
+
+pub returns-in-Disk-clause-torn : goal.returns-in-Disk-clause-torn
+returns-in-Disk-clause-torn g c = c.append-appended.ensures.torn
+
+pub returns-in-OutOfMemory-clause-torn : goal.returns-in-OutOfMemory-clause-torn
+returns-in-OutOfMemory-clause-torn g c = c.append-appended.ensures.torn

@@ -1,4 +1,4 @@
-use Rattle.lst_redo.proofs.ByCrew.{rests, answered, stands, stands_still, never_faults, full_is, failed_is, counts_none, unspent, faults_stay, size_stays, written}
+use Rattle.lst_redo.proofs.ByCrew.{rests, answered, stands, stands_still, never_faults, full_is, failed_is, counts_none, unspent, faults_stay, torn_stays, size_stays, written}
 use Rattle.lst_redo.proofs.Crewing.{has_crew}
 use Rattle.lst_redo.proofs.journal.Redo.line.Goals as goal
 
@@ -29,6 +29,8 @@ returns-in-None g c =
       still = λ no_commit. x.log;
       refused = λ e. x.log;
       written = written content images before after line none _ _ _ _ r x;
+      stopped = λ e. absurd (never_faults content images before after line none r x e);
+      torn = torn_stays content images before after line none g.D.Disk.outcome r x;
       store = x.store;
       crew = x.crew_of;
     }
