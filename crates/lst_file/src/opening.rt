@@ -1,0 +1,81 @@
+//! A file, opened as a disk.
+ghost use Rattle.std.specs.Prelude.{◌≡◌, ◌≤◌, ◌++◌, length, MatchResult};
+ghost use Rattle.lst_file.specs.Openings.{WasOpened, Refused};
+
+use crate::calls::Calls;
+use lst_model::OutOfMemory;
+use std::alloc::{AllocError, Global};
+use std::io;
+
+/// Why a file was not opened as a disk. Nothing was written to it, but where `Write` or a `Sync` behind it says so.
+#[derive(Clone, Copy, Debug)]
+pub enum OpenFault {
+    /// Another open of the file holds its lock.
+    Busy,
+    /// What stands at the name is no regular file, is a symbolic link, or is a file with a second name.
+    NotOneFile,
+    /// The system refused to find, make or lock the file, or to open its folder.
+    System { error: io::Error },
+    /// The system didn't tell the file's length.
+    Measure { error: io::Error },
+    /// The file has fewer bytes than are to stand before the disk.
+    ShorterThanHead,
+    /// There was no memory for the disk's bytes.
+    OutOfMemory,
+    /// A read failed.
+    Read { error: io::Error },
+    /// The zeros behind the file's bytes couldn't be written, as on a full device.
+    Write { error: io::Error },
+    /// The file or its folder couldn't be synced.
+    Sync { error: io::Error },
+}
+
+impl From<io::Error> for OpenFault {
+    fn from(error: io::Error) -> OpenFault {
+        OpenFault::System { error }
+    }
+}
+
+impl From<AllocError> for OpenFault {
+    fn from(_error: AllocError) -> OpenFault {
+        OpenFault::OutOfMemory
+    }
+}
+
+/// Makes the calls of an opening, and gives the disk's bytes. All the memory that is wanted is taken before the first call that changes anything.
+pub(crate) fn read_disk<F: Calls>(
+    alloc: Global,
+    calls: &mut F,
+    offset: u32,
+    size: u32,
+) -> Result<Vec<u8>, OpenFault>
+    ensures { MatchResult result
+        (λ bytes. WasOpened offset size (F.Calls.events calls.old) (F.Calls.events calls.new) bytes.items)
+        (λ fault. Refused offset size (F.Calls.events calls.old) (F.Calls.events calls.new) fault) }
+{
+    let count = match calls.measure() {
+        Ok(count) => count,
+        Err(error) => return Err(OpenFault::Measure { error }),
+    };
+    if count < offset as u64 {
+        return Err(OpenFault::ShorterThanHead);
+    }
+    let held = (count - offset as u64) as usize;
+    let mut bytes = Vec::new(alloc);
+    bytes.resize(held.max(size as usize), 0)?;
+    if let Err(error) = calls.flush() {
+        return Err(OpenFault::Sync { error });
+    }
+    if let Err(error) = calls.read(offset as u64, &mut bytes[..held]) {
+        return Err(OpenFault::Read { error });
+    }
+    if held < size as usize {
+        if let Err(error) = calls.write(count, &bytes[held..]) {
+            return Err(OpenFault::Write { error });
+        }
+        if let Err(error) = calls.sync() {
+            return Err(OpenFault::Sync { error });
+        }
+    }
+    Ok(bytes)
+}
