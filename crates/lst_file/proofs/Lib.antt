@@ -1,1 +1,3 @@
-pub mod Noting
+mod Found
+mod Growing
+mod Noting

@@ -2,8 +2,6 @@
 ghost use Rattle.std.specs.Prelude.{◌≡◌, ◌+◌, ◌≤◌, min};
 ghost use Rattle.lst_model.specs.Faults.{Rose};
 
-use lst_disk::DiskFailed;
-
 /// The count after one more fault. It stands still at the last value of `u64`.
 pub(crate) fn raised(count: u64) -> u64
     ensures value { result ≡ min (count + 1) u64.MAX }
@@ -20,12 +18,4 @@ pub enum GrowFault {
     Disk,
     /// The file's length would be more than a `u64` holds.
     TooLong,
-}
-
-impl From<DiskFailed> for GrowFault {
-    fn from(_failed: DiskFailed) -> GrowFault
-        ensures { result ≡ GrowFault.Disk }
-    {
-        GrowFault::Disk
-    }
 }

@@ -97,6 +97,13 @@ impl<F: Calls> FileDisk<F> {
         self.copy = None;
     }
 
+    /// Hands the file back, which stays locked until it is dropped.
+    pub fn into_file(self) -> F
+        ensures { F.Calls.events result ≡ file_events self }
+    {
+        self.calls
+    }
+
     /// Writes so many zeros behind the disk's bytes, which are a part of it from then on, and syncs. The copy that reads are served from is let go.
     ///
     /// Where the disk fails, some of the zeros may be there. A crash meanwhile leaves of the bytes that were there before what it could leave of them anyhow; the bytes behind may
@@ -116,11 +123,15 @@ impl<F: Calls> FileDisk<F> {
         let mut left = more;
         while left > 0 {
             let count = left.min(PIECE as u64);
-            self.add(&zeros[..count as usize])?;
+            if let Err(DiskFailed) = self.add(&zeros[..count as usize]) {
+                return Err(GrowFault::Disk);
+            }
             left -= count;
         }
-        self.sync()?;
-        Ok(())
+        match self.sync() {
+            Ok(()) => Ok(()),
+            Err(DiskFailed) => Err(GrowFault::Disk),
+        }
     }
 
     /// Writes a piece behind the disk's bytes, which is a part of it from then on.
@@ -149,8 +160,9 @@ impl<F: Calls> FileDisk<F> {
 }
 
 impl<F: Calls> Disk for FileDisk<F> {
-    ghost use Rattle.std.specs.Prelude.{◌≡◌, ◌+◌, ◌^◌, None, List, ℕ, length, IsOk, IsTrue, ◌↔◌};
-    ghost use Rattle.lst_model.specs.Faults.{faults_after};
+    ghost use Rattle.std.specs.Prelude.{◌≡◌, ◌+◌, ◌≤◌, ◌^◌, None, List, ℕ, length, take, drop, IsOk, OnOk, IsTrue, ◌↔◌};
+    ghost use Rattle.lst_model.specs.Faults.{HasCause, faults_after};
+    ghost use Rattle.lst_disk.specs.Disk.{overwritten, Torn, Follows, Only, Elapses};
     ghost use Rattle.lst_file.specs.Events.{wrote, failed, synced, unsynced};
     ghost use Rattle.lst_file.specs.Files.{file_events, file_offset, file_content, file_images, file_images_since, file_clock, file_faults, file_is_dead, file_has_copy};
     ghost use Rattle.lst_file.specs.Faults.{Makes};
@@ -186,12 +198,15 @@ impl<F: Calls> Disk for FileDisk<F> {
 
     /// It calls nothing, and fails exactly where the copy was let go.
     fn read(&mut self, at: u64, into: &mut [u8]) -> Result<(), DiskFailed>
+        requires { at + length into.old ≤ length (file_content self.old) }
+        ensures bytes { OnOk result (into.new ≡ take (length into.old) (drop at (file_content self.old))) }
         ensures served { IsOk result ↔ IsTrue (file_has_copy self.old) }
         ensures events { file_events self.new ≡ file_events self.old }
         ensures offset { file_offset self.new ≡ file_offset self.old }
         ensures copy { file_has_copy self.new ≡ file_has_copy self.old }
         ensures dead { file_is_dead self.new ≡ file_is_dead self.old }
         ensures faults { file_faults self.new ≡ faults_after (file_faults self.old) result }
+        ensures cause { HasCause (file_faults self.old) (file_faults self.new) result }
     {
         match &self.copy {
             Some(bytes) => {
@@ -208,6 +223,12 @@ impl<F: Calls> Disk for FileDisk<F> {
 
     /// It makes one write of the file, and none where the disk is dead.
     fn write_at(&mut self, at: u64, from: &[u8]) -> Result<(), DiskFailed>
+        requires within { at + length from.now ≤ length (file_content self.old) }
+        ensures written { OnOk result (file_content self.new ≡ overwritten (file_content self.old) at from.now) }
+        ensures elsewhere { Torn at (length from.now) (file_content self.old) (file_content self.new) }
+        ensures crash { Follows (Torn at (length from.now)) (file_images self.old) (file_images self.new) }
+        ensures time { Elapses (file_clock self.old) (file_clock self.new) (file_images_since self.old) (file_images_since self.new) (file_images self.new) }
+        ensures cause { HasCause (file_faults self.old) (file_faults self.new) result }
         ensures makes { Makes (wrote (file_offset self.old + at) from.now) (failed (file_offset self.old + at) from.now) self.old self.new result }
     {
         if self.dead {
@@ -231,6 +252,11 @@ impl<F: Calls> Disk for FileDisk<F> {
 
     /// It makes one sync of the file, and none where the disk is dead.
     fn sync(&mut self) -> Result<(), DiskFailed>
+        ensures durable { OnOk result (Only (file_content self.old) (file_images self.new)) }
+        ensures content { file_content self.new ≡ file_content self.old }
+        ensures crash { (c : List ℕ) → file_images self.new c → file_images self.old c }
+        ensures time { Elapses (file_clock self.old) (file_clock self.new) (file_images_since self.old) (file_images_since self.new) (file_images self.new) }
+        ensures cause { HasCause (file_faults self.old) (file_faults self.new) result }
         ensures makes { Makes synced unsynced self.old self.new result }
     {
         if self.dead {
@@ -250,6 +276,7 @@ impl<F: Calls> Disk for FileDisk<F> {
     /// It needs no memory, and changes nothing.
     fn room(&mut self, bytes: u64) -> Result<(), OutOfMemory>
         ensures ok { IsOk result }
+        ensures bytes { bytes ≤ 2 ^ 64 }
         ensures same { self.new ≡ self.old }
     {
         let _ = bytes;

@@ -17,4 +17,5 @@ pub use faults::GrowFault;
 pub use file_disk::FileDisk;
 pub use names::open;
 pub use opening::OpenFault;
+pub use record::Record;
 pub use system::SystemFile;

@@ -1,10 +1,10 @@
 //! A file, opened as a disk.
-ghost use Rattle.std.specs.Prelude.{◌≡◌, ◌≤◌, ◌++◌, length, MatchResult};
-ghost use Rattle.lst_file.specs.Openings.{WasOpened, Refused};
+ghost use Rattle.std.specs.Prelude.{◌≡◌, ◌≤◌, ◌++◌, length, vec_capacity, IfOk, MatchResult};
+ghost use Rattle.lst_file.specs.Openings.{zeros_behind, WasOpened, Refused};
 
 use crate::calls::Calls;
 use lst_model::OutOfMemory;
-use std::alloc::{AllocError, Global};
+use std::alloc::Global;
 use std::io;
 
 /// Why a file was not opened as a disk. Nothing was written to it, but where `Write` or a `Sync` behind it says so.
@@ -36,9 +36,26 @@ impl From<io::Error> for OpenFault {
     }
 }
 
-impl From<AllocError> for OpenFault {
-    fn from(_error: AllocError) -> OpenFault {
-        OpenFault::OutOfMemory
+/// So many zeros, with room for a disk of `size` bytes.
+fn zeros(alloc: Global, held: usize, size: usize) -> Result<Vec<u8>, OutOfMemory>
+    ensures length { IfOk result (λ bytes. length bytes.items ≡ held) }
+    ensures room { IfOk result (λ bytes. size ≤ vec_capacity bytes) }
+{
+    let mut bytes = Vec::new(alloc);
+    bytes.reserve(size)?;
+    bytes.resize(held, 0)?;
+    Ok(bytes)
+}
+
+/// Adds zeros up to a size for which there is room.
+fn lengthen(bytes: &mut Vec<u8>, size: usize)
+    requires shorter { length bytes.old.items ≤ size }
+    requires room { size ≤ vec_capacity bytes.old }
+    ensures { bytes.new.items ≡ bytes.old.items ++ zeros_behind size bytes.old.items }
+{
+    match bytes.resize(size, 0) {
+        Ok(()) => {}
+        Err(_) => unreachable!(),
     }
 }
 
@@ -61,21 +78,25 @@ pub(crate) fn read_disk<F: Calls>(
         return Err(OpenFault::ShorterThanHead);
     }
     let held = (count - offset as u64) as usize;
-    let mut bytes = Vec::new(alloc);
-    bytes.resize(held.max(size as usize), 0)?;
+    let size = size as usize;
+    let Ok(mut bytes) = zeros(alloc, held, size) else {
+        return Err(OpenFault::OutOfMemory);
+    };
     if let Err(error) = calls.flush() {
         return Err(OpenFault::Sync { error });
     }
-    if let Err(error) = calls.read(offset as u64, &mut bytes[..held]) {
+    if let Err(error) = calls.read(offset as u64, bytes.as_mut_slice()) {
         return Err(OpenFault::Read { error });
     }
-    if held < size as usize {
-        if let Err(error) = calls.write(count, &bytes[held..]) {
-            return Err(OpenFault::Write { error });
-        }
-        if let Err(error) = calls.sync() {
-            return Err(OpenFault::Sync { error });
-        }
+    if held >= size {
+        return Ok(bytes);
+    }
+    lengthen(&mut bytes, size);
+    if let Err(error) = calls.write(count, &bytes[held..]) {
+        return Err(OpenFault::Write { error });
+    }
+    if let Err(error) = calls.sync() {
+        return Err(OpenFault::Sync { error });
     }
     Ok(bytes)
 }
