@@ -3,7 +3,7 @@ use Rattle.std.specs.Prelude.{◌≡◌, ℕ, ◌+◌, ◌-◌, ◌<◌, ◌≤�
 use Rattle.std.proofs.Common.{refl, sym, ap, ◌∙◌, arith}
 use Rattle.std.proofs.Math.Seq.{drop-append_seam}
 use Rattle.std.proofs.lemmas.Bool.Decides.{nat_tests}
-use Rattle.std.proofs.lemmas.List.{append-nil}
+use Rattle.std.proofs.lemmas.List.{append-nil, take_rest}
 use Rattle.lst_file.specs.Events.{Event, measured, flushed, found, wrote, failed, synced, unsynced}
 use Rattle.lst_file.specs.Openings.{zeros_behind, read_calls, opening_calls, WasOpened}
 
@@ -37,14 +37,17 @@ zeros_are : (size : ℕ) (bytes whole : List ℕ) → whole ≡ bytes ++ zeros_b
 zeros_are size bytes whole is = ap (drop (length bytes)) is ∙ drop-append_seam bytes (zeros_behind size bytes)
 
 module _ (offset size count held : ℕ) (bytes whole : List ℕ) (e0 e3 : List Event) (place : count ≡ offset + length bytes) (wide : length bytes ≡ held) (short : held < size) (is : whole ≡ bytes ++ zeros_behind size bytes) (read : e3 ≡ read_calls offset bytes e0) where
-  behind : drop held whole ≡ zeros_behind size bytes
-  behind = ap (λ (n : ℕ). drop n whole) (sym wide) ∙ zeros_are size bytes whole is
+  abbrev piece : List ℕ
+  piece = take (length whole - held) (drop held whole)
 
-  after_writing : (e4 : List Event) → e4 ≡ wrote count (drop held whole) ∷ e3 → e4 ≡ wrote (offset + length bytes) (zeros_behind size bytes) ∷ read_calls offset bytes e0
-  after_writing e4 is4 = is4 ∙ ap (λ (n : ℕ). wrote n (drop held whole) ∷ e3) place ∙ ap (λ (zs : List ℕ). wrote (offset + length bytes) zs ∷ e3) behind ∙ ap (λ (es : List Event). wrote (offset + length bytes) (zeros_behind size bytes) ∷ es) read
+  behind : piece ≡ zeros_behind size bytes
+  behind = take_rest whole held ∙ ap (λ (n : ℕ). drop n whole) (sym wide) ∙ zeros_are size bytes whole is
+
+  after_writing : (e4 : List Event) → e4 ≡ wrote count piece ∷ e3 → e4 ≡ wrote (offset + length bytes) (zeros_behind size bytes) ∷ read_calls offset bytes e0
+  after_writing e4 is4 = is4 ∙ ap (λ (n : ℕ). wrote n piece ∷ e3) place ∙ ap (λ (zs : List ℕ). wrote (offset + length bytes) zs ∷ e3) behind ∙ ap (λ (es : List Event). wrote (offset + length bytes) (zeros_behind size bytes) ∷ es) read
 
   -- zeros were written behind it, and synced
-  pub opened_longer : (e4 e5 : List Event) → e4 ≡ wrote count (drop held whole) ∷ e3 → e5 ≡ synced ∷ e4 → WasOpened offset size e0 e5 whole
+  pub opened_longer : (e4 e5 : List Event) → e4 ≡ wrote count piece ∷ e3 → e5 ≡ synced ∷ e4 → WasOpened offset size e0 e5 whole
   opened_longer e4 e5 is4 is5 =
       let long : nat_lt (length bytes) size ≡ true = grind (arith, nat_tests, wide, short) in (
         bytes,
@@ -54,13 +57,13 @@ module _ (offset size count held : ℕ) (bytes whole : List ℕ) (e0 e3 : List E
       )
 
   -- they couldn't be written
-  pub refused_write : (e4 : List Event) → e4 ≡ failed count (drop held whole) ∷ e3 → (x : List ℕ) × (length x < size) × (e4 ≡ failed (offset + length x) (zeros_behind size x) ∷ read_calls offset x e0)
+  pub refused_write : (e4 : List Event) → e4 ≡ failed count piece ∷ e3 → (x : List ℕ) × (length x < size) × (e4 ≡ failed (offset + length x) (zeros_behind size x) ∷ read_calls offset x e0)
   refused_write e4 is4 = (
     bytes,
     omega (arith, wide, short),
-    is4 ∙ ap (λ (n : ℕ). failed n (drop held whole) ∷ e3) place ∙ ap (λ (zs : List ℕ). failed (offset + length bytes) zs ∷ e3) behind ∙ ap (λ (es : List Event). failed (offset + length bytes) (zeros_behind size bytes) ∷ es) read,
+    is4 ∙ ap (λ (n : ℕ). failed n piece ∷ e3) place ∙ ap (λ (zs : List ℕ). failed (offset + length bytes) zs ∷ e3) behind ∙ ap (λ (es : List Event). failed (offset + length bytes) (zeros_behind size bytes) ∷ es) read,
   )
 
   -- they couldn't be synced
-  pub refused_sync : (e4 e5 : List Event) → e4 ≡ wrote count (drop held whole) ∷ e3 → e5 ≡ unsynced ∷ e4 → (x : List ℕ) × (length x < size) × (e5 ≡ unsynced ∷ wrote (offset + length x) (zeros_behind size x) ∷ read_calls offset x e0)
+  pub refused_sync : (e4 e5 : List Event) → e4 ≡ wrote count piece ∷ e3 → e5 ≡ unsynced ∷ e4 → (x : List ℕ) × (length x < size) × (e5 ≡ unsynced ∷ wrote (offset + length x) (zeros_behind size x) ∷ read_calls offset x e0)
   refused_sync e4 e5 is4 is5 = (bytes, omega (arith, wide, short), is5 ∙ ap (λ (es : List Event). unsynced ∷ es) (after_writing e4 is4))

@@ -108,6 +108,9 @@ alive_or false = inr refl
 if_dead : {X : Type 0} (b : Bool) (x y : X) → b ≡ false → (if b then x else y) ≡ y
 if_dead b x y is = ap (λ (it : Bool). if it then x else y) is
 
+no_error : false ≡ true → ⊥
+no_error is = cc
+
 module _ {F : Type 0} {g : calls.Ghosts F} where
   abbrev Leaves : FileDisk F g → FileDisk F g → Type 0
   Leaves start now = LeavesOnly file_clock file_images_since start now (WasImage start)
@@ -199,8 +202,8 @@ module _ {F : Type 0} {g : calls.Ghosts F} where
       → Makes {E = E} (wrote (file_offset now + length (file_content now)) piece) (failed (file_offset now + length (file_content now)) piece) now new (Ok value)
       → file_content new ≡ (if file_is_dead now then file_content now else file_content now ++ piece) → Grown start new (done + n)
   grown_on value start now new done n piece grown is some makes content =
-      let alive : file_is_dead now ≡ false = elim (alive_or (file_is_dead now)) [ inl dead ↦ absurd (makes.dead dead).0 | inr it ↦ it ] in
-      let some_piece : 0 < length piece = omega (arith, some, ap length is, length-replicate n 0) in
+      let alive : file_is_dead now ≡ false = elim (alive_or (file_is_dead now)) [ inl dead ↦ absurd (no_error (makes.dead dead).0) | inr it ↦ it ] in
+      let some_piece : 0 < length piece = omega (arith, some, ap length is, length-replicate {A = ℕ} n 0) in
       record {
         content = content ∙ if_dead (file_is_dead now) (file_content now) (file_content now ++ piece) alive ∙ ap (λ (l : List ℕ). l ++ piece) grown.content ∙ append_assoc (file_content start) (replicate done 0) piece
             ∙ ap (λ (l : List ℕ). file_content start ++ l) (ap (λ (l : List ℕ). replicate done 0 ++ l) is ∙ replicate-append-replicate done n 0);
@@ -222,7 +225,7 @@ module _ {F : Type 0} {g : calls.Ghosts F} where
 
   pub crash_synced : {T E : Type 0} (value : T) (start now new : FileDisk F g) (done : ℕ) → Grown start now done → Makes {E = E} synced unsynced now new (Ok value) → Leaves start new
   crash_synced value start now new done grown makes = elim (alive_or (file_is_dead now)) [
-    | inl dead ↦ absurd (makes.dead dead).0
+    | inl dead ↦ absurd (no_error (makes.dead dead).0)
     | inr alive ↦ leaves_synced start now new grown.crash makes.offset (makes.alive alive)
   ]
 

@@ -1,8 +1,8 @@
 //! A disk over a file: each call is made on the file, which notes it.
-ghost use Rattle.std.specs.Prelude.{◌≡◌, ◌≤◌, ◌<◌, ◌+◌, ◌^◌, List, length};
+ghost use Rattle.std.specs.Prelude.{◌≡◌, ◌≤◌, ◌<◌, ◌+◌, ◌^◌, ◌∷◌, List, length, replicate, MatchResult};
 ghost use Rattle.std.specs.Option.{ForSome};
 ghost use Rattle.lst_disk.specs.Disk.{overwritten};
-ghost use Rattle.lst_file.specs.Events.{stored, has_failed};
+ghost use Rattle.lst_file.specs.Events.{stored, has_failed, wrote, failed};
 
 use crate::calls::Calls;
 use crate::faults::{GrowFault, raised};
@@ -10,6 +10,7 @@ use crate::opening::{OpenFault, read_disk};
 use lst_disk::{Disk, DiskFailed};
 use lst_model::OutOfMemory;
 use std::alloc::Global;
+use std::io;
 
 /// How many zeros are written at once.
 const PIECE: usize = 4096;
@@ -39,12 +40,22 @@ fn overwrite(copy: &mut Vec<u8>, at: u64, from: &[u8])
     copy[at..at + from.len()].copy_from_slice(from);
 }
 
+/// Writes so many zeros from a place on.
+fn write_zeros<F: Calls>(calls: &mut F, place: u64, count: usize) -> io::Result<()>
+    requires { count ≤ 4096 }
+    ensures { MatchResult result
+        (λ _. F.Calls.events calls.new ≡ wrote place (replicate count 0) ∷ F.Calls.events calls.old)
+        (λ _. F.Calls.events calls.new ≡ failed place (replicate count 0) ∷ F.Calls.events calls.old) }
+{
+    let zeros = [0; PIECE];
+    calls.write(place, &zeros[..count])
+}
+
 impl<F: Calls> FileDisk<F> {
     ghost use Rattle.std.specs.Prelude.{◌≡◌, ◌↔◌, ◌≤◌, ◌<◌, ◌+◌, ◌^◌, ◌++◌, ℕ, List, false, true, length, take, replicate, IfOk, OnOk, MatchResult, if◌then◌else◌};
     ghost use Rattle.lst_disk.specs.Disk.{Only, LeavesOnly};
     ghost use Rattle.lst_file.specs.Growth.{Grows};
     ghost use Rattle.lst_file.specs.Faults.{Makes};
-    ghost use Rattle.lst_file.specs.Events.{wrote, failed};
     ghost use Rattle.lst_file.specs.Openings.{WasOpened, Refused};
     ghost use Rattle.lst_file.specs.Files.{file_events, file_offset, file_content, file_images, file_images_since, file_clock, file_faults, file_is_dead, file_has_copy, WasImage};
 
@@ -119,11 +130,10 @@ impl<F: Calls> FileDisk<F> {
         if more > u64::MAX - self.offset - self.size {
             return Err(GrowFault::TooLong);
         }
-        let zeros = [0; PIECE];
         let mut left = more;
         while left > 0 {
             let count = left.min(PIECE as u64);
-            if let Err(DiskFailed) = self.add(&zeros[..count as usize]) {
+            if let Err(DiskFailed) = self.add(count) {
                 return Err(GrowFault::Disk);
             }
             left -= count;
@@ -134,20 +144,21 @@ impl<F: Calls> FileDisk<F> {
         }
     }
 
-    /// Writes a piece behind the disk's bytes, which is a part of it from then on.
-    fn add(&mut self, piece: &[u8]) -> Result<(), DiskFailed>
-        requires some { 0 < length piece.now }
+    /// Writes so many zeros behind the disk's bytes, which are a part of it from then on.
+    fn add(&mut self, count: u64) -> Result<(), DiskFailed>
+        requires some { 0 < count }
+        requires few { count ≤ 4096 }
         requires bare { file_has_copy self.old ≡ false }
-        requires fits { file_offset self.old + length (file_content self.old) + length piece.now < 2 ^ 64 }
-        ensures makes { Makes (wrote (file_offset self.old + length (file_content self.old)) piece.now) (failed (file_offset self.old + length (file_content self.old)) piece.now) self.old self.new result }
-        ensures content { file_content self.new ≡ (if file_is_dead self.old then file_content self.old else file_content self.old ++ piece.now) }
+        requires fits { file_offset self.old + length (file_content self.old) + count < 2 ^ 64 }
+        ensures makes { Makes (wrote (file_offset self.old + length (file_content self.old)) (replicate count 0)) (failed (file_offset self.old + length (file_content self.old)) (replicate count 0)) self.old self.new result }
+        ensures content { file_content self.new ≡ (if file_is_dead self.old then file_content self.old else file_content self.old ++ replicate count 0) }
     {
         if self.dead {
             self.faults = raised(self.faults);
             return Err(DiskFailed);
         }
-        let answer = self.calls.write(self.offset + self.size, piece);
-        self.size += piece.len() as u64;
+        let answer = write_zeros(&mut self.calls, self.offset + self.size, count as usize);
+        self.size += count;
         match answer {
             Ok(()) => Ok(()),
             Err(_) => {

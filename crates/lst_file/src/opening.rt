@@ -1,5 +1,6 @@
 //! A file, opened as a disk.
-ghost use Rattle.std.specs.Prelude.{◌≡◌, ◌≤◌, ◌++◌, length, vec_capacity, IfOk, MatchResult};
+ghost use Rattle.std.specs.Prelude.{◌≡◌, ◌≤◌, ◌∷◌, ◌++◌, length, vec_capacity, IfOk, OnOk, OnErr, MatchResult};
+ghost use Rattle.lst_file.specs.Events.{found};
 ghost use Rattle.lst_file.specs.Openings.{zeros_behind, WasOpened, Refused};
 
 use crate::calls::Calls;
@@ -59,6 +60,16 @@ fn lengthen(bytes: &mut Vec<u8>, size: usize)
     }
 }
 
+/// Reads the file's bytes from a place on over all of a list.
+fn read_over<F: Calls>(calls: &mut F, place: u64, bytes: &mut Vec<u8>) -> io::Result<()>
+    ensures read { OnOk result (F.Calls.events calls.new ≡ found place bytes.new.items ∷ F.Calls.events calls.old) }
+    ensures failed { OnErr result (F.Calls.events calls.new ≡ F.Calls.events calls.old) }
+    ensures length { length bytes.new.items ≡ length bytes.old.items }
+    ensures room { vec_capacity bytes.new ≡ vec_capacity bytes.old }
+{
+    calls.read(place, bytes.as_mut_slice())
+}
+
 /// Makes the calls of an opening, and gives the disk's bytes. All the memory that is wanted is taken before the first call that changes anything.
 pub(crate) fn read_disk<F: Calls>(
     alloc: Global,
@@ -85,7 +96,7 @@ pub(crate) fn read_disk<F: Calls>(
     if let Err(error) = calls.flush() {
         return Err(OpenFault::Sync { error });
     }
-    if let Err(error) = calls.read(offset as u64, bytes.as_mut_slice()) {
+    if let Err(error) = read_over(calls, offset as u64, &mut bytes) {
         return Err(OpenFault::Read { error });
     }
     if held >= size {
