@@ -3,8 +3,8 @@
 use crate::fake::FakeFile;
 use arrayvec::ArrayVec;
 use lst_file::FileDisk;
-use lst_model::{Act, Commit, Row, Write, Writes};
 use lst_log::{is_record, open};
+use lst_model::{Act, Commit, Row, Write, Writes};
 use std::alloc::Global;
 use std::test::Fail;
 
