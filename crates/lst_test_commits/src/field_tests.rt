@@ -1,8 +1,8 @@
 //! Each field of a record at its edges, and bytes that are no record.
 
 use crate::checks::{is_so, same};
-use lst_model::Act;
 use lst_log::read_record;
+use lst_model::Act;
 use std::alloc::Global;
 use std::process::Abort;
 use std::test::Fail;
