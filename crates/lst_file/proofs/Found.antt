@@ -1,11 +1,11 @@
 -- What was found in a file, and the zeros behind it.
-use Rattle.std.specs.Prelude.{◌≡◌, ℕ, ◌+◌, ◌-◌, ◌<◌, ◌≤◌, nat_lt, Bool, true, false, List, [], ◌∷◌, ◌++◌, length, take, drop, replicate, if◌then◌else◌}
-use Rattle.std.proofs.Common.{refl, sym, ap, ◌∙◌, arith}
+use Rattle.std.specs.Prelude.{◌≡◌, ℕ, ◌+◌, ◌-◌, ◌<◌, ◌≤◌, nat_lt, Bool, true, false, List, ◌∷◌, ◌++◌, length, take, drop, replicate, if◌then◌else◌}
+use Rattle.std.proofs.Common.{sym, ap, ◌∙◌, arith}
 use Rattle.std.proofs.Math.Seq.{drop-append_seam}
 use Rattle.std.proofs.lemmas.Bool.Decides.{nat_tests}
 use Rattle.std.proofs.lemmas.List.{append-nil, take_rest}
 use Rattle.lst_file.specs.Events.{Event, measured, flushed, found, wrote, failed, synced, unsynced}
-use Rattle.lst_file.specs.Openings.{zeros_behind, read_calls, opening_calls, WasOpened}
+use Rattle.lst_file.specs.Openings.{zeros_behind, read_calls, WasOpened}
 
 pub place_is : (offset count held : ℕ) (bytes : List ℕ) → offset ≤ count → held ≡ count - offset → length bytes ≡ held → count ≡ offset + length bytes
 place_is offset count held bytes low is wide = omega (arith, low, is, wide)

@@ -10,7 +10,7 @@ Event = ℕ × ℕ × List ℕ
 abbrev pub measured : ℕ → Event
 measured n = (0, n, [])
 
--- the file and its folder were synced, and the system was asked to drop its copies of the file's pages
+-- the file and its folder were synced
 abbrev pub flushed : Event
 flushed = (1, 0, [])
 

@@ -1,5 +1,5 @@
 -- What a write or a sync of a disk over a file does to it.
-use Rattle.std.specs.Prelude.{◌≡◌, Bool, true, false, List, ◌∷◌, Result, IsErr, OnOk, OnErr, MatchResult}
+use Rattle.std.specs.Prelude.{◌≡◌, true, false, ◌∷◌, Result, IsErr, OnOk, OnErr, MatchResult}
 use Rattle.lst_model.specs.Faults.{faults_after}
 use Rattle.lst_file.specs.Events.{Event}
 use Rattle.lst_file.specs.declared.calls.Calls as calls

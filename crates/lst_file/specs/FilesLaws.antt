@@ -1,9 +1,8 @@
 -- The laws of a disk over a file.
 use Rattle.std.specs.Prelude.{◌≡◌, ℕ, zero, suc, ◌+◌, ◌-◌, ◌≤◌, List, [], None, Some, ◌∷◌, ◌++◌, length, take, drop, Bool, true, false, nat_le, ◌==◌, IsTrue, if◌then◌else◌}
-use Rattle.std.proofs.Common.{refl, sym, ap, ◌∙◌, subst, inl, inr, arith, length-append, append_assoc}
+use Rattle.std.proofs.Common.{refl, sym, ap, ◌∙◌, inl, inr, arith, length-append}
 use Rattle.std.proofs.lemmas.Bool.{and_parts}
 use Rattle.std.proofs.lemmas.Bool.Decides.{nat_tests}
-use Rattle.std.proofs.lemmas.List.{take-append-le, drop-append-le}
 use Rattle.lst_disk.specs.Disk.{Torn, CrashOutcome}
 use Rattle.lst_disk.specs.Images.{Stored, after_write, IsImage}
 use Rattle.lst_disk.specs.ImageLaws.{torn_by_write}

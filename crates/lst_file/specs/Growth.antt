@@ -1,5 +1,5 @@
 -- What making a disk over a file longer does to it.
-use Rattle.std.specs.Prelude.{◌≡◌, ℕ, ◌+◌, ◌^◌, ◌≤◌, ◌↔◌, Bool, true, false, Result, Ok, Err, OnOk, IsOk}
+use Rattle.std.specs.Prelude.{◌≡◌, ℕ, ◌+◌, ◌^◌, ◌≤◌, ◌↔◌, true, false, Result, Err, OnOk, IsOk}
 use Rattle.lst_file.specs.declared.calls.Calls as calls
 use Rattle.lst_file.specs.declared.file_disk.FileDisk.{FileDisk}
 use Rattle.lst_file.specs.declared.faults.GrowFault.{GrowFault}

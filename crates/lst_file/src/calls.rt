@@ -13,7 +13,7 @@ pub trait Calls {
     fn measure(&mut self) -> io::Result<u64>
         ensures { MatchResult result (λ n. events self.new ≡ measured n ∷ events self.old) (λ _. events self.new ≡ events self.old) };
 
-    /// Syncs the file and its folder, and asks the system to drop its copies of the file's pages, so that what is read next is what the device has.
+    /// Syncs the file and its folder, so that what is read next lasts.
     fn flush(&mut self) -> io::Result<()>
         ensures { MatchResult result (λ _. events self.new ≡ flushed ∷ events self.old) (λ _. events self.new ≡ unsynced ∷ events self.old) };
 

@@ -60,7 +60,7 @@ impl<F: Calls> FileDisk<F> {
     ghost use Rattle.lst_file.specs.Files.{file_events, file_offset, file_content, file_images, file_images_since, file_clock, file_faults, file_is_dead, file_has_copy, WasImage};
 
     /// Opens a file as a disk whose place 0 stands at `offset`, and which reaches to the file's end, and is `size` bytes long at least. Before anything is read the file is
-    /// synced and the system's copies of its pages are dropped: what an earlier process wrote and couldn't sync would be read else, and built upon. Zeros are written
+    /// synced: what an earlier process wrote and didn't sync would be read else, and built upon. Zeros are written
     /// behind its bytes up to `size`, and synced, so that a crash leaves the content and nothing else.
     ///
     /// A fault comes with the file, which tells by its calls how far it came: where it is `OutOfMemory` or `ShorterThanHead`, the file was only measured.

@@ -8,7 +8,6 @@ use crate::calls::Calls;
 use crate::record::Record;
 use std::fs::File;
 use std::io;
-use std::os::fd::AsRawFd;
 use std::os::unix::fs::FileExt;
 
 const MEASURED: u64 = 0;
@@ -27,7 +26,7 @@ const UNSYNCED: u64 = 6;
 
 /// An open file of the system, and the folder that names it. The file's descriptor is none of a standard stream, so that nothing that is meant for one lands in it.
 ///
-/// That the record tells what was done has to be read: no prover sees the file. Each method of `Calls` below makes one call of the system (`flush` three) and
+/// That the record tells what was done has to be read: no prover sees the file. Each method of `Calls` below makes one call of the system (`flush` two) and
 /// notes it, by its outcome. A body that notes a sync and makes none would be proved as well.
 #[derive(Drop)]
 pub struct SystemFile {
@@ -51,15 +50,10 @@ impl SystemFile {
     }
 }
 
-/// Syncs a file and its folder, and asks for its pages to be dropped.
+/// Syncs a file and its folder.
 fn settle(file: &File, folder: &File) -> io::Result<()> {
     file.sync_all()?;
-    folder.sync_all()?;
-    let advised = libc::posix_fadvise(file.as_raw_fd(), 0, 0, libc::POSIX_FADV_DONTNEED);
-    if advised != 0 {
-        return Err(io::Error::from_raw_os_error(advised));
-    }
-    Ok(())
+    folder.sync_all()
 }
 
 impl Calls for SystemFile {

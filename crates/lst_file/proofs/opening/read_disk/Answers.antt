@@ -1,5 +1,5 @@
-use Rattle.std.proofs.Common.{rules, refl, inr, ◌∙◌, ◌≡◌, ◌≤◌, ◌<◌, ◌+◌, ◌-◌, length, List, ℕ, arith}
-use Rattle.lst_file.proofs.Found.{place_is, after_reading, opened_exact, opened_longer, refused_write, refused_sync}
+use Rattle.std.proofs.Common.{refl, inr, ◌∙◌, ◌≡◌, ◌≤◌, ◌<◌, ◌-◌, length, arith}
+use Rattle.lst_file.proofs.Found.{place_is, after_reading, opened_exact, refused_write, refused_sync}
 use Rattle.lst_file.proofs.opening.read_disk.Goals as goal
 
 pub returns-then-held-size : goal.returns-then-held-size

@@ -1,4 +1,4 @@
-use Rattle.std.proofs.Common.{rules, refl, ap, subst, ◌≡◌, ◌<◌, ◌+◌, ◌-◌, ◌≤◌, length, replicate, ℕ, arith}
+use Rattle.std.proofs.Common.{refl, ap, subst, ◌<◌, ◌-◌, length, replicate, ℕ, arith}
 use Rattle.std.proofs.lemmas.List.{length-replicate}
 use Rattle.lst_file.proofs.Growing.{Grown, leaves_start, leaves_same, grown_start, grown_on, crash_add, crash_synced, crash_unsynced}
 use Rattle.lst_file.proofs.file_disk.FileDisk.grow.Goals as goal
