@@ -1,6 +1,5 @@
 //! A file in memory that fails from a given call on, and can crash.
-ghost use Rattle.std.specs.Prelude.{◌≡◌, ◌+◌, ◌∷◌, [], length, IfOk};
-ghost use Rattle.lst_file.specs.Events.{measured, flushed, found, wrote, failed, synced, unsynced};
+ghost use Rattle.std.specs.Prelude.{◌≡◌, IfOk};
 
 use lst_file::{Calls, FileDisk, OpenFault, Record};
 use std::alloc::{AllocError, Global};
@@ -24,7 +23,7 @@ pub(crate) struct FakeFile {
     left: u64,
     done: Done,
     made: u64,
-    record: Record,
+    calls: Record,
 }
 
 /// Puts a piece at a place, and zeros before it where the bytes end earlier.
@@ -63,7 +62,7 @@ impl FakeFile {
             left,
             done,
             made: 0,
-            record: Record::new(),
+            calls: Record::new(),
         })
     }
 
@@ -118,23 +117,23 @@ fn refused() -> io::Error {
 }
 
 impl Calls for FakeFile {
-    ghost events = { λ f. f.record.events };
+    ghost events = { λ f. f.calls.events };
 
     fn measure(&mut self) -> io::Result<u64> {
         if !self.goes_on() {
             return Err(refused());
         }
         let count = self.cache.len() as u64;
-        self.record.note(&[0, count], &[]);
+        self.calls.note(&[0, count], &[]);
         Ok(count)
     }
 
     fn flush(&mut self) -> io::Result<()> {
         if self.lasts() {
-            self.record.note(&[1, 0], &[]);
+            self.calls.note(&[1, 0], &[]);
             return Ok(());
         }
-        self.record.note(&[6, 0], &[]);
+        self.calls.note(&[6, 0], &[]);
         Err(refused())
     }
 
@@ -145,7 +144,7 @@ impl Calls for FakeFile {
             return Err(refused());
         }
         into.copy_from_slice(&self.cache[place..place + into.len()]);
-        self.record.note(&[2, place as u64], into);
+        self.calls.note(&[2, place as u64], into);
         Ok(())
     }
 
@@ -158,19 +157,19 @@ impl Calls for FakeFile {
             Done::All => from,
         };
         if put(&mut self.cache, place, part).is_ok() && goes_on {
-            self.record.note(&[3, place], from);
+            self.calls.note(&[3, place], from);
             return Ok(());
         }
-        self.record.note(&[4, place], from);
+        self.calls.note(&[4, place], from);
         Err(refused())
     }
 
     fn sync(&mut self) -> io::Result<()> {
         if self.lasts() {
-            self.record.note(&[5, 0], &[]);
+            self.calls.note(&[5, 0], &[]);
             return Ok(());
         }
-        self.record.note(&[6, 0], &[]);
+        self.calls.note(&[6, 0], &[]);
         Err(refused())
     }
 }
