@@ -1,6 +1,5 @@
 //! An open journal, and the lines that go through it.
 ghost use Rattle.std.specs.Prelude.{◌≡◌, false, IfOk, OnOk};
-ghost use Rattle.std.specs.List.{AllByRecursion};
 ghost use Rattle.lst_layout.specs.Limits.{IsValid};
 ghost use Rattle.lst_model.specs.Lines.{LineFits};
 ghost use Rattle.lst_redo.specs.Journals.{IsOpenJournal};
@@ -8,7 +7,7 @@ ghost use Rattle.lst_redo.specs.Journals.{IsOpenJournal};
 use lst_disk::Disk;
 use lst_layout::{Layout, Limits};
 use lst_model::{History, Line, OutOfMemory, Text};
-use lst_redo::{Kept, OpenRefusal, Redo, RunFault, open_redo};
+use lst_redo::{Kept, OpenRefusal, Redo, open_redo};
 use lst_replies::push_line;
 use lst_script::parse;
 use std::alloc::Global;
@@ -103,35 +102,6 @@ fn line_of(alloc: Global, limits: &Limits, text: &str) -> Result<Line, Fail>
     Ok(script.line(0))
 }
 
-/// The lines of a text.
-fn lines_of(alloc: Global, limits: &Limits, text: &[u8]) -> Result<Vec<Line>, Fail>
-    requires { IsValid limits.now }
-    ensures { IfOk result (λ lines. AllByRecursion (LineFits limits.now.sessions limits.now.ranges limits.now.columns) lines.items) }
-{
-    let Ok(script) = parse(alloc, text, limits) else {
-        return Err("the text is a script".into());
-    };
-    Ok(script.unpacked(alloc)?)
-}
-
-/// The text of lines, one below another.
-fn text_of_lines(alloc: Global, lines: &[Step]) -> Result<Vec<u8>, OutOfMemory> {
-    let mut text = Vec::new(alloc);
-    for (line, _) in lines {
-        text.extend_from_slice(line.as_bytes())?;
-        text.push(b'\n')?;
-    }
-    Ok(text)
-}
-
-/// Answers, compared with what is wanted of the first lines.
-fn are_kept(rt: &(impl Abort + AllocGlobal), kept: &[Kept], lines: &[Step]) -> Result<(), Fail> {
-    for (kept, (line, wanted)) in kept.iter().zip(lines) {
-        is_kept(rt, kept, wanted, line)?;
-    }
-    Ok(())
-}
-
 impl<D: Disk> Driven<D> {
     /// What a line is answered.
     pub(crate) fn line(
@@ -165,41 +135,6 @@ impl<D: Disk> Driven<D> {
             is_kept(rt, &kept, wanted, line)?;
         }
         Ok(())
-    }
-
-    /// What lines that stand one below another are answered together.
-    fn lines(&mut self, alloc: Global, text: &[u8]) -> Result<Result<Vec<Kept>, RunFault>, Fail>
-        requires { self.old.redo.failed ≡ false → IsOpenJournal D.content D.images self.old.redo }
-        ensures { self.new.redo.failed ≡ false → IsOpenJournal D.content D.images self.new.redo }
-    {
-        let limits = *self.redo.crew.seat.limits();
-        layout_of(&limits)?;
-        let lines = lines_of(alloc, &limits, text)?;
-        if self.redo.failed() {
-            return Err("no line follows a fault".into());
-        }
-        Ok(self.redo.lines(alloc, lines.as_slice()))
-    }
-
-    /// Passes lines on together, and compares what they are answered: so many of them, unless none is, for the reason that is told.
-    pub(crate) fn play_together(
-        &mut self,
-        rt: &(impl Abort + AllocGlobal),
-        lines: &[Step],
-        answered: usize,
-    ) -> Result<Option<RunFault>, Fail>
-        requires { self.old.redo.failed ≡ false → IsOpenJournal D.content D.images self.old.redo }
-        ensures { self.new.redo.failed ≡ false → IsOpenJournal D.content D.images self.new.redo }
-    {
-        let text = text_of_lines(rt.alloc(), lines)?;
-        match self.lines(rt.alloc(), text.as_slice())? {
-            Ok(kept) => {
-                same(rt, kept.len(), answered, 0);
-                are_kept(rt, kept.as_slice(), lines)?;
-                Ok(None)
-            }
-            Err(fault) => Ok(Some(fault)),
-        }
     }
 
     /// Its commits.
