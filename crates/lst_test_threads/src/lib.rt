@@ -12,8 +12,6 @@ mod part_tests;
 #[cfg(test)]
 mod serial_tests;
 #[cfg(test)]
-mod step_tests;
-#[cfg(test)]
 mod thread_tests;
 #[cfg(test)]
 mod work_tests;
