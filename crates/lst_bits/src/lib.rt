@@ -1,10 +1,4 @@
-//! The packings of a store's words.
-//!
-//! Each word that holds more than a plain number has a pair of calls, which undo one another: a
-//! value in its range is packed to a word, and a word that some value packs to is unpacked.
-//!
-//! It touches no word of a store: it packs and unpacks numbers. Begin with `encodings.rt`, and with `specs/Encodings` for what
-//! the parts of a word mean.
+//! The packings of a store's words: a value in its range is packed to a word, and unpacked again. It packs numbers, and touches no word of a store.
 #![tactic(auto)]
 
 mod encodings;

@@ -1,10 +1,4 @@
-//! Version chains: which version a begin time sees first, and what the visible versions leave in
-//! a column.
-//!
-//! A chain is a slice of versions, the newest first. The columns 8 to 15 are the null flags of the
-//! columns 0 to 7: 1 where the column is null, and 0 where it has a number.
-//!
-//! It stands alone, and no word of a store is touched. Begin with `specs/Chain`.
+//! Version chains: which version a begin time sees first, and what the visible versions leave in a column. No word of a store is touched.
 #![tactic(auto)]
 
 ghost use Rattle.std.specs.Prelude.{◌≡◌, ◌↔◌, ℕ, Option, IsNone, IfSome};

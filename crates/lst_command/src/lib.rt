@@ -1,7 +1,4 @@
 //! The commands of the program `lstore`: from the words of a command line, or the arguments of a process, to bytes and a status.
-//!
-//! Begin with `lstore` in `shell.rt`: its contract is the promise of the whole program, in the words of `specs/Answers` and
-//! `Owed`.
 #![tactic(auto)]
 
 mod command;

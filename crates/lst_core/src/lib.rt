@@ -1,7 +1,4 @@
-//! The protocol core in single steps.
-//!
-//! `Core` is one row of words, which it makes each step of `lst_core_state` on, exactly where the step may be made. No shared
-//! word is touched. Begin with `Core::step` in `cores.rt`; `allowed.rt` has the tests of each kind of step.
+//! The protocol in single steps, executable: `Core` is one row of words, which it makes each step of `lst_core_state` on. No shared word is touched.
 #![tactic(auto)]
 
 mod allowed;

@@ -1,8 +1,4 @@
-//! The executable page core: a state of frames, pins and base pages that makes single atomic steps.
-//!
-//! `PageCore` holds a state of `lst_pages`, and answers each step exactly where it may be made.
-//!
-//! No shared word is touched. Begin with `page_core.rt`.
+//! The executable page core: a state of frames, pins and base pages that makes each step of `lst_pages`. No shared word is touched.
 #![tactic(auto)]
 
 mod hands;

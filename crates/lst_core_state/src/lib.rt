@@ -1,10 +1,5 @@
 //! The protocol of a store as data: what a session knows, the single atomic steps, and what holds between any two of them.
-//!
-//! `specs/` has the definitions, `proofs/` shows that each step keeps what holds. What runs are the numbers that a program keeps
-//! of what a session knows, and the word that a step is on.
-//!
-//! No word is touched here: the steps are made in `lst_rule`. Begin with `specs/State`, then `Step`, and `Sound` for what
-//! holds.
+//! What runs are the numbers that a program keeps of what a session knows, and the word that a step is on.
 #![tactic(auto)]
 
 mod afters;

@@ -1,9 +1,4 @@
 //! Tables as comma-separated values: a table becomes a script that makes it, and a table of a store becomes text.
-//!
-//! The first record of a text is `key` and the names of the columns, each further one a key and a cell for each column. `specs/` says which records
-//! a text has, in the words of the kit's reader (`Records`), which of them are a table, and which is the first faulty one (`Tables`), the script that
-//! stands for a table (`Importing`), and the text of one (`Writing`). `import_text` and `dump_text` are proved to answer exactly that, and that what is
-//! written is read again (`Laws`).
 #![tactic(auto)]
 
 mod faults;

@@ -1,9 +1,4 @@
-//! A device of fixed size that may fail, and that may crash at any moment.
-//!
-//! A disk tells its content, what a crash may leave of it now, and what a crash at some moment since a time may have left.
-//! Until the next sync that succeeds, the bytes of a range that was written may be anything in what a crash leaves.
-//!
-//! Begin with the trait `Disk` in `disk.rt`, whose words are those of `specs/Disk`; `MemDisk` in `memory.rt` is one in memory.
+//! A device of fixed size that may fail, and that may crash at any moment; and one in memory.
 #![tactic(auto)]
 
 mod disk;

@@ -1,7 +1,4 @@
-//! A bank in a program of one's own: it opens a store, parts it, has sessions transfer amounts between accounts on threads while others add up all balances, gathers
-//! all, and reads the history.
-//!
-//! Begin with `run` in `bank.rt`: its contract, `IsKept` of `specs/Kept`, follows from those of the store's calls alone.
+//! A bank in a program of one's own, on the calls of the store alone: sessions transfer amounts between accounts on threads while others add up all balances.
 #![tactic(auto)]
 
 mod audits;

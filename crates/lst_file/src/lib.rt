@@ -1,7 +1,4 @@
-//! A disk over a file of the system.
-//!
-//! Begin with `FileDisk` in `file_disk.rt`. What it shows of itself is read off a record of the calls that were made on the file, which takes no memory
-//! (`specs/Events`). The calls themselves are a trait, `Calls`; `SystemFile` in `system.rt` makes them, and says what of it has to be read.
+//! A disk over a file of the system. What it shows of itself is read off a record of the calls that were made on the file.
 #![tactic(auto)]
 
 mod calls;

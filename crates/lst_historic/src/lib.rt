@@ -1,7 +1,4 @@
-//! The versions of all keys of a history in one block of bytes, read as of each time.
-//!
-//! Bytes and lists alone. Begin with `specs/Blocks`, then `build` in `building.rt` and `open_block` in `opening.rt`;
-//! `historic.rt` has the reads.
+//! The versions of all keys of a history in one block of bytes, read as of each time. Bytes and lists alone.
 #![tactic(auto)]
 
 mod building;

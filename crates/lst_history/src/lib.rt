@@ -1,8 +1,5 @@
-//! The history of a store, read off its words by a seat that knows each of them: the log tells the commits, and the tail records tell
-//! their writes.
-//!
-//! It loads log, start, encoding and value words, and stores none. Begin with `commits.rt`; `specs/Commits` says which commit a
-//! log entry tells.
+//! The history of a store, read off its words by a seat that knows each of them.
+//! It loads log, start, encoding and value words, and stores none.
 #![tactic(auto)]
 
 mod acts;

@@ -1,7 +1,5 @@
 //! The primary index: which record a key has, and how a key comes to one.
-//!
 //! It loads index words, key words and the counter of records; it draws a record, and stores a key and an index word for it.
-//! Begin with `finding.rt`, then `placing.rt`.
 #![tactic(auto)]
 
 mod finding;

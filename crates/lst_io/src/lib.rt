@@ -1,8 +1,4 @@
-//! Where bytes come from and where they go: a source and a sink that may fail.
-//!
-//! A source tells what bytes it has left and a sink what bytes it has taken, where they know. Each counts its faults, and
-//! answers a failure only where that count has risen. `read_all` and `write_all` stand on these promises alone, so they
-//! hold over memory, where every byte is known, and over the standard streams, of which nothing is known beforehand.
+//! Where bytes come from and where they go: a source and a sink that may fail, and count their faults.
 #![tactic(auto)]
 
 mod ends;

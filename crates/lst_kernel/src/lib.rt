@@ -1,9 +1,4 @@
-//! Sums and counts over the entries of a page, by lanes.
-//!
-//! An entry is a value word and a time word, which is twice the time at which it was last written, and one more where it is
-//! present. A reader that began at some time sees the entries that are present with a time of at most that.
-//!
-//! It works on words that were loaded before, and touches none of a store. Begin with `specs/Entries`, then `sum_all`.
+//! Sums and counts over the entries of a page, by lanes. No word of a store is touched.
 #![tactic(auto)]
 
 ghost use Rattle.std.specs.Prelude.{◌≡◌, ◌≢◌, ◌<◌, ◌≤◌, ◌+◌, ◌*◌, ◌%◌, ◌^◌, ℕ, IfSome, None, length, slice_index, sum, count_by};

@@ -1,11 +1,4 @@
-//! The exact checker of reports: `legal` answers true exactly where a report is legal for a script.
-//!
-//! Beside the whole it has the two rules that ask for rows: reads answer their snapshot, and write replies fit it. Both are
-//! judged in one walk, in which each open transaction has its sight. `legal_serial` answers the same of the serializable level, and has
-//! two rules more: commits are at their serial places, by the same walk with other sights, and stale commits are explained.
-//!
-//! It reads scripts and reports alone. Begin with `legal` in `judging.rt`; `reads.rt` and `writes.rt` have the two rules, `places.rt` and
-//! `stales.rt` the two more.
+//! The exact checker of reports, at both levels: `legal` answers true exactly where a report is legal for a script, `legal_serial` where it is a serializable one.
 #![tactic(auto)]
 
 mod judging;

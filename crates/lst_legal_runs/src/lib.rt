@@ -1,8 +1,4 @@
 //! The rules of a legal report that ask for no rows of the table.
-//!
-//! `trace` gives the places of a run: each line with its reply, and an outline of the state in which its session comes to
-//! it. Each rule is a function over the places, with a contract that says exactly when it holds. `gather` finds the one
-//! history that the committed replies tell.
 #![tactic(auto)]
 
 mod conflicts;

@@ -1,8 +1,4 @@
-//! A log of commits on a disk: a journal. Each is on the disk before it is acknowledged, and a crash at any moment leaves the commits so
-//! far, or these and the one under way.
-//!
-//! It touches the disk that it is given, by the calls of `lst_disk`. Begin with `specs/Format` and `Journals`, then `Log` in
-//! `log.rt` and `open` in `opening.rt`.
+//! A log of commits on a disk: a journal. It touches the disk that it is given, by the calls of `lst_disk`.
 #![tactic(auto)]
 
 mod laws;

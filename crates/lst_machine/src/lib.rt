@@ -1,9 +1,4 @@
 //! The machine of one thread: what a script is answered, line by line, and the state that each line leaves.
-//!
-//! The machine is stated in `specs/` with lists and maps. It has no words, version chains or page frames. `reply` and
-//! `next` give the answer to a line and the state after it, `replies` and `state_after` those of a whole script. The
-//! store part of the state decides every answer but those to merges. `Machine` runs from these definitions: it keeps the lists that they name and
-//! walks them, so it is slow; what it shares with `Plain` stands in `answers`.
 #![tactic(auto)]
 
 mod answers;

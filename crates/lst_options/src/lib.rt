@@ -1,8 +1,4 @@
-//! The options behind a command's name: which words are taken, and which limits they name for a store, which time, level or disk beside them, which columns for a
-//! table, or which numbers for a load.
-//!
-//! Words in, numbers out; nothing else is touched. Begin with `limits_of_words` in `limits.rt`, and with `specs/Options` for
-//! what words mean.
+//! The options behind a command's name. Words in, numbers out; nothing else is touched.
 #![tactic(auto)]
 
 mod as_of;

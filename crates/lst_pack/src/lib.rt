@@ -1,7 +1,4 @@
-//! Packed pages: 256 values in as few words as one of five forms takes.
-//!
-//! Words that a caller has in memory: none of a store is touched. Begin with `specs/Forms`, then `packing.rt`, and `single.rt`
-//! for one value read back.
+//! Packed pages: 256 values in as few words as one of five forms takes. No word of a store is touched.
 #![tactic(auto)]
 
 mod checks;

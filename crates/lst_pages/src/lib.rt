@@ -1,12 +1,5 @@
-//! Base pages, frames and pins: what a page of a range and a column says of each record, told by the range's settled tails; and
-//! the single atomic steps that pages are built, taken and given up by, so that base pages are right, and no frame is used anew
-//! while a session may read it.
-//!
-//! A page has the tails of its range folded into it, oldest first, up to a number that is its TPS (tail page sequence
-//! number). `specs/` says when the words of a frame are a right page, and what a reader may conclude from an entry; then what a
-//! state is, where each kind of step may be made and what it changes, what holds in every state, and how pages lie over the core
-//! of transactions: the same words, and a part of what each session and the merger know. What runs of steps are the numbers that a
-//! program keeps of pages, and the word that a step is on.
+//! Base pages, frames and pins: what a page says of each record, and the single atomic steps by which pages are built, taken and given up.
+//! What runs of steps are the numbers that a program keeps of pages, and the word that a step is on.
 #![tactic(auto)]
 
 mod entries;

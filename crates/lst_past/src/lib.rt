@@ -1,6 +1,4 @@
-//! What is told of a past table: how many bytes the block of a history has, and the table as of a time, read from the block.
-//!
-//! It knows no words of a store. Begin with `past.rt`.
+//! What is told of a past table. It knows no words of a store.
 #![tactic(auto)]
 
 mod lines;

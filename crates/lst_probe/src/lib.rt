@@ -1,10 +1,4 @@
-//! Linear probing in a table of words whose length is a power of two. A word of 0 is an empty
-//! position.
-//!
-//! The run of a value begins at the position that its hash names, goes to the next position, and
-//! after the last one to the first. It ends at its first empty position.
-//!
-//! No word is touched. Begin with `specs/Run`.
+//! Linear probing in a table of words whose length is a power of two. No word is touched.
 #![tactic(auto)]
 
 ghost use Rattle.std.specs.Prelude.{◌≡◌, ℕ, ◌^◌, ◌<◌, ◌≤◌, length, slice_index, true, false};

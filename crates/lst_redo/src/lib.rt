@@ -1,8 +1,5 @@
 //! A crew with a journal: a store that is recovered from a disk that a crash may have left, and the log of its commits.
-//!
-//! It makes the calls of a log of `lst_log` and of a crew. Begin with `open_redo` in `opening.rt` and `Redo::line` in `lines.rt`, and with what an
-//! open journal stands for in `specs/Journals`. `recover` in `recovery.rt` runs commits again on a new crew, and `OwnWrites` in `own.rt` keeps the writes of
-//! each session's open transaction, as its commit will hold them.
+//! It makes the calls of a log of `lst_log` and of a crew.
 #![tactic(auto)]
 
 mod again;

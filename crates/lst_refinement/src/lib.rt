@@ -1,8 +1,4 @@
-//! The machine of one thread as a crew's store tells it: which state of the machine the words, the pins and the merger's stock of frames tell, that
-//! the machine's answers are those of the words, how a call of the crew, or a merge, changes the state, and where a read needs no tail record. Nothing
-//! here runs.
-//!
-//! Begin with `laws.rt`.
+//! The machine of one thread as a crew's store tells it. Nothing here runs.
 #![tactic(auto)]
 
 mod laws;

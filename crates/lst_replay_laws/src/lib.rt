@@ -1,8 +1,4 @@
-//! A list of commits, run again on the machine of one thread: the session of each commit begins, makes its writes and commits them. The crate
-//! has definitions and laws alone, and knows no words of a store.
-//!
-//! `specs/` says which calls are made, which commits the machine then has, and when a commit meets a limit. The laws go one call at a time: so
-//! whoever runs commits again, and knows that its replies are the machine's, knows each reply.
+//! A list of commits, run again on the machine of one thread. Definitions and laws alone, which know no words of a store.
 #![tactic(auto)]
 
 mod laws;

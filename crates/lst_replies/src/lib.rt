@@ -1,6 +1,4 @@
-//! Replies and reports: their texts, and which reports are legal.
-//!
-//! Texts and lists alone. Begin with `specs/Legal` for the nine rules, with `print.rt` and `parse.rt` for the texts.
+//! Replies and reports: their texts, and which reports are legal. Texts and lists alone.
 #![tactic(auto)]
 
 mod answers;

@@ -1,7 +1,4 @@
-//! Reports of runs: how they are written and read, alone or behind the script that they are claimed for, and whether a report is
-//! legal for a script.
-//!
-//! Texts and lists alone. Begin with `claims.rt`.
+//! Reports of runs: written and read, alone or behind the script that they are claimed for. Texts and lists alone.
 #![tactic(auto)]
 
 mod claims;

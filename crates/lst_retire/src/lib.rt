@@ -1,9 +1,4 @@
-//! Pins, and frames that are free to be used again.
-//!
-//! A session that is pinned at an epoch may have frames in hand. A frame that was replaced is retired at an epoch, and it is free once
-//! each session's pin is found empty, or at that epoch or above.
-//!
-//! It stores and loads the pins of sessions, and loads the epoch. Begin with `pins.rt`, then `frees.rt`.
+//! Pins, and frames that are free to be used again. It stores and loads the pins of sessions, and loads the epoch.
 #![tactic(auto)]
 
 mod frees;

@@ -1,10 +1,5 @@
-//! A store's words in one table of atomic words, under a rule that ties them, and what the sessions at each seat know of them, to the
-//! protocol core; and the seats at that table, with a call for each kind of step, the loads, and the status of a version.
-//!
-//! Each step of a running thread is one event on one word. Between any two steps of any threads the words and the views of all
-//! seats show one sound state of the core, and with what a step tells, a session's program argues about its own part.
-//!
-//! All words are touched here, and nowhere else. Begin with `specs/Rule` and `Seats`, then `steps.rt` and `loads.rt`.
+//! A store's words in one table of atomic words, under a rule that ties them, and what the sessions at each seat know of them, to the protocol core.
+//! All words are touched here, and nowhere else.
 #![tactic(auto)]
 
 mod actions;

@@ -1,11 +1,5 @@
-//! Scans: sums, counts and lists over all rows that a session's open transaction sees, record by record; and finds, on the records that a
-//! column's index names.
-//!
-//! A record has at most one key, and a key at most one record. So the rows of a range of records are a part of the table, and the answers over
-//! parts add up to that over the whole.
-//!
-//! It loads what `lst_walk` and `lst_second` do, and whole frames. Begin with `sums.rt`, then `lists.rt` and `finds.rt`;
-//! `lines.rt` has a crew's answers.
+//! Scans: sums, counts, lists and finds over the rows that a session's open transaction sees.
+//! It loads what `lst_walk` and `lst_second` do, and whole frames.
 #![tactic(auto)]
 
 mod finds;

@@ -1,7 +1,4 @@
-//! The seats of a store: the first one, which hosts every session and the merger; one a session, which may each go to a thread of its
-//! own; notes by which they tell each other what they have seen; and one seat again.
-//!
-//! It stores into no word. Begin with `parts.rt`, then `notes.rt` and `gathers.rt`.
+//! The seats of a store: parted, told of one another by notes, and gathered again. It stores into no word.
 #![tactic(auto)]
 
 mod gathers;

@@ -1,7 +1,5 @@
 //! The secondary indexes: which tails hold a number in an indexed column.
-//!
-//! It loads posting words and the words of tail records, and stores postings. Begin with `post_all` in `posting.rt`, then
-//! `candidates` in `listing.rt`.
+//! It loads posting words and the words of tail records, and stores postings.
 #![tactic(auto)]
 
 mod gathering;

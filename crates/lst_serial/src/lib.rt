@@ -1,7 +1,4 @@
 //! Sessions at the serializable level: each transaction that commits answers as if it had run alone at its commit.
-//!
-//! A session keeps which keys its open transaction has read, or that it has read all. A commit is made where no other commit above the begin wrote what was
-//! read, which is found out with the commit word held, and else it is refused as stale.
 #![tactic(auto)]
 
 mod checks;

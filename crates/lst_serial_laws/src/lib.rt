@@ -1,9 +1,5 @@
-//! Serial places: what a report is to tell where each transaction that commits is as if it stood alone at its commit's time, and why it does.
-//!
-//! A transaction reads keys, or all. Where no other commit changed what it read between its begin and its own commit, its answers are those at its
-//! serial place.
-//!
-//! But for the two functions of `reads.rt`, nothing here runs. Begin with `laws.rt`; `Legal` in specs says which reports are legal at the serializable level.
+//! Serial places: what a report tells where each transaction that commits is as if it stood alone at its commit's time.
+//! But for the two functions of `reads.rt`, nothing here runs.
 #![tactic(auto)]
 
 mod laws;

@@ -1,10 +1,5 @@
 //! Sessions, each with its transactions, and the crew that hosts all sessions of a store on one thread.
-//!
-//! What a session is promised holds under every interleaving of other threads' steps; what the crew is promised is that each of its
-//! calls answers as the machine of one thread does.
-//!
-//! It touches words by the calls of the crates below alone. Begin with `Session` in `session.rt` and `Crew` in `crew.rt`;
-//! `specs/Calls` says what each call promises.
+//! It touches words by the calls of the crates below alone.
 #![tactic(auto)]
 
 mod begins;

@@ -1,7 +1,5 @@
-//! Tests of the calls of sessions and crews, scans among them, and of sessions at the serializable level: each call of a script with its reply.
-//!
-//! A script is a constant table: `scripts.rt` has lines and their replies as texts, with the crew that answers them, `steps.rt` the calls of one session with their answers, and
-//! `serials.rt` those of three sessions at the serializable level.
+//! Tests of the calls of sessions and crews, scans among them, and of sessions at the serializable level. A script is a constant table: `scripts.rt` has lines and
+//! replies as texts, with the crew that answers them, `steps.rt` one session's calls with their answers, `serials.rt` those of three serializable sessions.
 #![tactic(auto)]
 
 #[cfg(test)]

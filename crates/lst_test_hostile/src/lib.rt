@@ -1,7 +1,5 @@
-//! Tests of the program, over `lstore` itself: the examples and other worked inputs with what each command makes of them, faulty inputs, and ends that fail.
-//!
-//! And of hostile use: inputs cut off at each byte and changed at each byte, ends that fail at each of their calls, merges in each gap of a script, limits that
-//! are met, drawn scripts beside the engines of one thread, and schedules under which one session's line waits for another's.
+//! Tests of the program, over `lstore` itself: the examples and other worked inputs, faulty inputs, and ends that fail; and hostile use of it: inputs cut off and
+//! changed at each byte, merges in each gap of a script, limits that are met, drawn scripts beside the engines of one thread, and sessions that wait for another's line.
 #![tactic(auto)]
 
 #[cfg(test)]

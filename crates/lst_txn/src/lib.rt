@@ -1,7 +1,4 @@
-//! A session's transactions.
-//!
-//! It takes the steps of begins and ends: the numbers of transactions, the clock, the log, state words and the commit word.
-//! Begin with `begins.rt`, then `take_turn` in `ends.rt`.
+//! A session's transactions: the steps of begins and ends.
 #![tactic(auto)]
 
 mod begins;

@@ -1,11 +1,5 @@
 //! The version walk: what a session's open transaction sees of a record, read off the record's chain of tail records, and off base pages.
-//!
-//! A session with a pin takes the page of the column, or the pages of all columns, in hand. The walk goes down the chain from its newest version, and
-//! once it is at a tail record that a page has, by number, the page's entry tells of its column, if its time is at most the begin. A session without
-//! a pin goes along the chain alone.
-//!
-//! It loads indirection words, the words of tail records and of pages that are taken in hand, and stores stamps alone. Begin
-//! with `row` in `rows.rt`, then `column` in `columns.rt`.
+//! It loads indirection words, the words of tail records and of pages that are taken in hand, and stores stamps alone.
 #![tactic(auto)]
 
 mod columns;

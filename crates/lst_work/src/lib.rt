@@ -1,8 +1,5 @@
-//! Sessions at work, each in a thread of its own where one can be started: a worker runs the lines of its session beside the others, a merge worker the merges, phase
-//! after phase. What the replies tell, and what the lines leave of what each session and the merger know, is told by `work_on`, and at the serializable level by `work_serial`.
-//!
-//! It touches words by the calls of sessions alone. Begin with `work` in `reporting.rt`, then `working.rt`, `phases.rt` and
-//! `workers.rt`.
+//! Sessions at work, each in a thread of its own where one can be started: a worker runs the lines of its session, a merge worker the merges, phase after phase.
+//! It touches words by the calls of sessions alone.
 #![tactic(auto)]
 
 mod blocks;

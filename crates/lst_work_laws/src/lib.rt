@@ -1,10 +1,4 @@
-//! What the replies to the lines of sessions at work tell, and why a report of them is legal.
-//!
-//! A line of a session is told by what the session knows before it and after it. From that it follows what the lines of a whole script tell and
-//! leave, phase after phase, whatever the sessions' steps between each other; and, once all sessions are gathered, that the rules of a legal
-//! report hold.
-//!
-//! Nothing here runs. Begin with `laws.rt`, then `specs/Lines`.
+//! What the replies to the lines of sessions at work tell, and why a report of them is legal. Nothing here runs.
 #![tactic(auto)]
 
 mod laws;

@@ -1,7 +1,5 @@
 //! Versions: what a session writes on a record's chain.
-//!
-//! It takes the steps of a write: the latch of an indirection word, the draw of a tail record and its cells, the indirection
-//! word again. Begin with `latches.rt`, then `judgement.rt`, `tails.rt`.
+//! It takes the steps of a write: the latch of an indirection word, the draw of a tail record and its cells, the indirection word again.
 #![tactic(auto)]
 
 mod cells;
