@@ -1,5 +1,4 @@
-//! The program `lstore`: it runs a script on the store, line by line or by all sessions side by side, and writes what is answered;
-//! it judges a report; it tells a past table; it crashes a script's journal, and tells what is recovered; it writes a script for a table, and a table for a script; or it generates a script for its sessions.
+//! The program `lstore`: `main` hands the standard streams to `program` of `lst_command`, and ends with the number of its status.
 #![tactic(auto)]
 
 use lst_command::program;
