@@ -19,15 +19,20 @@ use std::alloc::{AllocError, Global};
 /// Why a commit was not appended.
 #[derive(Clone, Copy, Debug, PartialEq, Eq)]
 pub enum AppendFault {
+    /// A record, or the byte behind the last one, passes the disk's end. The log is as it was, its disk too.
     JournalFull,
+    /// A call of the disk failed, and its count of faults rose. The disk has the commits or hasn't: open it again.
     Disk,
+    /// Want of memory, before anything was written. The log stands for the commits that it stood for.
     OutOfMemory,
 }
 
 /// Why a commit was not added to a batch.
 #[derive(Clone, Copy, Debug, PartialEq, Eq)]
 pub enum StageFault {
+    /// A record of the batch, the commit's, or the byte behind it passes the disk's end. The log is as it was, and the batch has the commits that it had.
     JournalFull,
+    /// Want of memory, in the disk's own record or for the batch, which has the commits that it had.
     OutOfMemory,
 }
 
