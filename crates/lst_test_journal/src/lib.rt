@@ -1,5 +1,5 @@
 //! Tests of a journal: how a disk is opened, what lines through it are answered and leave on the disk, and scripts that are crashed. Lines stand as texts beside
-//! what they are answered; `driving.rt` has the open journal that they go through, `disks.rt` disks of all kinds, and a module the writes kept for each session.
+//! what they are answered: `driving.rt` has the open journal that they go through, `disks.rt` disks of all kinds, `own_tests.rt` the writes kept for each session.
 #![tactic(auto)]
 
 #[cfg(test)]
