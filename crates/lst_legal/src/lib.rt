@@ -1,4 +1,4 @@
-//! The exact checker of reports, at both levels: `legal` answers true exactly where a report is legal for a script, `legal_serial` where it is a serializable one.
+//! The exact checker of reports: `legal` answers true exactly where a report is legal for a script, `legal_serial` where it is legal at the serializable level.
 #![tactic(auto)]
 
 mod judging;
