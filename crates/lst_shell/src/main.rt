@@ -1,4 +1,4 @@
-//! The program `lstore`: `main` hands the standard streams to `program` of `lst_command`, and ends with the number of its status.
+//! The program `lstore`: `main` hands the standard streams to `lst_command`, and ends with the number of its status.
 #![tactic(auto)]
 
 use lst_command::program;
